@@ -1,0 +1,9 @@
+//! The rehearsal program, on standard input.
+
+use std::io::{Read, Write};
+
+fn main() -> std::io::Result<()> {
+    let mut input = Vec::new();
+    std::io::stdin().read_to_end(&mut input)?;
+    std::io::stdout().write_all(reference::rehearsal::rehearse(&input).as_bytes())
+}
