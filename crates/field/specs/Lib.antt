@@ -1,0 +1,1 @@
+-- field cites algebra's and protocol's definitions.
