@@ -1,0 +1,73 @@
+-- Drawing in several goes: a residues, and then b more from the words that are left.
+-- residues-after  what the words left give
+-- drawn-after     the next b residues
+-- read-then       the words read add up
+-- drawn-count     as many residues are drawn as are asked for
+-- Assumes nothing.
+use mathlib.Core.Path.{_≡_, refl, sym, ap, _∙_}
+use mathlib.Core.Bool.{Bool, true, false, cond}
+use mathlib.Core.List.{List, [], _∷_}
+use Prim.Native.Nat.{ℕ, zero, suc, _+_, _-_, _≤_}
+use native.Mathlib.Nat.{le-of-suc-le-suc, zero-add}
+use native.Mathlib.Omega.{arith}
+use lib.Dec.{eqb, eqb·suc-zero}
+use lib.ListN.{length, take, drop, length-drop}
+use lib.Seq.{length-take-le}
+use Rattle.protocol.specs.Drawing.{isKept, residueOf, residuesOf, drawn, wordsRead}
+
+pub residues-after : (q a : ℕ) (ws : List ℕ) → a ≤ length (residuesOf q ws) → residuesOf q (drop (wordsRead q a ws) ws) ≡ drop a (residuesOf q ws)
+unfolding residuesOf wordsRead
+residues-after q zero [] h = refl
+residues-after q zero (w ∷ ws) h = refl
+residues-after q (suc a) [] h = refl
+residues-after q (suc a) (w ∷ ws) h = rw (eqb·suc-zero a) (go (isKept q w) h (λ k l. residues-after q k ws l))
+  where
+    less : suc a - 1 ≡ a
+    less = omega arith
+
+    go : (b : Bool) → suc a ≤ length (cond b (residueOf q w ∷ residuesOf q ws) (residuesOf q ws))
+        → ((k : ℕ) → k ≤ length (residuesOf q ws) → residuesOf q (drop (wordsRead q k ws) ws) ≡ drop k (residuesOf q ws))
+        → residuesOf q (drop (wordsRead q (cond b (suc a - 1) (suc a)) ws) ws) ≡ drop (suc a) (cond b (residueOf q w ∷ residuesOf q ws) (residuesOf q ws))
+    go true l again = rw less (again a (le-of-suc-le-suc l))
+    go false l again = again (suc a) l
+
+one-more : (x y z : ℕ) → x ≡ y + z → suc x ≡ suc y + z
+one-more x y z e = omega arith
+
+pub read-then : (q a b : ℕ) (ws : List ℕ) → a ≤ length (residuesOf q ws)
+    → wordsRead q (a + b) ws ≡ wordsRead q a ws + wordsRead q b (drop (wordsRead q a ws) ws)
+unfolding residuesOf wordsRead
+read-then q zero b [] h = refl
+read-then q zero b (w ∷ ws) h = ap (λ (n : ℕ). wordsRead q n (w ∷ ws)) (zero-add b) ∙ sym (zero-add (wordsRead q b (w ∷ ws)))
+read-then q (suc a) b [] h = absurd (omega arith)
+read-then q (suc a) b (w ∷ ws) h = rw (same, eqb·suc-zero a, eqb·suc-zero (a + b)) (go (isKept q w) h (λ k l. read-then q k b ws l))
+  where
+    less : suc a - 1 ≡ a
+    less = omega arith
+
+    same : suc a + b ≡ suc (a + b)
+    same = omega arith
+
+    less-too : suc (a + b) - 1 ≡ a + b
+    less-too = omega arith
+
+    go : (c : Bool) → suc a ≤ length (cond c (residueOf q w ∷ residuesOf q ws) (residuesOf q ws))
+        → ((k : ℕ) → k ≤ length (residuesOf q ws) → wordsRead q (k + b) ws ≡ wordsRead q k ws + wordsRead q b (drop (wordsRead q k ws) ws))
+        → suc (wordsRead q (cond c (suc (a + b) - 1) (suc (a + b))) ws)
+        ≡ suc (wordsRead q (cond c (suc a - 1) (suc a)) ws) + wordsRead q b (drop (wordsRead q (cond c (suc a - 1) (suc a)) ws) ws)
+    go true l again = rw (less, less-too) (omega (arith, again a (le-of-suc-le-suc l)))
+    go false l again = one-more _ _ _ (rw same at (again (suc a) l))
+
+pub drawn-after : (q a b : ℕ) (ws : List ℕ) → a ≤ length (residuesOf q ws) → drawn q b (drop (wordsRead q a ws) ws) ≡ take b (drop a (residuesOf q ws))
+unfolding drawn
+drawn-after q a b ws h = ap (take b) (residues-after q a ws h)
+
+pub drawn-count : (q n : ℕ) (ws : List ℕ) → n ≤ length (residuesOf q ws) → length (drawn q n ws) ≡ n
+unfolding drawn
+drawn-count q n ws h = length-take-le n (residuesOf q ws) h
+
+-- words are left for b more
+pub left-after : (q a b : ℕ) (ws : List ℕ) → a + b ≤ length (residuesOf q ws) → b ≤ length (residuesOf q (drop (wordsRead q a ws) ws))
+left-after q a b ws h =
+    let few : a ≤ length (residuesOf q ws) = omega arith in
+    rw (residues-after q a ws few) (omega (arith, length-drop a (residuesOf q ws)))

@@ -1,0 +1,2 @@
+-- What the drawing functions answer, by protocol's definitions of drawing.
+pub mod Extent

@@ -1,0 +1,65 @@
+// Residues drawn from raw words. No other crate knows how a word becomes a residue.
+//   read  how many words are read for n residues, or that they are too few
+//   draw  the residues, over the start of a lent slice
+ghost use mathlib.Core.Path.{_≡_};
+ghost use Prim.Native.Nat.{_*_, _/_, _<_, _≤_};
+ghost use lib.ListN.{length};
+ghost use Rattle.protocol.specs.Drawing.{residuesOf, drawn, wordsRead};
+ghost use Rattle.algebra.specs.Words.{over};
+ghost use Rattle.drawing.specs.Extent.{readFor};
+
+// Words below c are kept. It is 2^32 where q divides that.
+fn limit(q: u32) -> u64
+    requires { ⌜ 0 < q ⌝ }
+    ensures { λ r. ⌜ r ≡ q * (4294967296 / q) ⌝ }
+{
+    let times = 4294967296 / q as u64;
+    q as u64 * times
+}
+
+// How many words are read up to and with the last one kept, or too few are kept.
+pub enum Reading {
+    Enough(usize),
+    Dry,
+}
+
+// No word past the last one needed is looked at.
+pub fn read(q: u32, n: usize, words: &[u32]) -> Reading
+    requires { ⌜ 0 < q ⌝ }
+    ensures { λ r. ⌜ r ≡ readFor q n (now (words .entry)) ⌝ }
+{
+    let below = limit(q);
+    let mut due = n;
+    let mut i = 0;
+    while 0 < due {
+        if i == words.len() {
+            return Reading::Dry;
+        }
+        let word = words[i];
+        if (word as u64) < below {
+            due -= 1;
+        }
+        i += 1;
+    }
+    Reading::Enough(i)
+}
+
+// The first n residues over the first words of `out`; the answer is how many words were read.
+pub fn draw(q: u32, n: usize, words: &[u32], out: &mut [u32]) -> usize
+    requires { ⌜ (0 < q) × (n ≤ length (residuesOf q (now words))) × (n ≤ length (now out)) ⌝ }
+    ensures { λ r. ⌜ r ≡ wordsRead q n (now (words .entry)) ⌝ }
+    ensures { λ _. ⌜ now (out .exit) ≡ over (drawn q n (now (words .entry))) (now (out .entry)) ⌝ }
+{
+    let below = limit(q);
+    let mut i = 0;
+    let mut j = 0;
+    while j < n {
+        let w = words[i];
+        if (w as u64) < below {
+            out[j] = w % q;
+            j += 1;
+        }
+        i += 1;
+    }
+    i
+}
