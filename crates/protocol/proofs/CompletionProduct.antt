@@ -1,0 +1,188 @@
+-- The completions of the two views of a product: each end's steps, on whatever accepted message, send what algebra's formulas say, and so a finished view
+-- has exactly one completion for each input of the other end. Assumes nothing.
+-- right-sends, left-sends   what the ends' steps send
+-- left-one                  left's view: exactly one completion for each input of right
+-- right-one                 right's view after message 2: exactly one for each input of left
+-- right-open                right's view before it: as many for any two inputs
+use mathlib.Core.Path.{_≡_, refl, _∙_}
+use mathlib.Core.List.{List, [], _∷_, append-nil}
+use Prim.Native.Nat.{ℕ, _*_, _≤_, _<_}
+use native.Mathlib.Nat.{le-refl}
+use native.Mathlib.Omega.{arith}
+use borrow.Author.Tests.{leb-true}
+use Rattle.algebra.specs.Matrix.{Residues}
+use Rattle.algebra.specs.Count.{both, eqList, parts, part, join}
+use Rattle.algebra.specs.Product.{dealB, sendY, sendX, sendR, givesRight, givesLeft, rightFillings, leftFillings}
+use Rattle.algebra.proofs.Count.{and-left, and-right, and-both, eqList-of}
+use Rattle.algebra.proofs.Lists.{add-residues, sub-residues}
+use Rattle.algebra.proofs.Parts.{Fits, none, _then_}
+use Rattle.algebra.proofs.Product.{left-secrecy, right-secrecy}
+use Rattle.algebra.proofs.Singular.{same-test}
+use Rattle.protocol.specs.declared.Terms.{Terms}
+use Rattle.protocol.specs.Judge.{done}
+use Rattle.protocol.specs.Drawing.{wordsFor}
+use Rattle.protocol.specs.Bounds.{Sort, product, within, shapeTests, termsTests}
+use Rattle.protocol.specs.Tape.{Slot, left, right, READY, layout}
+use Rattle.protocol.specs.Deal.{dealtB}
+use Rattle.protocol.specs.Message.{messageOf, kindSort, messageLayout, messageSize}
+use Rattle.protocol.specs.Product.{rightFirstEffect, rightFirstTests, rightFirst, leftEffect, leftTests, leftStep}
+use Rattle.protocol.specs.Completion.{hearing, rightMessages, leftMessages, eqLists, dealtTogether, isCompletion, completions, Taken, takenTests}
+use Rattle.protocol.proofs.Judge.{Pass, _also_, accepts, passed}
+use Rattle.protocol.proofs.Halves.{Holding, holding-matrices, holding-first}
+use Rattle.protocol.proofs.Messages.{message-parts, message-pass, due-pass}
+use Rattle.protocol.proofs.ProductRight.{room-pass}
+use Rattle.protocol.proofs.CompletionLaws.{same-count, dealt-alone, drawn-own, drawn-enough, message-fits, incoming-is, first-test, both-true, then-accepted, said-message, viewOf}
+
+-- ---- the terms
+
+module _ (sort : Sort) (t : Terms) (terms : Pass (termsTests sort t)) where
+  pub modulus-above : 1 < t .q
+  unfolding termsTests shapeTests within
+  modulus-above = leb-true _ _ (and-left _ _ (terms .all .1 .0))
+
+  pub modulus-below : t .q ≤ 2147483647
+  unfolding termsTests shapeTests within
+  modulus-below = leb-true _ _ (and-right _ _ (terms .all .1 .0))
+
+first-of : {q n : ℕ} {ns : List ℕ} {ls : List (List ℕ)} → Fits q (n ∷ ns) ls → Residues q n (part 0 ls)
+first-of (r then f) = r
+
+second-of : {q a n : ℕ} {ns : List ℕ} {ls : List (List ℕ)} → Fits q (a ∷ n ∷ ns) ls → Residues q n (part 1 ls)
+second-of (r then r′ then f) = r′
+
+-- ---- what the ends send
+
+module _ (t : Terms) (terms : Pass (termsTests product t)) where
+  h0 : 0 < t .q
+  h0 = omega (arith, modulus-above product t terms)
+
+  module _ (y0 b0 : List ℕ) (s : Slot) (h : Holding right READY t (y0 ∷ b0 ∷ []) s) (input got : List (List ℕ)) (taken : Taken right t input) where
+    right-accepts : rightFirst t s (part 0 input) (messageSize 1 t) ≡ done (rightFirstEffect t s (part 0 input))
+    unfolding rightFirst rightFirstTests
+    right-accepts = accepts _ _
+        ((holding-first right t _ s h terms also record { all = passed (takenTests right t input) taken .0 } also room-pass _ _ (le-refl _)) .all)
+
+    right-sent : rightFirstEffect t s (part 0 input) .sent ≡ messageOf 1 t (sendY (t .q) (t .m) (t .k) (t .p) (part 0 input) y0 ∷ [])
+    unfolding rightFirstEffect
+    right-sent = rw (holding-matrices right READY t _ s h)
+
+    pub right-sends : rightMessages t s input got ≡ join (sendY (t .q) (t .m) (t .k) (t .p) (part 0 input) y0 ∷ []) ∷ []
+    unfolding rightMessages
+    right-sends = then-accepted s _ _ _ right-accepts ∙ rw (right-sent, said-message) refl
+
+  module _ (x0 a0 : List ℕ) (s : Slot) (h : Holding left READY t (x0 ∷ a0 ∷ []) s) (input : List (List ℕ)) (taken : Taken left t input)
+      (u a : List ℕ) (ru : Residues (t .q) (t .m * t .p) u) (ra : Residues (t .q) (messageSize 1 t) a) where
+    y1 : List (List ℕ)
+    y1 = parts (messageLayout 1 (t .m) (t .k) (t .p)) a
+
+    left-accepts : leftStep t s (part 0 input) (wordsFor (t .q) u) (messageOf 1 t y1) (messageSize 2 t) (t .m * t .p)
+        ≡ done (leftEffect t s (part 0 input) (wordsFor (t .q) u) (messageOf 1 t y1))
+    unfolding leftStep leftTests y1
+    left-accepts = accepts _ _
+        ((message-pass 1 t y1 (message-fits 1 t a ra) (unfold within both in refl) (unfold kindSort in terms)
+        also holding-first left t _ s h terms
+        also due-pass 1 t y1
+        also record { all = passed (takenTests left t input) taken .0 }
+        also room-pass _ _ (le-refl _)
+        also room-pass _ _ (le-refl _)
+        also record { all = drawn-enough (modulus-below product t terms) ru })
+        .all)
+
+    left-sent : leftEffect t s (part 0 input) (wordsFor (t .q) u) (messageOf 1 t y1) .sent
+        ≡ messageOf 2 t (sendX (t .q) (t .m) (t .k) (t .p) (part 0 input) x0 ∷ sendR (t .q) (t .m) (t .k) (t .p) (part 0 input) (part 0 y1) u a0 ∷ [])
+    unfolding leftEffect y1
+    left-sent = rw (holding-matrices left READY t _ s h, message-parts 1 t y1 (message-fits 1 t a ra), drawn-own (modulus-below product t terms) ru)
+
+    pub left-sends : (got : List (List ℕ)) → leftMessages t s input (a ∷ got) (wordsFor (t .q) (join (u ∷ [])))
+        ≡ join (sendX (t .q) (t .m) (t .k) (t .p) (part 0 input) x0 ∷ sendR (t .q) (t .m) (t .k) (t .p) (part 0 input) (part 0 (parts (messageLayout 1 (t .m) (t .k) (t .p)) a)) u a0 ∷ []) ∷ []
+    unfolding leftMessages hearing y1
+    left-sends got = rw (let z : join (u ∷ []) ≡ u = unfold join in append-nil u in z, incoming-is 1 t a ra)
+        (then-accepted s _ _ _ left-accepts ∙ rw (left-sent, said-message) refl)
+
+-- ---- the dealer's rules
+
+-- X0, A0, Y0 and B0 are dealt together exactly where B0 = X0 × Y0 − A0
+dealt-product : (t : Terms) (x0 a0 y0 b0 : List ℕ) → dealtTogether product t (x0 ∷ a0 ∷ []) (y0 ∷ b0 ∷ []) ≡ eqList b0 (dealB (t .q) (t .m) (t .k) (t .p) x0 y0 a0)
+unfolding dealtTogether dealtB eqLists
+dealt-product t x0 a0 y0 b0 = same-test _ _
+    (λ e. and-left _ _ (and-right _ _ (and-left _ _ (and-right _ _ e))))
+    (λ e. and-both (and-both (eqList-of refl) (and-both (eqList-of refl) refl)) (and-both (and-both (eqList-of refl) (and-both e refl)) refl))
+
+-- ---- left's view
+
+module _ (t : Terms) (terms : Pass (termsTests product t)) (input : List (List ℕ)) (coins : List ℕ) (sent : List (List ℕ)) (a : List ℕ)
+    (ra : Residues (t .q) (messageSize 1 t) a) (i : List (List ℕ)) (taken : Taken right t i) where
+  y1-received : List ℕ
+  y1-received = part 0 (parts (messageLayout 1 (t .m) (t .k) (t .p)) a)
+
+  y1-residues : Residues (t .q) (t .k * t .p) y1-received
+  unfolding messageLayout y1-received
+  y1-residues = first-of (message-fits 1 t a ra)
+
+  left-same : (x0 a0 : List ℕ) (ls : List (List ℕ)) → Fits (t .q) (t .k * t .p ∷ t .m * t .p ∷ []) ls
+      → isCompletion (viewOf left t input (x0 ∷ a0 ∷ []) coins sent (a ∷ [])) i ls ≡ givesLeft (t .q) (t .m) (t .k) (t .p) x0 a0 y1-received (part 0 i) (part 0 ls) (part 1 ls)
+  unfolding isCompletion givesLeft y1-received both eqLists messageLayout parts sendY
+  left-same x0 a0 ls (_then_ {l = y0} ry (_then_ {l = b0} rb none)) =
+      rw (
+        dealt-product t x0 a0 y0 b0,
+        right-sends t terms y0 b0 _ (dealt-alone right t (y0 ∷ b0 ∷ []) (ry then rb then none)) i sent taken,
+        first-test 1 t a ra (sub-residues (h0 t terms) (t .k * t .p) (part 0 i) y0 then none) [] [],
+      )
+      (simp both-true)
+
+  pub left-one : (half : List (List ℕ)) → Fits (t .q) (layout left (t .m) (t .k) (t .p)) half → completions (viewOf left t input half coins sent (a ∷ [])) i ≡ 1
+  unfolding completions y1-received leftFillings
+  left-one half (_then_ {l = x0} rx (_then_ {l = a0} r none)) =
+      same-count (t .q) (layout right (t .m) (t .k) (t .p)) _ _ (left-same x0 a0)
+      ∙ left-secrecy (t .q) (t .m) (t .k) (t .p) (h0 t terms) x0 a0 y1-received (part 0 i) y1-residues
+
+-- ---- right's view
+
+module _ (t : Terms) (terms : Pass (termsTests product t)) (input : List (List ℕ)) (coins : List ℕ) (b a : List ℕ) (sent : List (List ℕ))
+    (rb : Residues (t .q) (messageSize 1 t) b) (ra : Residues (t .q) (messageSize 2 t) a) (i : List (List ℕ)) (taken : Taken left t i) where
+  y1-sent : List ℕ
+  y1-sent = part 0 (parts (messageLayout 1 (t .m) (t .k) (t .p)) b)
+
+  x1-received : List ℕ
+  x1-received = part 0 (parts (messageLayout 2 (t .m) (t .k) (t .p)) a)
+
+  r1-received : List ℕ
+  r1-received = part 1 (parts (messageLayout 2 (t .m) (t .k) (t .p)) a)
+
+  x1-residues : Residues (t .q) (t .m * t .k) x1-received
+  unfolding messageLayout x1-received
+  x1-residues = first-of (message-fits 2 t a ra)
+
+  r1-residues : Residues (t .q) (t .m * t .p) r1-received
+  unfolding messageLayout r1-received
+  r1-residues = second-of (message-fits 2 t a ra)
+
+  sent-fits : (x0 a0 u : List ℕ) → Fits (t .q) (messageLayout 2 (t .m) (t .k) (t .p))
+      (sendX (t .q) (t .m) (t .k) (t .p) (part 0 i) x0 ∷ sendR (t .q) (t .m) (t .k) (t .p) (part 0 i) (part 0 (parts (messageLayout 1 (t .m) (t .k) (t .p)) b)) u a0 ∷ [])
+  unfolding messageLayout sendX sendR
+  sent-fits x0 a0 u = add-residues (h0 t terms) _ _ _ then sub-residues (h0 t terms) _ _ _ then none
+
+  right-same : (y0 b0 : List ℕ) (ls : List (List ℕ)) → Fits (t .q) (t .m * t .k ∷ t .m * t .p ∷ t .m * t .p ∷ []) ls
+      → isCompletion (viewOf right t input (y0 ∷ b0 ∷ []) coins (b ∷ sent) (a ∷ [])) i ls
+      ≡ givesRight (t .q) (t .m) (t .k) (t .p) y0 b0 y1-sent x1-received r1-received (part 0 i) (part 0 ls) (part 1 ls) (part 2 ls)
+  unfolding isCompletion givesRight y1-sent x1-received r1-received both eqLists messageLayout parts
+  right-same y0 b0 ls (_then_ {l = x0} rx (_then_ {l = a0} r (_then_ {l = u} ru none))) =
+      rw (
+        dealt-product t x0 a0 y0 b0,
+        left-sends t terms x0 a0 _ (dealt-alone left t (x0 ∷ a0 ∷ []) (rx then r then none)) i taken u b ru rb sent,
+        first-test 2 t a ra (sent-fits x0 a0 u) [] [],
+      )
+      (simp both-true)
+
+  pub right-one : (half : List (List ℕ)) → Fits (t .q) (layout right (t .m) (t .k) (t .p)) half → completions (viewOf right t input half coins (b ∷ sent) (a ∷ [])) i ≡ 1
+  unfolding completions rightFillings y1-sent x1-received r1-received
+  right-one half (_then_ {l = y0} ry (_then_ {l = b0} r none)) =
+      same-count (t .q) (t .m * t .k ∷ t .m * t .p ∷ t .m * t .p ∷ []) _ _ (right-same y0 b0)
+      ∙ right-secrecy (t .q) (t .m) (t .k) (t .p) (h0 t terms) y0 b0 y1-sent x1-received r1-received (part 0 i) r
+      x1-residues r1-residues
+
+-- before message 2 left's input is in nothing that right has seen
+pub right-open : (t : Terms) (input half : List (List ℕ)) (coins : List ℕ) (sent i j : List (List ℕ))
+    → completions (viewOf right t input half coins sent []) i ≡ completions (viewOf right t input half coins sent []) j
+unfolding completions isCompletion
+right-open t input half coins sent i j = refl

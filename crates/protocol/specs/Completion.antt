@@ -1,0 +1,214 @@
+-- How many tapes and coins of the other end stand behind a view, and the promise on these numbers. Assumes nothing.
+-- messagesOf            what an end sends, by its own steps, one after the other
+-- dealtTogether         the dealer's rules for two halves
+-- isCompletion          a tape and coins of the other end that give a view (01: a filling)
+-- completions           how many there are
+-- Counted               the inputs that are counted over
+-- solutionFor           the solution for the viewer's input and another one of the other end
+-- Secret                demand 3's counts for one view
+use mathlib.Core.Path.{_≡_}
+use mathlib.Core.Logic.{_≢_, _↔_}
+use mathlib.Core.Bool.{Bool, true, false, cond}
+use mathlib.Core.List.{List, [], _∷_, _++_}
+use Prim.Native.Nat.{ℕ, _*_}
+use lib.Dec.{eqb}
+use lib.ListN.{length, take, drop}
+use Rattle.algebra.specs.Matrix.{zeros, matAdd, matMul}
+use Rattle.algebra.specs.Count.{both, eqList, part, join, countParts}
+use Rattle.algebra.specs.Inverse.{hasInverse}
+use Rattle.algebra.specs.Elimination.{regular, solution}
+use Rattle.algebra.specs.Words.{over}
+use Rattle.protocol.specs.declared.Terms.{Terms}
+use Rattle.protocol.specs.Judge.{Test, Judged, refused, done, judge}
+use Rattle.protocol.specs.Drawing.{wordsFor}
+use Rattle.protocol.specs.Bounds.{Sort, product, system, inputTests}
+use Rattle.protocol.specs.Tape.{Slot, slotAt, poolWith, headerWords, READY, Role, left, right, blinder, solver, sortOf, layout, tapeSize}
+use Rattle.protocol.specs.Deal.{Request, firstHalf, secondHalf, dealtB, dealtV, maskFits}
+use Rattle.protocol.specs.Message.{Message, messageSize}
+use Rattle.protocol.specs.Step.{Outcome, scratchAfter}
+use Rattle.protocol.specs.Product.{rightFirst, leftStep}
+use Rattle.protocol.specs.System.{scratchSize, regularTests, solverFirst, blinderFirst, solverSecond, blinderSecond, solverLast}
+use Rattle.protocol.specs.View.{View, facing, coinLayout, Finished, Unfinished}
+
+-- ---- the messages that an end sends
+
+-- a half as dealt, alone in a pool
+unfoldable pub dealtSlot : Role → Terms → (half : List (List ℕ)) → Slot
+dealtSlot role t ls =
+    slotAt (headerWords READY (t .tape .0) (sortOf role) (t .q) (t .m) (t .k) (t .p) ++ join ls) (tapeSize role (t .m) (t .k) (t .p)) 0
+
+-- the session's message of a kind with these residues
+abbrev pub incoming : ℕ → Terms → (residues : List ℕ) → Message
+incoming kind t a = record { head = record { kind = kind; terms = t }; residues = a }
+
+-- a message's residues, if it is one
+unfoldable pub said : Message → List (List ℕ)
+said a = cond (eqb (a .head .kind) 0) [] (a .residues ∷ [])
+
+-- what a step on a slot sends, and then what is sent from there on; a refused step ends it
+unfoldable pub andThen : {S : Type 0} → Slot → Outcome S → (S → Slot → List (List ℕ)) → List (List ℕ)
+andThen s (refused r) next = []
+andThen s (done e) next = said (e .sent) ++ next (e .session) (slotAt (poolWith s (e .slot)) (s .size) (s .index))
+
+-- the next message that the end gets, and those after it; where there is none, the end waits
+unfoldable pub hearing : (got : List (List ℕ)) → (List ℕ → List (List ℕ) → List (List ℕ)) → List (List ℕ)
+hearing [] next = []
+hearing (a ∷ got) next = next a got
+
+-- each end's steps on its slot, with its input and the messages that it gets; what is written has just the room it needs. The last steps of right and
+-- blinder send nothing, and are left out
+module _ (t : Terms) (s : Slot) (input got : List (List ℕ)) where
+  unfoldable pub rightMessages : List (List ℕ)
+  rightMessages = andThen s (rightFirst t s (part 0 input) (messageSize 1 t)) (λ x s. [])
+
+  unfoldable pub leftMessages : (words : List ℕ) → List (List ℕ)
+  leftMessages words =
+      hearing got (λ a got.
+      andThen s (leftStep t s (part 0 input) words (incoming 1 t a) (messageSize 2 t) (t .m * t .p)) (λ x s. []))
+
+  unfoldable pub solverMessages : List (List ℕ)
+  solverMessages =
+      andThen s (solverFirst t s (part 0 input) (part 1 input) (messageSize 1 t)) (λ x s. hearing got (λ a got.
+      andThen s (solverSecond x s (incoming 2 t a) (messageSize 3 t)) (λ x s. hearing got (λ a got.
+      andThen s (solverLast x s (incoming 4 t a) (messageSize 5 t)) (λ x s. [])))))
+
+  unfoldable pub blinderMessages : (words : List ℕ) → List (List ℕ)
+  blinderMessages words =
+      hearing got (λ a got.
+      let lent = zeros (scratchSize (t .m)) in
+      let first = blinderFirst t s (length lent) (part 0 input) (part 1 input) words (incoming 1 t a) (messageSize 2 t) in
+      andThen s first (λ x s. hearing got (λ a got.
+      andThen s (blinderSecond x s (over (scratchAfter first) lent) (incoming 3 t a) (messageSize 4 t)) (λ x s. []))))
+
+-- what an end sends that holds this half as dealt, draws these coins, has this input and gets these messages
+abbrev pub messagesOf : Role → Terms → (half : List (List ℕ)) (coins : List ℕ) (input got : List (List ℕ)) → List (List ℕ)
+messagesOf left t half coins input got = leftMessages t (dealtSlot left t half) input got (wordsFor (t .q) coins)
+messagesOf right t half coins input got = rightMessages t (dealtSlot right t half) input got
+messagesOf blinder t half coins input got = blinderMessages t (dealtSlot blinder t half) input got (wordsFor (t .q) coins)
+messagesOf solver t half coins input got = solverMessages t (dealtSlot solver t half) input got
+
+-- ---- the dealer's rules
+
+-- whether two lists of lists are the same
+unfoldable pub eqLists : List (List ℕ) → List (List ℕ) → Bool
+eqLists [] [] = true
+eqLists [] (r ∷ rs) = false
+eqLists (l ∷ ls) [] = false
+eqLists (l ∷ ls) (r ∷ rs) = both (eqList l r) (eqLists ls rs)
+
+-- what is drawn in a dealing, as it stands in its two halves
+abbrev pub drawnIn : Sort → (first second : List (List ℕ)) → List (List ℕ)
+drawnIn product a b = part 0 a ∷ part 0 b ∷ part 1 a ∷ []
+drawnIn system a b = part 0 a ∷ part 0 b ∷ part 1 a ∷ part 2 a ∷ part 2 b ∷ part 3 a ∷ []
+
+abbrev pub tapeRequest : Sort → Terms → Request
+tapeRequest sort t = record { sort = sort; tape = t .tape; q = t .q; m = t .m; k = t .k; p = t .p; words = [] }
+
+-- the dealer makes these two halves of what is drawn, and takes it: Q has an inverse
+unfoldable pub dealtTogether : Sort → Terms → (first second : List (List ℕ)) → Bool
+dealtTogether sort t a b =
+    let d = drawnIn sort a b in
+    both (eqLists a (firstHalf sort d))
+    (both (eqLists b (secondHalf sort d (dealtB (tapeRequest sort t) d) (dealtV (tapeRequest sort t) d))) (maskFits sort (t .q) (t .m) d))
+
+-- the same of an end's own half and the other's
+abbrev pub dealtWith : Role → Terms → (own other : List (List ℕ)) → Bool
+dealtWith left t own other = dealtTogether product t own other
+dealtWith right t own other = dealtTogether product t other own
+dealtWith blinder t own other = dealtTogether system t own other
+dealtWith solver t own other = dealtTogether system t other own
+
+-- P has an inverse
+abbrev pub coinsFit : Role → Terms → (coins : List (List ℕ)) → Bool
+coinsFit left t c = true
+coinsFit right t c = true
+coinsFit blinder t c = regular (t .q) (t .m) (part 0 c)
+coinsFit solver t c = true
+
+-- ---- completions
+
+-- 01: "A filling is the other end's tape, coins and P, counted in residues, with which the dealer's rules and the other end's steps give that view; P and Q
+-- in it have an inverse". f: the matrices of the other end's half, then its coins and P; with them and with the input i its steps, on the messages that
+-- the viewer sent, send those received so far
+unfoldable pub isCompletion : View → (i f : List (List ℕ)) → Bool
+isCompletion v i f =
+    let other = facing (v .role) in
+    let t = v .terms in
+    let n = length (layout other (t .m) (t .k) (t .p)) in
+    both (dealtWith (v .role) t (v .half) (take n f))
+    (both (coinsFit other t (drop n f))
+    (eqLists (v .received) (take (length (v .received)) (messagesOf other t (take n f) (join (drop n f)) i (v .sent)))))
+
+unfoldable pub completions : View → (input : List (List ℕ)) → ℕ
+completions v i =
+    let other = facing (v .role) in
+    let t = v .terms in
+    countParts (t .q) (layout other (t .m) (t .k) (t .p) ++ coinLayout other t) (λ f. isCompletion v i f)
+
+-- ---- the inputs that are counted over
+
+-- what an end's first step asks of its input
+abbrev pub takenTests : Role → Terms → (input : List (List ℕ)) → List Test
+takenTests left t i = inputTests (t .q) (t .m * t .k) (part 0 i)
+takenTests right t i = inputTests (t .q) (t .k * t .p) (part 0 i)
+takenTests blinder t i = inputTests (t .q) (t .m * t .m) (part 0 i) ++ inputTests (t .q) (t .m * 1) (part 1 i) ++ regularTests (t .q) (t .m) (part 0 i)
+takenTests solver t i = inputTests (t .q) (t .m * t .m) (part 0 i) ++ inputTests (t .q) (t .m * 1) (part 1 i) ++ regularTests (t .q) (t .m) (part 0 i)
+
+abbrev pub Taken : Role → Terms → (input : List (List ℕ)) → Type 0
+Taken role t i = _≡_ {A = Judged Unit} (judge (takenTests role t i) tt) (done tt)
+
+-- the solver's input L, x and the blinder's M, y: one is the viewer's own
+abbrev pub solverInput : Role → (own other : List (List ℕ)) → List (List ℕ)
+solverInput left own other = other
+solverInput right own other = other
+solverInput blinder own other = other
+solverInput solver own other = own
+
+abbrev pub blinderInput : Role → (own other : List (List ℕ)) → List (List ℕ)
+blinderInput left own other = own
+blinderInput right own other = own
+blinderInput blinder own other = own
+blinderInput solver own other = other
+
+-- part j of both, of n residues, added: L + M, and x + y
+abbrev pub jointPart : (j n : ℕ) → View → (input : List (List ℕ)) → List ℕ
+jointPart j n v i = matAdd (v .terms .q) n (part j (solverInput (v .role) (v .input) i)) (part j (blinderInput (v .role) (v .input) i))
+
+abbrev pub jointMatrix : View → (input : List (List ℕ)) → List ℕ
+jointMatrix v i = jointPart 0 (v .terms .m * v .terms .m) v i
+
+abbrev pub jointVector : View → (input : List (List ℕ)) → List ℕ
+jointVector v i = jointPart 1 (v .terms .m * 1) v i
+
+abbrev pub sumFits : Sort → View → (input : List (List ℕ)) → Bool
+sumFits product v i = true
+sumFits system v i = hasInverse (v .terms .q) (v .terms .m) (jointMatrix v i)
+
+-- 01: "The inputs that demand 3 counts over are those which the other end's steps take and, in a system, whose matrix added to the viewer's has an inverse"
+pub record Counted (v : View) (i : List (List ℕ)) : Type 0 where
+  pub taken : Taken (facing (v .role)) (v .terms) i
+  pub sum : sumFits (sortOf (v .role)) v i ≡ true
+
+-- 01: "The solution for two inputs is the z of demand 2": (L + M) z = x + y
+abbrev pub solutionFor : View → (input : List (List ℕ)) → List ℕ
+solutionFor v i = solution (v .terms .q) (v .terms .m) (jointMatrix v i) (jointVector v i)
+
+-- the answer z = Q × t of a blinder
+abbrev pub answerSeen : View → List ℕ
+answerSeen v = matMul (v .terms .q) (v .terms .m) (v .terms .m) 1 (part 2 (v .half)) (part 2 (v .received))
+
+-- ---- demand 3's counts, for one view
+
+pub record Secret (v : View) : Type 0 where
+  -- "The count of tapes and coins behind what one end has seen is blind to the other end's secret: one number for all its inputs while the session is
+  -- unfinished"
+  pub unfinished : Unfinished v → (i j : List (List ℕ)) → Counted v i → Counted v j → completions v i ≡ completions v j
+  -- "In a finished product, each input of the other end has exactly one filling, whatever accepted message the viewer sent"
+  pub finished-product : sortOf (v .role) ≡ product → Finished v → (i : List (List ℕ)) → Counted v i → completions v i ≡ 1
+  -- "In a finished system where both follow the rules, with an invertible sum, each solver input with the solution seen has exactly one filling for the
+  -- blinder's view", and another has none
+  pub finished-blinder : v .role ≡ blinder → Finished v → (i : List (List ℕ)) → Counted v i → solutionFor v i ≡ answerSeen v → completions v i ≡ 1
+  pub other-solution : v .role ≡ blinder → Finished v → (i : List (List ℕ)) → Counted v i → solutionFor v i ≢ answerSeen v → completions v i ≡ 0
+  -- "and the solver's view has as many fillings for any two blinder inputs whose solutions are both zero or both not"
+  pub finished-solver : v .role ≡ solver → Finished v → (i j : List (List ℕ)) → Counted v i → Counted v j
+      → (solutionFor v i ≡ zeros (v .terms .m * 1)) ↔ (solutionFor v j ≡ zeros (v .terms .m * 1)) → completions v i ≡ completions v j

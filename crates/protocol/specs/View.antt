@@ -1,0 +1,54 @@
+-- What one end of a session has seen. Assumes nothing.
+-- View                 an end's own input, half, coins, and the messages sent and received
+-- facing               the other end
+-- kindsSent            the kinds of message that an end sends, in order
+-- Finished, Unfinished whether the end has received its last message
+use mathlib.Core.Path.{_≡_}
+use mathlib.Core.List.{List, [], _∷_}
+use Prim.Native.Nat.{ℕ, _*_, _<_}
+use lib.ListN.{length}
+use Rattle.protocol.specs.declared.Terms.{Terms}
+use Rattle.protocol.specs.Tape.{Role, left, right, blinder, solver}
+use Rattle.protocol.specs.System.{scratchLayout}
+
+-- 01: "A view is: own input, own tape as dealt, own coins and P, the messages sent, and all messages received and accepted".
+-- "Of a message in a view its residues count, whatever session or tape it names": here a message is its residues
+pub record View : Type 0 where
+  pub role : Role
+  pub terms : Terms
+  -- X, or Y, or M and y, or L and x
+  pub input : List (List ℕ)
+  -- the matrices of the own half
+  pub half : List (List ℕ)
+  -- U, or P and then U0, or nothing
+  pub coins : List ℕ
+  -- oldest first
+  pub sent : List (List ℕ)
+  pub received : List (List ℕ)
+
+-- the other end
+abbrev pub facing : Role → Role
+facing left = right
+facing right = left
+facing blinder = solver
+facing solver = blinder
+
+-- how many residues each matrix of an end's coins has. Left: U. Blinder: P, U0
+abbrev pub coinLayout : Role → Terms → List ℕ
+coinLayout left t = t .m * t .p ∷ []
+coinLayout right t = []
+coinLayout blinder t = scratchLayout (t .m)
+coinLayout solver t = []
+
+abbrev pub kindsSent : Role → List ℕ
+kindsSent left = 2 ∷ []
+kindsSent right = 1 ∷ []
+kindsSent blinder = 2 ∷ 4 ∷ []
+kindsSent solver = 1 ∷ 3 ∷ 5 ∷ []
+
+-- 01: "A session is finished for an end when it has received and accepted its last message: left 1, right 2, solver 4, blinder 5"
+abbrev pub Finished : View → Type 0
+Finished v = length (v .received) ≡ length (kindsSent (facing (v .role)))
+
+abbrev pub Unfinished : View → Type 0
+Unfinished v = length (v .received) < length (kindsSent (facing (v .role)))
