@@ -75,7 +75,7 @@ module _ (t : Terms) (s : Slot) (input got : List (List ℕ)) where
   unfoldable pub blinderMessages : (words : List ℕ) → List (List ℕ)
   blinderMessages words =
       hearing got (λ a got.
-      let lent = zeros (scratchSize (t .m)) in
+      let lent = zeros (scratchSize t) in
       let first = blinderFirst t s (length lent) (part 0 input) (part 1 input) words (incoming 1 t a) (messageSize 2 t) in
       andThen s first (λ x s. hearing got (λ a got.
       andThen s (blinderSecond x s (over (scratchAfter first) lent) (incoming 3 t a) (messageSize 4 t)) (λ x s. []))))

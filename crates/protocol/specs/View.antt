@@ -37,7 +37,7 @@ facing solver = blinder
 abbrev pub coinLayout : Role → Terms → List ℕ
 coinLayout left t = t .m * t .p ∷ []
 coinLayout right t = []
-coinLayout blinder t = scratchLayout (t .m)
+coinLayout blinder t = scratchLayout t
 coinLayout solver t = []
 
 abbrev pub kindsSent : Role → List ℕ
