@@ -20,7 +20,7 @@ use borrow.Author.Tests.{lt-ltb}
 use Rattle.algebra.specs.Matrix.{Residues}
 use Rattle.algebra.specs.Count.{bit, both, eqList, parts, join, total, count, countParts}
 use Rattle.algebra.proofs.Count.{and-left, and-right, and-both, eqList-eq, eqList-of, sumLists-ext}
-use Rattle.algebra.proofs.Singular.{same-test}
+use Rattle.algebra.proofs.Tests.{same-test}
 use Rattle.algebra.proofs.Parts.{Fits, fits-join, fits-parts, parts-join, join-parts}
 use Rattle.protocol.specs.declared.Terms.{Terms}
 use Rattle.protocol.specs.declared.Refusal.{Refusal}

@@ -17,7 +17,7 @@ use Rattle.algebra.proofs.Count.{and-left, and-right, and-both, eqList-of}
 use Rattle.algebra.proofs.Lists.{add-residues, sub-residues}
 use Rattle.algebra.proofs.Parts.{Fits, none, _then_}
 use Rattle.algebra.proofs.Product.{left-secrecy, right-secrecy}
-use Rattle.algebra.proofs.Singular.{same-test}
+use Rattle.algebra.proofs.Tests.{same-test}
 use Rattle.protocol.specs.declared.Terms.{Terms}
 use Rattle.protocol.specs.Judge.{done}
 use Rattle.protocol.specs.Drawing.{wordsFor}
