@@ -50,13 +50,17 @@ module _ {q : ℕ} (h1 : 1 < q) where
   pub hq : 0 < q
   hq = omega arith
 
-  bit-below : (b : Bool) → bit b < q
-  bit-below true = h1
-  bit-below false = hq
+  pub delta-below : (i j : ℕ) → delta i j < q
+  unfolding delta
+  delta-below i j = at (eqb i j)
+    where
+      at : (b : Bool) → bit b < q
+      at true = h1
+      at false = hq
 
   pub id-residues : (n : ℕ) → Residues q (n * n) (idMat n)
-  unfolding idMat
-  id-residues n = tabulate-residues q (n * n) _ (λ e l. bit-below (eqb (e / n) (e % n)))
+  unfolding idMat delta
+  id-residues n = tabulate-residues q (n * n) _ (λ e l. delta-below (e / n) (e % n))
 
   pub id-mul : (n p : ℕ) {a : List ℕ} → Residues q (n * p) a → matMul q n n p (idMat n) a ≡ a
   unfolding dot
