@@ -30,7 +30,7 @@ use Rattle.protocol.specs.Tape.{Slot, isSlot, slotWords, headerWords, RE
 use Rattle.protocol.specs.Message.{messageOf, messageLayout, messageSize}
 use Rattle.protocol.specs.Step.{Effect, Outcome}
 use Rattle.protocol.specs.View.{View}
-use Rattle.protocol.specs.Completion.{dealtSlot, incoming, said, andThen, eqLists}
+use Rattle.protocol.specs.Completion.{dealtSlot, incoming, said, andThen, eqLists, isCompletion, completions}
 use Rattle.protocol.proofs.Judge.{All}
 use Rattle.protocol.proofs.Slots.{written}
 use Rattle.protocol.proofs.Drawn.{drawn-residues, enough-residues}
@@ -48,6 +48,12 @@ pub both-true : (b : Bool) → both b true ≡ b
 unfolding both
 both-true true = refl
 both-true false = refl
+
+-- a test after another counts only where the other passes
+pub both-same : (b x y : Bool) → (b ≡ true → x ≡ y) → both b x ≡ both b y
+unfolding both
+both-same true x y h = h refl
+both-same false x y h = refl
 
 pub eqLists-eq : (ls rs : List (List ℕ)) → eqLists ls rs ≡ true → ls ≡ rs
 unfolding eqLists
@@ -150,3 +156,9 @@ said-message kind t ls = rw (eqb·suc-zero kind)
 -- a view, part by part
 abbrev pub viewOf : Role → Terms → (input half : List (List ℕ)) (coins : List ℕ) (sent received : List (List ℕ)) → View
 viewOf role t i h c s r = record { role = role; terms = t; input = i; half = h; coins = c; sent = s; received = r }
+
+-- while nothing is received, the other end's input is in nothing that was seen
+pub nothing-received : (role : Role) (t : Terms) (input half : List (List ℕ)) (coins : List ℕ) (sent i j : List (List ℕ))
+    → completions (viewOf role t input half coins sent []) i ≡ completions (viewOf role t input half coins sent []) j
+unfolding completions isCompletion
+nothing-received role t input half coins sent i j = refl

@@ -3,7 +3,6 @@
 -- right-sends, left-sends   what the ends' steps send
 -- left-one                  left's view: exactly one completion for each input of right
 -- right-one                 right's view after message 2: exactly one for each input of left
--- right-open                right's view before it: as many for any two inputs
 use mathlib.Core.Path.{_≡_, refl, _∙_}
 use mathlib.Core.List.{List, [], _∷_, append-nil}
 use Prim.Native.Nat.{ℕ, _*_, _≤_, _<_}
@@ -44,11 +43,17 @@ module _ (sort : Sort) (t : Terms) (terms : Pass (termsTests sort t)) where
   unfolding termsTests shapeTests within
   modulus-below = leb-true _ _ (and-right _ _ (terms .all .1 .0))
 
-first-of : {q n : ℕ} {ns : List ℕ} {ls : List (List ℕ)} → Fits q (n ∷ ns) ls → Residues q n (part 0 ls)
+pub first-of : {q n : ℕ} {ns : List ℕ} {ls : List (List ℕ)} → Fits q (n ∷ ns) ls → Residues q n (part 0 ls)
 first-of (r then f) = r
 
-second-of : {q a n : ℕ} {ns : List ℕ} {ls : List (List ℕ)} → Fits q (a ∷ n ∷ ns) ls → Residues q n (part 1 ls)
+pub second-of : {q a n : ℕ} {ns : List ℕ} {ls : List (List ℕ)} → Fits q (a ∷ n ∷ ns) ls → Residues q n (part 1 ls)
 second-of (r then r′ then f) = r′
+
+pub third-of : {q a b n : ℕ} {ns : List ℕ} {ls : List (List ℕ)} → Fits q (a ∷ b ∷ n ∷ ns) ls → Residues q n (part 2 ls)
+third-of (r then r′ then r″ then f) = r″
+
+pub fourth-of : {q a b c n : ℕ} {ns : List ℕ} {ls : List (List ℕ)} → Fits q (a ∷ b ∷ c ∷ n ∷ ns) ls → Residues q n (part 3 ls)
+fourth-of (r then r′ then r″ then r‴ then f) = r‴
 
 -- ---- what the ends send
 
@@ -180,9 +185,3 @@ module _ (t : Terms) (terms : Pass (termsTests product t)) (input : List (List �
       same-count (t .q) (t .m * t .k ∷ t .m * t .p ∷ t .m * t .p ∷ []) _ _ (right-same y0 b0)
       ∙ right-secrecy (t .q) (t .m) (t .k) (t .p) (h0 t terms) y0 b0 y1-sent x1-received r1-received (part 0 i) r
       x1-residues r1-residues
-
--- before message 2 left's input is in nothing that right has seen
-pub right-open : (t : Terms) (input half : List (List ℕ)) (coins : List ℕ) (sent i j : List (List ℕ))
-    → completions (viewOf right t input half coins sent []) i ≡ completions (viewOf right t input half coins sent []) j
-unfolding completions isCompletion
-right-open t input half coins sent i j = refl

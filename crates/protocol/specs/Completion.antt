@@ -27,7 +27,7 @@ use Rattle.protocol.specs.Deal.{Request, firstHalf, secondHalf, dealtB, 
 use Rattle.protocol.specs.Message.{Message, messageSize}
 use Rattle.protocol.specs.Step.{Outcome, scratchAfter}
 use Rattle.protocol.specs.Product.{rightFirst, leftStep}
-use Rattle.protocol.specs.System.{scratchSize, regularTests, solverFirst, blinderFirst, solverSecond, blinderSecond, solverLast}
+use Rattle.protocol.specs.System.{sideSize, scratchSize, regularTests, solverFirst, blinderFirst, solverSecond, blinderSecond, solverLast}
 use Rattle.protocol.specs.View.{View, facing, coinLayout, Finished, Unfinished}
 
 -- ---- the messages that an end sends
@@ -147,12 +147,16 @@ completions v i =
 
 -- ---- the inputs that are counted over
 
--- what an end's first step asks of its input
+-- what a system's first steps ask of their inputs: L and x, or M and y
+abbrev pub pairTests : Terms → (input : List (List ℕ)) → List Test
+pairTests t i = inputTests (t .q) (t .m * t .m) (part 0 i) ++ inputTests (t .q) (sideSize t) (part 1 i) ++ regularTests (t .q) (t .m) (part 0 i)
+
+-- what each end's first step asks of its input
 abbrev pub takenTests : Role → Terms → (input : List (List ℕ)) → List Test
 takenTests left t i = inputTests (t .q) (t .m * t .k) (part 0 i)
 takenTests right t i = inputTests (t .q) (t .k * t .p) (part 0 i)
-takenTests blinder t i = inputTests (t .q) (t .m * t .m) (part 0 i) ++ inputTests (t .q) (t .m * 1) (part 1 i) ++ regularTests (t .q) (t .m) (part 0 i)
-takenTests solver t i = inputTests (t .q) (t .m * t .m) (part 0 i) ++ inputTests (t .q) (t .m * 1) (part 1 i) ++ regularTests (t .q) (t .m) (part 0 i)
+takenTests blinder t i = pairTests t i
+takenTests solver t i = pairTests t i
 
 abbrev pub Taken : Role → Terms → (input : List (List ℕ)) → Type 0
 Taken role t i = _≡_ {A = Judged Unit} (judge (takenTests role t i) tt) (done tt)

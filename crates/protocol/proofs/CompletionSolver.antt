@@ -1,0 +1,253 @@
+-- The completions of the solver's view: as many for any two inputs of the blinder while the session is unfinished, and, once it is finished, for any two whose
+-- solutions are both zero or both not. Assumes nothing.
+-- solver-open   after message 2
+-- solver-same   after message 4
+use mathlib.Core.Path.{_≡_, refl, sym, ap, ap₂, _∙_, subst}
+use mathlib.Core.Bool.{Bool, true}
+use mathlib.Core.Logic.{_↔_}
+use mathlib.Core.List.{List, [], _∷_}
+use Prim.Native.Nat.{ℕ, _+_, _*_, _<_}
+use lib.ListN.{length, take}
+use Rattle.algebra.specs.Matrix.{Residues, zeros, matAdd, matMul}
+use Rattle.algebra.specs.Count.{both, parts, part, join}
+use Rattle.algebra.specs.Columns.{beside}
+use Rattle.algebra.specs.Inverse.{hasInverse}
+use Rattle.algebra.specs.Prime.{isPrime}
+use Rattle.algebra.specs.Elimination.{regular, solution}
+use Rattle.algebra.specs.Product.{sendY, sendX, sendR}
+use Rattle.algebra.specs.System.{solverShare, sendF, sendW, sendC, SolverView, givesSolver, solverFillings}
+use Rattle.algebra.proofs.Lists.{add-residues, sub-residues}
+use Rattle.algebra.proofs.Tests.{and-left, and-right, and-both, same-test}
+use Rattle.algebra.proofs.Parts.{Fits, none, _then_, parts-join}
+use Rattle.algebra.proofs.Prime.{prime-test}
+use Rattle.algebra.proofs.Elimination.{regular-inverse, solution-solves}
+use Rattle.algebra.proofs.Inverse.{hq}
+use Rattle.algebra.proofs.Reduce.{Honest}
+use Rattle.algebra.proofs.Secrecy.{solver-view}
+use Rattle.protocol.specs.declared.SessionId.{SessionId}
+use Rattle.protocol.specs.declared.TapeId.{TapeId}
+use Rattle.protocol.specs.declared.Terms.{Terms}
+use Rattle.protocol.specs.Drawing.{wordsFor}
+use Rattle.protocol.specs.Bounds.{system, shapeTests, termsTests, fieldFits}
+use Rattle.protocol.specs.Tape.{blinder, solver, READY, layout}
+use Rattle.protocol.specs.Message.{messageLayout, messageSize}
+use Rattle.protocol.specs.System.{sideSize}
+use Rattle.protocol.specs.Completion.{dealtSlot, solverMessages, blinderMessages, eqLists, dealtTogether, isCompletion, completions, Taken}
+use Rattle.protocol.proofs.Judge.{Pass}
+use Rattle.protocol.proofs.Residues.{input-residues}
+use Rattle.protocol.proofs.Halves.{Holding}
+use Rattle.protocol.proofs.SystemSteps.{systemTerms, columns-are}
+use Rattle.protocol.proofs.SystemRight.{product-terms}
+use Rattle.protocol.proofs.CompletionLaws.{same-count, both-same, dealt-alone, message-fits, first-test, viewOf}
+use Rattle.protocol.proofs.CompletionProduct.{modulus-above, first-of, second-of, fourth-of}
+use Rattle.protocol.proofs.CompletionSystem.{dealt-system, taken-pair, solver-second, blinder-first, blinder-second}
+
+-- the tests of the dealer's rules, P, X1, R1, W and c, in algebra's order
+shuffle : (b v q p x1 r1 w c : Bool) → both (both b (both v q)) (both p (both (both x1 (both r1 true)) (both (both w (both c true)) true)))
+    ≡ both b (both x1 (both r1 (both v (both w (both c (both p q))))))
+shuffle b v q p x1 r1 w c = same-test _ _
+    (λ e.
+    let d = and-left _ _ e in
+    let m = and-right _ _ (and-right _ _ e) in
+    let f = and-left _ _ m in
+    let g = and-left _ _ (and-right _ _ m) in
+    and-both (and-left _ _ d) (and-both (and-left _ _ f) (and-both (and-left _ _ (and-right _ _ f)) (and-both (and-left _ _ (and-right _ _ d))
+    (and-both (and-left _ _ g) (and-both (and-left _ _ (and-right _ _ g)) (and-both (and-left _ _ (and-right _ _ e)) (and-right _ _ (and-right _ _ d)))))))))
+    (λ e.
+    let e1 = and-right _ _ e in
+    let e2 = and-right _ _ e1 in
+    let e3 = and-right _ _ e2 in
+    let e4 = and-right _ _ e3 in
+    let e5 = and-right _ _ e4 in
+    let e6 = and-right _ _ e5 in
+    and-both (and-both (and-left _ _ e) (and-both (and-left _ _ e3) (and-right _ _ e6)))
+    (and-both (and-left _ _ e6) (and-both (and-both (and-left _ _ e1) (and-both (and-left _ _ e2) refl)) (and-both (and-both (and-left _ _ e4) (and-both (and-left _ _ e5) refl)) refl))))
+
+module _ (session : SessionId) (tape : TapeId) (q n : ℕ) (terms : Pass (termsTests system (systemTerms session tape q n))) where
+  abbrev t : Terms
+  t = systemTerms session tape q n
+
+  prime : isPrime q ≡ true
+  unfolding termsTests shapeTests fieldFits
+  prime = terms .all .1 .1 .0
+
+  big : 1 < q
+  big = modulus-above system t terms
+
+  side-one : sideSize t ≡ n * 1
+  unfolding sideSize
+  side-one = rw (columns-are n 1)
+
+  -- A z = b has the solution, where A is a sum that has an inverse
+  pub solves : (a a′ b b′ : List ℕ) → hasInverse q n (matAdd q (n * n) a a′) ≡ true
+      → Residues q (n * 1) (solution q n (matAdd q (n * n) a a′) (matAdd q (n * 1) b b′))
+      × (matMul q n n 1 (matAdd q (n * n) a a′) (solution q n (matAdd q (n * n) a a′) (matAdd q (n * 1) b b′)) ≡ matAdd q (n * 1) b b′)
+  solves a a′ b b′ h =
+      let ra = add-residues (hq big) (n * n) a a′ in
+      solution-solves (prime-test q prime) n ra (add-residues (hq big) (n * 1) b b′) (regular-inverse (prime-test q prime) n ra ∙ h)
+
+  -- ---- after message 2
+
+  module _ (input half : List (List ℕ)) (coins b1 m2 : List ℕ) (sent : List (List ℕ)) (r1 : Residues q (messageSize 1 t) b1) where
+    -- what the blinder sends first is the same for any two inputs
+    open-same : (i j : List (List ℕ)) → Taken blinder t i → Taken blinder t j → (ls : List (List ℕ))
+        → Fits q (n * n ∷ n * (n + 1) ∷ n * n ∷ n * n ∷ n * n ∷ n * (n + 1) ∷ []) ls
+        → isCompletion (viewOf solver t input half coins (b1 ∷ sent) (m2 ∷ [])) i ls ≡ isCompletion (viewOf solver t input half coins (b1 ∷ sent) (m2 ∷ [])) j ls
+    unfolding isCompletion
+    open-same i j ti tj ls (_then_ {l = x0} rx (_then_ {l = a0} ra (_then_ {l = qm} rq (_then_ {l = g} rg (_then_ {l = pm} rp (_then_ {l = u0} ru none)))))) =
+        both-same _ _ _ (λ d. both-same (regular q n pm) _ _ (λ p. ap (eqLists (m2 ∷ [])) (sends i ti p ∙ sym (sends j tj p))))
+      where
+        held : Holding blinder READY t (x0 ∷ a0 ∷ qm ∷ g ∷ []) (dealtSlot blinder t (x0 ∷ a0 ∷ qm ∷ g ∷ []))
+        held = dealt-alone blinder t (x0 ∷ a0 ∷ qm ∷ g ∷ []) (rx then ra then rq then rg then none)
+
+        sends : (i : List (List ℕ)) → Taken blinder t i → regular q n pm ≡ true
+            → take 1 (blinderMessages t (dealtSlot blinder t (x0 ∷ a0 ∷ qm ∷ g ∷ [])) i (b1 ∷ sent) (wordsFor q (join (pm ∷ u0 ∷ []))))
+            ≡ join (sendX q n n (n + 1) pm x0 ∷ sendR q n n (n + 1) pm (part 0 (parts (messageLayout 1 n n (n + 1)) b1)) u0 a0 ∷ []) ∷ []
+        sends i ti p = blinder-first session tape q n 1 terms (product-terms session tape q n terms) x0 a0 qm g _ held i ti pm u0 b1 rp ru p r1 sent
+
+    pub solver-open : (i j : List (List ℕ)) → Taken blinder t i → Taken blinder t j
+        → completions (viewOf solver t input half coins (b1 ∷ sent) (m2 ∷ [])) i ≡ completions (viewOf solver t input half coins (b1 ∷ sent) (m2 ∷ [])) j
+    unfolding completions
+    solver-open i j ti tj = same-count q _ _ _ (open-same i j ti tj)
+
+  -- ---- after message 4
+
+  module _ (input : List (List ℕ)) (coins b1 b3 m2 m4 : List ℕ) (sent : List (List ℕ)) (r1 : Residues q (messageSize 1 t) b1) (r3 : Residues q (messageSize 3 t) b3)
+      (r2 : Residues q (messageSize 2 t) m2) (r4 : Residues q (messageSize 4 t) m4) where
+    abbrev cut : ℕ → List ℕ → List (List ℕ)
+    cut kind a = parts (messageLayout kind n n (n + 1)) a
+
+    -- the view as algebra has it
+    abbrev seen : (y0 b0 r v : List ℕ) → SolverView q n 1
+    seen y0 b0 r v = record {
+      y0 = y0;
+      b0 = b0;
+      r = r;
+      v = v;
+      y1 = part 0 (cut 1 b1);
+      f = part 0 (cut 3 b3);
+      x1 = part 0 (cut 2 m2);
+      r1 = part 1 (cut 2 m2);
+      w = part 0 (cut 4 m4);
+      c = part 1 (cut 4 m4);
+    }
+
+    module _ (i : List (List ℕ)) (ti : Taken blinder t i) (y0 b0 r v x0 a0 qm g pm u0 : List ℕ) (rx : Residues q (n * n) x0) (ra : Residues q (n * (n + 1)) a0)
+        (rq : Residues q (n * n) qm) (rg : Residues q (n * n) g) (rp : Residues q (n * n) pm) (ru : Residues q (n * (n + 1)) u0) where
+      first : List (List ℕ)
+      first = sendX q n n (n + 1) pm x0 ∷ sendR q n n (n + 1) pm (part 0 (cut 1 b1)) u0 a0 ∷ []
+
+      second : List (List ℕ)
+      second = sendW q n 1 u0 (part 0 (cut 3 b3)) qm pm (part 0 i) g ∷ sendC q n 1 u0 pm (part 1 i) ∷ []
+
+      first-fits : Fits q (messageLayout 2 n n (n + 1)) first
+      unfolding messageLayout first sendX sendR
+      first-fits = add-residues (hq big) _ _ _ then sub-residues (hq big) _ _ _ then none
+
+      second-fits : Fits q (messageLayout 4 n n (n + 1)) second
+      unfolding messageLayout second sendW sendC
+      second-fits = rw (columns-are n 1) (sub-residues (hq big) (n * n) _ _ then add-residues (hq big) (n * 1) _ _ then none)
+
+      abbrev sends : List (List ℕ)
+      sends = blinderMessages t (dealtSlot blinder t (x0 ∷ a0 ∷ qm ∷ g ∷ [])) i (b1 ∷ b3 ∷ sent) (wordsFor q (join (pm ∷ u0 ∷ [])))
+
+      -- the blinder's two messages
+      sends-are : regular q n pm ≡ true → eqLists (m2 ∷ m4 ∷ []) (take 2 sends) ≡ both (eqLists (cut 2 m2) first) (both (eqLists (cut 4 m4) second) (eqLists [] []))
+      unfolding first second
+      sends-are p =
+          ap (λ (z : List (List ℕ)). eqLists (m2 ∷ m4 ∷ []) (take 2 z))
+          (blinder-second session tape q n 1 terms (product-terms session tape q n terms) x0 a0 qm g _
+          (dealt-alone blinder t (x0 ∷ a0 ∷ qm ∷ g ∷ []) (rx then ra then rq then rg then none)) i ti pm u0 b1 rp ru p r1 b3 r3 sent)
+          ∙ first-test 2 t m2 r2 first-fits (m4 ∷ []) (join second ∷ [])
+          ∙ ap (both (eqLists (cut 2 m2) first)) (first-test 4 t m4 r4 second-fits [] [])
+
+      one-test : both (dealtTogether system t (x0 ∷ a0 ∷ qm ∷ g ∷ []) (y0 ∷ b0 ∷ r ∷ v ∷ [])) (both (regular q n pm) (eqLists (m2 ∷ m4 ∷ []) (take 2 sends)))
+          ≡ givesSolver q n 1 (seen y0 b0 r v) (part 0 i) (part 1 i) (x0 ∷ a0 ∷ qm ∷ g ∷ pm ∷ u0 ∷ [])
+      unfolding givesSolver eqLists first second messageLayout parts
+      one-test =
+          ap₂ both (dealt-system t x0 a0 qm g y0 b0 r v) (both-same (regular q n pm) _ _ sends-are)
+          ∙ shuffle _ _ _ _ _ _ _ _
+          ∙ rw (regular-inverse (prime-test q prime) n rp, regular-inverse (prime-test q prime) n rq) refl
+
+    end-same : (i : List (List ℕ)) → Taken blinder t i → (y0 b0 r v : List ℕ) (ls : List (List ℕ))
+        → Fits q (n * n ∷ n * (n + 1) ∷ n * n ∷ n * n ∷ n * n ∷ n * (n + 1) ∷ []) ls
+        → isCompletion (viewOf solver t input (y0 ∷ b0 ∷ r ∷ v ∷ []) coins (b1 ∷ b3 ∷ sent) (m2 ∷ m4 ∷ [])) i ls ≡ givesSolver q n 1 (seen y0 b0 r v) (part 0 i) (part 1 i) ls
+    unfolding isCompletion
+    end-same i ti y0 b0 r v ls (_then_ {l = x0} rx (_then_ {l = a0} ra (_then_ {l = qm} rq (_then_ {l = g} rg (_then_ {l = pm} rp (_then_ {l = u0} ru none)))))) =
+        one-test i ti y0 b0 r v x0 a0 qm g pm u0 rx ra rq rg rp ru
+
+    x1-ok : Residues q (n * n) (part 0 (cut 2 m2))
+    unfolding messageLayout
+    x1-ok = first-of (message-fits 2 t m2 r2)
+
+    r1-ok : Residues q (n * (n + 1)) (part 1 (cut 2 m2))
+    unfolding messageLayout
+    r1-ok = second-of (message-fits 2 t m2 r2)
+
+    w-ok : Residues q (n * n) (part 0 (cut 4 m4))
+    unfolding messageLayout
+    w-ok = first-of (message-fits 4 t m4 r4)
+
+    c-ok : Residues q (n * 1) (part 1 (cut 4 m4))
+    unfolding messageLayout
+    c-ok = subst (λ (k : ℕ). Residues q (n * k) (part 1 (cut 4 m4))) (columns-are n 1) (second-of (message-fits 4 t m4 r4))
+
+    -- the solver kept to the rules
+    module _ (own : Taken solver t input) (y0 b0 r v : List ℕ) (fits : Fits q (layout solver n n (n + 1)) (y0 ∷ b0 ∷ r ∷ v ∷ []))
+        (kept : b1 ∷ b3 ∷ sent ≡ solverMessages t (dealtSlot solver t (y0 ∷ b0 ∷ r ∷ v ∷ [])) input (m2 ∷ m4 ∷ [])) where
+      y1-own : List ℕ
+      y1-own = sendY q n n (n + 1) (beside n n 1 (part 0 input) (part 1 input)) y0
+
+      f-own : List ℕ
+      f-own = sendF q n 1 r (solverShare q n 1 (part 0 (cut 2 m2)) y0 (part 1 (cut 2 m2)) b0)
+
+      two-own : b1 ∷ b3 ∷ [] ≡ join (y1-own ∷ []) ∷ join (f-own ∷ []) ∷ []
+      unfolding y1-own f-own
+      two-own = ap (take 2) kept
+          ∙ solver-second session tape q n 1 terms (product-terms session tape q n terms) y0 b0 r v _ (dealt-alone solver t (y0 ∷ b0 ∷ r ∷ v ∷ []) fits) input own m2 r2 (m4 ∷ [])
+
+      y1-fits : Fits q (messageLayout 1 n n (n + 1)) (y1-own ∷ [])
+      unfolding messageLayout y1-own sendY
+      y1-fits = sub-residues (hq big) _ _ _ then none
+
+      f-fits : Fits q (messageLayout 3 n n (n + 1)) (f-own ∷ [])
+      unfolding messageLayout f-own sendF
+      f-fits = sub-residues (hq big) _ _ _ then none
+
+      y1-is : part 0 (cut 1 b1) ≡ y1-own
+      y1-is = ap (λ (z : List (List ℕ)). part 0 (cut 1 (part 0 z))) two-own ∙ ap (part 0) (parts-join y1-fits)
+
+      f-is : part 0 (cut 3 b3) ≡ f-own
+      f-is = ap (λ (z : List (List ℕ)). part 0 (cut 3 (part 1 z))) two-own ∙ ap (part 0) (parts-join f-fits)
+
+      honest : Honest q n 1 (seen y0 b0 r v) (part 0 input) (part 1 input)
+      unfolding y1-own f-own
+      honest = record {
+        l-size = input-residues q (n * n) (part 0 input) (taken-pair t input own .matrix) .size;
+        x-size = side-length;
+        y1-is = y1-is;
+        f-is = f-is;
+        b0-ok = second-of fits;
+        x1-ok = x1-ok;
+        r1-ok = r1-ok;
+        v-ok = fourth-of fits;
+        w-ok = w-ok;
+        c-ok = c-ok;
+      }
+        where
+          side-length : length (part 1 input) ≡ n * 1
+          side-length = input-residues q (sideSize t) (part 1 input) (taken-pair t input own .side) .size ∙ side-one
+
+      pub solver-same : (i j : List (List ℕ)) → Taken blinder t i → Taken blinder t j
+          → hasInverse q n (matAdd q (n * n) (part 0 input) (part 0 i)) ≡ true → hasInverse q n (matAdd q (n * n) (part 0 input) (part 0 j)) ≡ true
+          → (solution q n (matAdd q (n * n) (part 0 input) (part 0 i)) (matAdd q (n * 1) (part 1 input) (part 1 i)) ≡ zeros (n * 1))
+          ↔ (solution q n (matAdd q (n * n) (part 0 input) (part 0 j)) (matAdd q (n * 1) (part 1 input) (part 1 j)) ≡ zeros (n * 1))
+          → completions (viewOf solver t input (y0 ∷ b0 ∷ r ∷ v ∷ []) coins (b1 ∷ b3 ∷ sent) (m2 ∷ m4 ∷ [])) i
+          ≡ completions (viewOf solver t input (y0 ∷ b0 ∷ r ∷ v ∷ []) coins (b1 ∷ b3 ∷ sent) (m2 ∷ m4 ∷ [])) j
+      unfolding completions solverFillings
+      solver-same i j ti tj hi hj w =
+          let s = solves (part 0 input) (part 0 i) (part 1 input) (part 1 i) hi in
+          let s′ = solves (part 0 input) (part 0 j) (part 1 input) (part 1 j) hj in
+          same-count q _ _ _ (end-same i ti y0 b0 r v)
+          ∙ solver-view (seen y0 b0 r v) (part 0 input) (part 1 input) (part 0 i) (part 1 i) _ (part 0 j) (part 1 j) _ prime honest hi hj (s .0) (s′ .0) (s .1) (s′ .1) w
+          ∙ sym (same-count q _ _ _ (end-same j tj y0 b0 r v))
