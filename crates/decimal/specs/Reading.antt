@@ -1,0 +1,83 @@
+-- What the reader's functions find in a line's bytes.
+--   grow       a run of digits with the next byte
+--   Ran        a run that has been read as far as it goes
+--   Finds      the number at a position
+--   Tallied    the numbers of a line, stored as far as there is room
+--   countOf, countNumber, wordsAfter   what the entry `numbers` answers and leaves
+-- Assumes nothing.
+use Prim.Native.Nat.{ℕ, _+_, _*_, _-_, _^_, _≤_, _<_}
+use mathlib.Core.Path.{_≡_}
+use mathlib.Core.Bool.{cond}
+use mathlib.Core.List.{List, [], _∷_}
+use mathlib.Core.Option.{Option, some, none}
+use lib.Dec.{ltb}
+use lib.ListN.{length, getD, drop}
+use lib.Seq.{sets}
+use Rattle.algebra.specs.Words.{over}
+use Rattle.protocol.specs.declared.Numeral.{Numeral}
+use Rattle.protocol.specs.declared.Numeral.the-variants as numeral
+use Rattle.protocol.specs.Judge.{Judged, refused, done, refusalNumber}
+use Rattle.protocol.specs.Line.{withByte, prepend, numbers}
+use Rattle.decimal.specs.declared.Run.{Run}
+use Rattle.decimal.specs.declared.Found.{Found}
+use Rattle.decimal.specs.declared.Found.the-variants.{Number, Wrong}
+use Rattle.decimal.specs.declared.Tally.{Tally}
+use Rattle.decimal.specs.declared.Tally.the-variants as tally
+use Rattle.decimal.specs.declared.Count.{Count}
+use Rattle.decimal.specs.declared.Count.the-variants as count
+
+-- the byte 10 ends the line
+abbrev pub Ended : List ℕ → Type 0
+Ended s = getD s (length s - 1) 0 ≡ 10
+
+-- a run of digits with the next byte, where it is a digit
+unfoldable pub grow : List ℕ → Run → Run
+grow s r =
+    let b = getD s (r .next) 0 in
+    cond (ltb b 48) r (cond (ltb 57 b) r (record { value = r .value * 10 + (b - 48); next = r .next + 1 }))
+
+-- what has been read of a number that may be too large
+unfoldable pub seen : ℕ → Numeral
+seen v = cond (ltb v (2 ^ 32)) (numeral.Value v) numeral.Wrong
+
+-- no byte but the one that ends it may follow
+abbrev pub Stops : List ℕ → Numeral → ℕ → Type 0
+Stops s f next = withByte f (getD s next 0) ≡ numeral.Wrong
+
+-- from the run r on, t has been read, and no digit can follow
+pub record Ran (s : List ℕ) (r t : Run) : Type 0 where
+  pub reads : numbers (numeral.Value (r .value)) (drop (r .next) s) ≡ numbers (seen (t .value)) (drop (t .next) s)
+  pub stops : Stops s (seen (t .value)) (t .next)
+  pub inside : t .next < length s
+  pub onward : r .next ≤ t .next
+
+-- where f has been read of the number whose next byte stands at i
+abbrev pub Finds : Numeral → List ℕ → ℕ → Found → Type 0
+Finds f s i (Number v j) = (numbers f (drop i s) ≡ prepend v (numbers numeral.Empty (drop j s))) × (i < j) × (j ≤ length s)
+Finds f s i Wrong = numbers f (drop i s) ≡ none
+
+-- n numbers, stored from the start of `before` on as far as there is room
+pub record Stored (o : Option (List ℕ)) (n : ℕ) (before after : List ℕ) : Type 0 where
+  pub values : List ℕ
+  pub reads : o ≡ some values
+  pub count : n ≡ length values
+  pub stores : after ≡ sets before 0 values
+
+abbrev pub Tallied : Option (List ℕ) → (before after : List ℕ) → Tally → Type 0
+Tallied o before after (tally.Numbers n) = Stored o n before after
+Tallied o before after tally.Wrong = o ≡ none
+
+-- ---- the entry `numbers`
+
+abbrev pub countOf : Judged (List ℕ) → Count
+countOf (refused r) = count.Refused r
+countOf (done xs) = count.Words (length xs)
+
+-- 01's number of an answer, 0 where the line is taken
+abbrev pub countNumber : Count → ℕ
+countNumber (count.Words n) = 0
+countNumber (count.Refused r) = refusalNumber r
+
+abbrev pub wordsAfter : Judged (List ℕ) → List ℕ → List ℕ
+wordsAfter (refused r) out = out
+wordsAfter (done xs) out = over xs out
