@@ -1,0 +1,48 @@
+-- The product added to a negative less a matrix. Assumes nothing.
+use mathlib.Core.Path.{ap, _∙_}
+use mathlib.Core.List.{List}
+use Prim.Native.Nat.{ℕ, _*_}
+use borrow.Author.Needs.{needs}
+use Rattle.algebra.specs.Matrix.{matAdd, matSub, matMul}
+use Rattle.algebra.specs.Words.{over}
+use Rattle.matrix.specs.Fill.{negated}
+use Rattle.matrix.proofs.Sums.{onto, off, negated-count, sub-count, twice-negated-sum}
+use Rattle.matrix.proofs.formula.write_reply.Statement.{statement}
+use Rattle.matrix.proofs.formula.write_reply.Tie as tie
+
+mul-n : tie.Need-mul-n
+mul-n c = search needs
+
+write-negative-requires : tie.Need-write-negative-requires
+write-negative-requires c κs = search needs
+
+subtract-from-requires : tie.Need-subtract-from-requires
+subtract-from-requires c κs = search needs
+
+add-product-requires : tie.Need-add-product-requires
+add-product-requires c κs = search needs
+
+same-length : tie.Need-same-length
+same-length c = search needs
+
+returns : tie.Need-returns
+returns c =
+    let a = c .before .before .before .before .before .before .before .before .before .before .before .before .before .before .before .before .before .args in
+    let n : ℕ = a .m * a .p in
+    let d : List ℕ = a .out .now in
+    let t : List ℕ = matMul (a .q) (a .m) (a .k) (a .p) (a .x .now) (a .y .now) in
+    c .before .before .add-product .ensures
+    ∙ (ap (λ (o : List ℕ). over (matAdd (a .q) n t o) o) (c .before .before .before .before .before .before .subtract-from .ensures
+    ∙ (ap (λ (o : List ℕ). over (matSub (a .q) n o (a .a .now)) o) (c .before .before .before .before .before .before .before .before .before .before .write-negative .ensures) ∙ off (a .q) n (negated (a .q) n (a .u .now)) (a .a .now) d (negated-count (a .q) n (a .u .now))))
+    ∙ (onto (a .q) n t (matSub (a .q) n (negated (a .q) n (a .u .now)) (a .a .now)) d (sub-count (a .q) n (negated (a .q) n (a .u .now)) (a .a .now)) ∙ ap (λ (l : List ℕ). over l d) (twice-negated-sum (a .q) n (c .before .before .before .before .before .before .before .before .before .before .before .before .before .before .before .before .before .pre .0 .some-q) t (a .u .now) (a .a .now))))
+
+pub write-reply-spec : {M : Type 1} → statement M
+write-reply-spec =
+    tie.close
+    (tie.spec
+    mul-n
+    write-negative-requires
+    subtract-from-requires
+    add-product-requires
+    same-length
+    returns)

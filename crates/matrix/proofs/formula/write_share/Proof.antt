@@ -1,0 +1,36 @@
+-- The product added to a difference. Assumes nothing.
+use mathlib.Core.Path.{ap, _∙_}
+use mathlib.Core.List.{List}
+use Prim.Native.Nat.{ℕ, _*_}
+use borrow.Author.Needs.{needs}
+use Rattle.algebra.specs.Matrix.{matAdd, matSub, matMul}
+use Rattle.algebra.specs.Words.{over}
+use Rattle.matrix.proofs.Sums.{onto, sub-count, difference-sum}
+use Rattle.matrix.proofs.formula.write_share.Statement.{statement}
+use Rattle.matrix.proofs.formula.write_share.Tie as tie
+
+mul-n : tie.Need-mul-n
+mul-n c = search needs
+
+write-difference-requires : tie.Need-write-difference-requires
+write-difference-requires c κs = search needs
+
+add-product-requires : tie.Need-add-product-requires
+add-product-requires c κs = search needs
+
+same-length : tie.Need-same-length
+same-length c = search needs
+
+returns : tie.Need-returns
+returns c =
+    let a = c .before .before .before .before .before .before .before .before .before .before .before .before .before .args in
+    let n : ℕ = a .m * a .p in
+    let d : List ℕ = a .out .now in
+    let t : List ℕ = matMul (a .q) (a .m) (a .k) (a .p) (a .x .now) (a .y .now) in
+    c .before .before .add-product .ensures
+    ∙ (ap (λ (o : List ℕ). over (matAdd (a .q) n t o) o) (c .before .before .before .before .before .before .write-difference .ensures)
+    ∙ (onto (a .q) n t (matSub (a .q) n (a .r .now) (a .b .now)) d (sub-count (a .q) n (a .r .now) (a .b .now)) ∙ ap (λ (l : List ℕ). over l d) (difference-sum (a .q) n (c .before .before .before .before .before .before .before .before .before .before .before .before .before .pre .0 .some-q) t (a .r .now) (a .b .now))))
+
+pub write-share-spec : {M : Type 1} → statement M
+write-share-spec =
+    tie.close (tie.spec mul-n write-difference-requires add-product-requires same-length returns)
