@@ -27,18 +27,17 @@ use Rattle.protocol.specs.declared.Terms.{Terms}
 use Rattle.protocol.specs.declared.SolverSession.{SolverSession}
 use Rattle.protocol.specs.declared.BlinderSession.{BlinderSession}
 use Rattle.protocol.specs.Judge.{done}
-use Rattle.protocol.specs.Drawing.{drawTests}
-use Rattle.protocol.specs.Bounds.{product, system, within, columns, allBelow, termsTests}
+use Rattle.protocol.specs.Drawing.{residuesOf}
+use Rattle.protocol.specs.Bounds.{system, columns, allBelow}
 use Rattle.protocol.specs.Tape.{Slot, slotWords, blinder, solver, READY, IN-USE}
-use Rattle.protocol.specs.Message.{Message, messageOf, kindSort, messageLayout, messageSize}
-use Rattle.protocol.specs.Step.{isOpen, laterTests}
-use Rattle.protocol.specs.System.{padded, sideSize, keptS, keptM, keptY, scratchLayout, scratchSize, scratchParts, regularTests, keptTests, blinderTests, solverTests, coinsOf, solverFirstEffect, solverFirstTests, solverFirst, blinderFirstEffect, blinderFirstTests, blinderFirst, solverSecondEffect, solverSecondTests, solverSecond, blinderSecondEffect, blinderSecondTests, blinderSecond}
-use Rattle.protocol.proofs.Judge.{All, Pass, _also_, _next_, nothing, pass-given, accepts}
+use Rattle.protocol.specs.Message.{Message, messageOf, messageLayout, messageSize}
+use Rattle.protocol.specs.System.{padded, sideSize, keptS, keptM, keptY, scratchLayout, scratchSize, scratchParts, coinsOf, solverFirstEffect, solverFirst, blinderFirstEffect, blinderFirst, solverSecondEffect, solverSecond, blinderSecondEffect, blinderSecond}
 use Rattle.protocol.proofs.Slots.{written}
-use Rattle.protocol.proofs.Residues.{residues-input, residues-below, residues-drawn, take-over, parts-over, over-length, zeros-below}
-use Rattle.protocol.proofs.Halves.{Holding, holding-matrices, holding-first, holding-later, holding-used, holding-same}
-use Rattle.protocol.proofs.Messages.{message-parts, message-pass, due-pass}
-use Rattle.protocol.proofs.ProductRight.{room-pass}
+use Rattle.protocol.proofs.Residues.{residues-below, residues-drawn, take-over, parts-over, over-length, zeros-below}
+use Rattle.protocol.proofs.Tests.{TermsFit, draw-tests}
+use Rattle.protocol.proofs.StepTests.{solver-first, blinder-first, solver-second, blinder-second}
+use Rattle.protocol.proofs.Halves.{Holding, holding-matrices, holding-used, holding-same, first-fits, later-fits}
+use Rattle.protocol.proofs.Messages.{message-parts, own-message}
 
 -- n unknowns, and rhs columns of right-hand sides
 abbrev pub wideTerms : SessionId → TapeId → (q n rhs : ℕ) → Terms
@@ -75,7 +74,7 @@ pub record CallsFit (t : Terms) (rhs : ℕ) (i : SystemCalls) : Type 0 where
   pub y-fits : Residues (t .q) (t .m * rhs) (i .y)
   pub l-regular : regular (t .q) (t .m) (i .l) ≡ true
   pub m-regular : regular (t .q) (t .m) (i .mm) ≡ true
-  pub enough : All (drawTests (t .q) (scratchSize t) (i .words))
+  pub enough : scratchSize t ≤ length (residuesOf (t .q) (i .words))
   pub p-regular : regular (t .q) (t .m) (part 0 (scratchParts t (coinsOf t (i .words)))) ≡ true
   pub scratch-room : scratchSize t ≤ length (i .scratch)
   pub message-one : messageSize 1 t ≤ i .room1
@@ -101,9 +100,7 @@ pub record SystemRun (rhs : ℕ) : Type 0 where
   pub b : Slot
   pub calls : SystemCalls
   pub big : 1 < q
-  pub terms-fit : Pass (termsTests system (wideTerms session tape q n rhs))
-  -- kinds 1 and 2 are held to a product's bounds
-  pub product-fit : Pass (termsTests product (wideTerms session tape q n rhs))
+  pub terms-fit : TermsFit system (wideTerms session tape q n rhs)
   pub blinder-half : Holding blinder READY (wideTerms session tape q n rhs) (x0 ∷ a0 ∷ qm ∷ g ∷ []) b
   pub solver-half : Holding solver READY (wideTerms session tape q n rhs) (y0 ∷ dealB q n n (n + rhs) x0 y0 a0 ∷ r ∷ dealV q n r qm g ∷ []) s
   pub fit : CallsFit (wideTerms session tape q n rhs) rhs calls
@@ -225,7 +222,7 @@ module _ {rhs : ℕ} (R : SystemRun rhs) where
 
   pub coins-residues : Residues q (total (scratchLayout t)) coins
   unfolding coins coinsOf scratchSize
-  coins-residues = residues-drawn q (n * n + n * (n + rhs)) words h0 (R .fit .enough)
+  coins-residues = residues-drawn q (n * n + n * (n + rhs)) words h0 (draw-tests _ _ _ .1 (R .fit .enough) .all)
 
   coins-fit : Fits q (n * n ∷ n * (n + rhs) ∷ []) (scratchParts t coins)
   unfolding scratchParts
@@ -345,48 +342,36 @@ module _ {rhs : ℕ} (R : SystemRun rhs) where
   -- ---- the steps are accepted
 
   pub step1 : solverFirst t s l x (R .calls .room1) ≡ done (solverFirstEffect t s l x)
-  unfolding solverFirst solverFirstTests regularTests
-  step1 = accepts _ _
-      ((holding-first solver t _ s (R .solver-half) (R .terms-fit)
-      also record { all = residues-input (R .fit .l-fits) }
-      also record { all = rw side-is (residues-input (R .fit .x-fits)) }
-      also room-pass _ _ (R .fit .message-one)
-      also (R .fit .l-regular next nothing))
-      .all)
+  step1 = solver-first t s l x (R .calls .room1) .accepts (record {
+    first = first-fits (R .solver-half) (R .terms-fit);
+    l-fits = R .fit .l-fits;
+    x-fits = rw side-is (R .fit .x-fits);
+    message-room = R .fit .message-one;
+    l-regular = R .fit .l-regular;
+  })
 
   pub step2 : blinderFirst t b (length scratch) mm y words m1 (R .calls .room2) ≡ done (blinderFirstEffect t b mm y words m1)
-  unfolding blinderFirst blinderFirstTests regularTests m1
-  step2 = accepts _ _
-      ((message-pass 1 t (y1 ∷ []) fits1 (unfold within both in refl) (unfold kindSort in R .product-fit)
-      also holding-first blinder t _ b (R .blinder-half) (R .terms-fit)
-      also due-pass 1 t (y1 ∷ [])
-      also record { all = residues-input (R .fit .m-fits) }
-      also record { all = rw side-is (residues-input (R .fit .y-fits)) }
-      also room-pass _ _ (R .fit .scratch-room)
-      also room-pass _ _ (R .fit .message-two)
-      also record { all = R .fit .enough }
-      also (R .fit .m-regular next nothing)
-      also (R .fit .p-regular next nothing))
-      .all)
-
-  pub solver-pass : (kind : ℕ) (z : SolverSession) (slot : Slot) → Pass (laterTests solver kind (z .due) (z .terms) slot) → allBelow (z .terms .q) (keptS z) ≡ true → Pass (solverTests kind z slot)
-  unfolding solverTests keptTests
-  solver-pass kind z slot a e = a also (e next nothing)
-
-  pub blinder-pass : (kind : ℕ) (z : BlinderSession) (slot : Slot) (u : List ℕ) → Pass (laterTests blinder kind (z .due) (z .terms) slot)
-      → scratchSize (z .terms) ≤ length u → allBelow (z .terms .q) (keptM z) ≡ true → allBelow (z .terms .q) (keptY z) ≡ true → allBelow (z .terms .q) (take (scratchSize (z .terms)) u) ≡ true
-      → Pass (blinderTests kind z slot u)
-  unfolding blinderTests keptTests
-  blinder-pass kind z slot u a e em ey eu = a also pass-given (isOpen (z .due)) _ (room-pass _ _ e) also (em next nothing) also (ey next nothing) also (eu next nothing)
+  unfolding m1
+  step2 = blinder-first t b (length scratch) mm y words m1 (R .calls .room2) .accepts (record {
+    first = first-fits (R .blinder-half) (R .terms-fit);
+    message = own-message 1 t (y1 ∷ []) fits1;
+    m-fits = R .fit .m-fits;
+    y-fits = rw side-is (R .fit .y-fits);
+    scratch-room = R .fit .scratch-room;
+    message-room = R .fit .message-two;
+    enough = R .fit .enough;
+    m-regular = R .fit .m-regular;
+    p-regular = R .fit .p-regular;
+  })
 
   pub step3 : solverSecond solver1 s1 m2 (R .calls .room3) ≡ done (solverSecondEffect solver1 s1 m2)
-  unfolding solverSecond solverSecondTests m2 solver1 keptS
-  step3 = accepts _ _
-      ((message-pass 2 t (x1 ∷ r1 ∷ []) fits2 (unfold within both in refl) (unfold kindSort in R .product-fit)
-      also solver-pass 2 solver1 s1 (holding-later solver 2 t _ s1 hs1 (R .terms-fit) (unfold isOpen in refl)) (zeros-below q 16 (sideSize t) h0)
-      also due-pass 2 t (x1 ∷ r1 ∷ [])
-      also pass-given (isOpen 2) _ (room-pass _ _ (R .fit .message-three)))
-      .all)
+  unfolding m2 solver1 keptS
+  step3 = solver-second solver1 s1 m2 (R .calls .room3) .accepts (record {
+    later = later-fits hs1 (R .terms-fit) (omega arith);
+    message = own-message 2 t (x1 ∷ r1 ∷ []) fits2;
+    s-below = zeros-below q 16 (sideSize t) h0;
+    message-room = R .fit .message-three;
+  })
 
   pub scratch-room : scratchSize t ≤ length (over coins scratch)
   scratch-room =
@@ -404,10 +389,13 @@ module _ {rhs : ℕ} (R : SystemRun rhs) where
   y-below = rw kept-y (residues-below (R .fit .y-fits))
 
   pub step4 : blinderSecond blinder2 b1 (over coins scratch) m3 (R .calls .room4) ≡ done (blinderSecondEffect blinder2 b1 (over coins scratch) m3)
-  unfolding blinderSecond blinderSecondTests m3 blinder2
-  step4 = accepts _ _
-      ((message-pass 3 t (f ∷ []) fits3 (unfold within both in refl) (unfold kindSort in R .terms-fit)
-      also blinder-pass 3 blinder2 b1 (over coins scratch) (holding-later blinder 3 t _ b1 hb1 (R .terms-fit) (unfold isOpen in refl)) scratch-room m-below y-below scratch-below
-      also due-pass 3 t (f ∷ [])
-      also pass-given (isOpen 3) _ (room-pass _ _ (R .fit .message-four)))
-      .all)
+  unfolding m3 blinder2
+  step4 = blinder-second blinder2 b1 (over coins scratch) m3 (R .calls .room4) .accepts (record {
+    later = later-fits hb1 (R .terms-fit) (omega arith);
+    message = own-message 3 t (f ∷ []) fits3;
+    scratch-room = scratch-room;
+    m-below = m-below;
+    y-below = y-below;
+    scratch-below = scratch-below;
+    write-room = R .fit .message-four;
+  })
