@@ -16,7 +16,7 @@ use borrow.Author.Tests.{eq-eqb, ne-eqb}
 use Rattle.algebra.specs.Matrix.{sumTo, Residues, matMul, dot}
 use Rattle.algebra.specs.Count.{bit}
 use Rattle.algebra.specs.Inverse.{idMat}
-use Rattle.algebra.proofs.Congruence.{Cong, cong-eq, cong-trans}
+use Rattle.algebra.proofs.Congruence.{cong-eq, cong-trans}
 use Rattle.algebra.proofs.Sums.{sumTo-ext, sumTo-single}
 use Rattle.algebra.proofs.Lists.{getD-tabulate, tabulate-residues, mul-residues}
 use Rattle.algebra.proofs.Matrix.{matrix-ext, mul-at}

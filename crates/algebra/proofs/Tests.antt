@@ -2,7 +2,7 @@
 --   and-left and-right and-both       both pass, each passes
 --   eqList-eq eqList-of               lists are the same
 --   is-false same-test                a test that does not pass; two tests that pass together
-use mathlib.Core.Path.{_≡_, refl, sym, ap, ap₂, _∙_}
+use mathlib.Core.Path.{_≡_, refl, sym, ap, ap₂}
 use mathlib.Core.Bool.{Bool, true, false, false≢true}
 use mathlib.Core.List.{List, [], _∷_}
 use Prim.Native.Nat.{ℕ, _<_}
