@@ -20,7 +20,8 @@ use Rattle.algebra.proofs.Lists.{zeros-at, zeros-residues, mul-residues
 use Rattle.algebra.proofs.Matrix.{column-ext, mul-assoc}
 use Rattle.algebra.proofs.Identity.{hq, delta, delta-below, id-residues, id-mul}
 use Rattle.algebra.proofs.Inverse.{Inverse, id-inverse, inverse-swap, inverse-mul, cancel-middle}
-use Rattle.algebra.proofs.Elementary.{matrix-at, matrix-residues, step-below, RowEquivalent, Units, step-equivalent, step-units}
+use Rattle.algebra.proofs.RowEquivalence.{matrix-at, matrix-residues, RowEquivalent}
+use Rattle.algebra.proofs.Elementary.{step-below, Units, step-equivalent, step-units}
 use Rattle.algebra.proofs.Elimination.{Pivot, pivot-law}
 
 pub record Carrier (q n : ℕ) (b b′ : List ℕ) : Type 0 where
