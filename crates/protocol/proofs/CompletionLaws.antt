@@ -49,6 +49,11 @@ unfolding both
 both-true true = refl
 both-true false = refl
 
+pub both-assoc : (a b c : Bool) → both (both a b) c ≡ both a (both b c)
+unfolding both
+both-assoc true b c = refl
+both-assoc false b c = refl
+
 -- a test after another counts only where the other passes
 pub both-same : (b x y : Bool) → (b ≡ true → x ≡ y) → both b x ≡ both b y
 unfolding both

@@ -11,7 +11,8 @@ use native.Mathlib.Omega.{arith}
 use borrow.Author.Tests.{leb-true}
 use Rattle.algebra.specs.Matrix.{Residues}
 use Rattle.algebra.specs.Count.{both, eqList, parts, part, join}
-use Rattle.algebra.specs.Product.{dealB, sendY, sendX, sendR, givesRight, givesLeft, rightFillings, leftFillings}
+use Rattle.algebra.specs.Product.{dealB, sendY, sendX, sendR}
+use Rattle.algebra.proofs.Views.{givesRight, givesLeft, rightCompletions, leftCompletions}
 use Rattle.algebra.proofs.Count.{and-left, and-right, and-both, eqList-of}
 use Rattle.algebra.proofs.Lists.{add-residues, sub-residues}
 use Rattle.algebra.proofs.Parts.{Fits, none, _then_}
@@ -136,7 +137,7 @@ module _ (t : Terms) (terms : Pass (termsTests product t)) (input : List (List �
       (simp both-true)
 
   pub left-one : (half : List (List ℕ)) → Fits (t .q) (layout left (t .m) (t .k) (t .p)) half → completions (viewOf left t input half coins sent (a ∷ [])) i ≡ 1
-  unfolding completions y1-received leftFillings
+  unfolding completions y1-received leftCompletions
   left-one half (_then_ {l = x0} rx (_then_ {l = a0} r none)) =
       same-count (t .q) (layout right (t .m) (t .k) (t .p)) _ _ (left-same x0 a0)
       ∙ left-secrecy (t .q) (t .m) (t .k) (t .p) (h0 t terms) x0 a0 y1-received (part 0 i) y1-residues
@@ -180,7 +181,7 @@ module _ (t : Terms) (terms : Pass (termsTests product t)) (input : List (List �
       (simp both-true)
 
   pub right-one : (half : List (List ℕ)) → Fits (t .q) (layout right (t .m) (t .k) (t .p)) half → completions (viewOf right t input half coins (b ∷ sent) (a ∷ [])) i ≡ 1
-  unfolding completions rightFillings y1-sent x1-received r1-received
+  unfolding completions rightCompletions y1-sent x1-received r1-received
   right-one half (_then_ {l = y0} ry (_then_ {l = b0} r none)) =
       same-count (t .q) (t .m * t .k ∷ t .m * t .p ∷ t .m * t .p ∷ []) _ _ (right-same y0 b0)
       ∙ right-secrecy (t .q) (t .m) (t .k) (t .p) (h0 t terms) y0 b0 y1-sent x1-received r1-received (part 0 i) r

@@ -15,7 +15,8 @@ use Rattle.algebra.specs.Inverse.{hasInverse}
 use Rattle.algebra.specs.Prime.{isPrime}
 use Rattle.algebra.specs.Elimination.{regular, solution}
 use Rattle.algebra.specs.Product.{sendY, sendX, sendR}
-use Rattle.algebra.specs.System.{solverShare, sendF, sendW, sendC, SolverView, givesSolver, solverFillings}
+use Rattle.algebra.specs.System.{solverShare, sendF, sendW, sendC}
+use Rattle.algebra.proofs.Views.{SolverView, givesSolver, solverCompletions}
 use Rattle.algebra.proofs.Lists.{add-residues, sub-residues}
 use Rattle.algebra.proofs.Tests.{and-left, and-right, and-both, same-test}
 use Rattle.algebra.proofs.Parts.{Fits, none, _then_, parts-join}
@@ -67,14 +68,14 @@ module _ (session : SessionId) (tape : TapeId) (q n : ℕ) (terms : Pass (termsT
   abbrev t : Terms
   t = systemTerms session tape q n
 
-  prime : isPrime q ≡ true
+  pub prime : isPrime q ≡ true
   unfolding termsTests shapeTests fieldFits
   prime = terms .all .1 .1 .0
 
-  big : 1 < q
+  pub big : 1 < q
   big = modulus-above system t terms
 
-  side-one : sideSize t ≡ n * 1
+  pub side-one : sideSize t ≡ n * 1
   unfolding sideSize
   side-one = rw (columns-are n 1)
 
@@ -244,7 +245,7 @@ module _ (session : SessionId) (tape : TapeId) (q n : ℕ) (terms : Pass (termsT
           ↔ (solution q n (matAdd q (n * n) (part 0 input) (part 0 j)) (matAdd q (n * 1) (part 1 input) (part 1 j)) ≡ zeros (n * 1))
           → completions (viewOf solver t input (y0 ∷ b0 ∷ r ∷ v ∷ []) coins (b1 ∷ b3 ∷ sent) (m2 ∷ m4 ∷ [])) i
           ≡ completions (viewOf solver t input (y0 ∷ b0 ∷ r ∷ v ∷ []) coins (b1 ∷ b3 ∷ sent) (m2 ∷ m4 ∷ [])) j
-      unfolding completions solverFillings
+      unfolding completions solverCompletions
       solver-same i j ti tj hi hj w =
           let s = solves (part 0 input) (part 0 i) (part 1 input) (part 1 i) hi in
           let s′ = solves (part 0 input) (part 0 j) (part 1 input) (part 1 j) hj in
