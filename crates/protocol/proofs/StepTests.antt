@@ -4,11 +4,11 @@
 --   SolverFits (steps 3 and 5), BlinderFits (steps 4 and 6)       solver-second, solver-last, blinder-second, blinder-last
 --   OpenFits (of Tests), DropBlinderFits                          drop-right, drop-solver, drop-blinder
 -- Assumes nothing.
-use mathlib.Core.Path.{_≡_, refl, sym, ap, _∙_}
+use mathlib.Core.Path.{_≡_, refl}
 use mathlib.Core.Logic.{_↔_}
-use mathlib.Core.Bool.{Bool, true}
-use mathlib.Core.List.{List, [], _∷_, _++_}
-use Prim.Native.Nat.{ℕ, _*_, _≤_, _<_}
+use mathlib.Core.Bool.{true}
+use mathlib.Core.List.{List, [], _++_}
+use Prim.Native.Nat.{ℕ, _*_, _≤_}
 use lib.ListN.{length, take}
 use Rattle.algebra.specs.Matrix.{Residues, zeros}
 use Rattle.algebra.specs.Count.{both, part}
@@ -17,16 +17,16 @@ use Rattle.protocol.specs.declared.Terms.{Terms}
 use Rattle.protocol.specs.declared.RightSession.{RightSession}
 use Rattle.protocol.specs.declared.SolverSession.{SolverSession}
 use Rattle.protocol.specs.declared.BlinderSession.{BlinderSession}
-use Rattle.protocol.specs.Judge.{Test, needs, given, judge}
-use Rattle.protocol.specs.Drawing.{residuesOf, drawTests}
-use Rattle.protocol.specs.Bounds.{product, system, within, allBelow, inputTests, roomTests}
+use Rattle.protocol.specs.Judge.{given}
+use Rattle.protocol.specs.Drawing.{residuesOf}
+use Rattle.protocol.specs.Bounds.{system, within, allBelow, roomTests}
 use Rattle.protocol.specs.Tape.{Slot, slotWords, left, right, blinder, solver, wordsSpent}
 use Rattle.protocol.specs.Message.{Message, kindSort, messageSize, messageTests, dueTests}
-use Rattle.protocol.specs.Step.{firstTests, isOpen, openTests, laterTests}
+use Rattle.protocol.specs.Step.{isOpen}
 use Rattle.protocol.specs.Product.{closedRight, rightFirstEffect, rightFirstTests, rightFirst, leftEffect, leftTests, leftStep, rightLastEffect, rightLastTests, rightLast}
 use Rattle.protocol.specs.System.{closedSolver, closedBlinder, sideSize, keptS, keptM, keptY, scratchSize, scratchParts, regularTests, keptTests, blinderTests, solverTests, coinsOf, solverFirstEffect, solverFirstTests, solverFirst, blinderFirstEffect, blinderFirstTests, blinderFirst, solverSecondEffect, solverSecondTests, solverSecond, blinderSecondEffect, blinderSecondTests, blinderSecond, solverLastEffect, solverLastTests, solverLast, blinderLastEffect, blinderLastTests, blinderLast}
 use Rattle.protocol.specs.Drop.{dropped, dropRight, dropSolver, dropBlinder}
-use Rattle.protocol.proofs.Judge.{Pass, _also_, _next_, nothing, split, here, rest, pass-given, given-pass}
+use Rattle.protocol.proofs.Judge.{Pass, _also_, _next_, nothing, split, here, pass-given, given-pass}
 use Rattle.protocol.proofs.Tests.{Decides, decides, TermsFit, product-of-system, FirstFits, first-tests, open-due, OpenFits, open-tests, LaterFits, later-tests, MessageFits, message-facts, message-own, message-due, input-tests, room-tests, draw-tests}
 
 -- ---- a product

@@ -5,14 +5,14 @@
 --   sent1 .. sent4, step1 .. step4   the steps of a run
 -- That L and M have an inverse is used for the tests of steps 1 and 2 alone.
 -- Assumes nothing.
-use mathlib.Core.Path.{_≡_, refl, sym, ap, ap₂, _∙_, subst}
-use mathlib.Core.Bool.{Bool, true, false, cond}
-use mathlib.Core.List.{List, [], _∷_, _++_}
+use mathlib.Core.Path.{_≡_}
+use mathlib.Core.Bool.{true}
+use mathlib.Core.List.{List, [], _∷_}
 use Prim.Native.Nat.{ℕ, _+_, _*_, _≤_, _<_}
 use native.Mathlib.Omega.{arith}
 use lib.ListN.{length, take}
 use Rattle.algebra.specs.Matrix.{Residues, zeros}
-use Rattle.algebra.specs.Count.{both, part, total}
+use Rattle.algebra.specs.Count.{part, total}
 use Rattle.algebra.specs.Columns.{beside}
 use Rattle.algebra.specs.Words.{over}
 use Rattle.algebra.specs.Elimination.{regular}

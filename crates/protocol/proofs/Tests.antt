@@ -6,26 +6,24 @@
 --   MessageFits                 a message of the kind that is due, of the session
 --   input-tests, room-tests, draw-tests   a slice of residues, room to write, enough words
 -- Assumes nothing.
-use mathlib.Core.Path.{_≡_, refl, sym, ap, ap₂, _∙_, subst}
+use mathlib.Core.Path.{_≡_, refl, sym, ap, _∙_, subst}
 use mathlib.Core.Logic.{_↔_}
-use mathlib.Core.Bool.{Bool, true, false, cond, not}
-use mathlib.Core.List.{List, [], _∷_, _++_}
+use mathlib.Core.Bool.{true}
+use mathlib.Core.List.{List}
 use Prim.Native.Nat.{ℕ, zero, suc, _+_, _*_, _≤_, _<_}
 use native.Mathlib.Nat.{mul-le-mul}
 use native.Mathlib.Omega.{arith}
-use lib.Dec.{eqb, eqb·suc-zero}
+use lib.Dec.{eqb·suc-zero}
 use lib.ListN.{length, getD, take, drop, length-drop}
 use lib.Seq.{length-take-le}
 use borrow.Author.Tests.{eq-eqb, eqb-true, le-leb, leb-true}
 use Rattle.algebra.specs.Matrix.{Residues}
-use Rattle.algebra.specs.Count.{both, parts, join, total}
+use Rattle.algebra.specs.Count.{total}
 use Rattle.algebra.proofs.Tests.{and-left, and-right, and-both}
-use Rattle.algebra.proofs.Parts.{Fits, fits-join, fits-parts, join-parts}
-use Rattle.protocol.specs.declared.SessionId.{SessionId}
-use Rattle.protocol.specs.declared.TapeId.{TapeId}
+use Rattle.algebra.proofs.Parts.{Fits, fits-join, fits-parts}
 use Rattle.protocol.specs.declared.Terms.{Terms}
 use Rattle.protocol.specs.declared.Head.{Head}
-use Rattle.protocol.specs.Judge.{Test, needs, given, Judged, done, judge}
+use Rattle.protocol.specs.Judge.{Test, Judged, done, judge}
 use Rattle.protocol.specs.Drawing.{residuesOf, drawTests}
 use Rattle.protocol.specs.Bounds.{largestModulus, longestSide, longestInner, mostResidues, mostUnknowns, within, allBelow, Sort, product, system, fieldFits, sidesFit, shapeTests, termsTests, inputTests, roomTests}
 use Rattle.protocol.specs.Tape.{Slot, isSlot, slotWords, tapeAt, sortAt, qAt, mAt, kAt, pAt, sortNumber, headerSize, READY, IN-USE, Role, sortOf, layout, bodySize, tapeSize, statusOf, body, matrices, slotTests, halfTests, tapeTests, bodyTests}
