@@ -17,10 +17,10 @@ use Rattle.algebra.specs.Elimination.{pivot, step, entry, matrix}
 use Rattle.algebra.proofs.Congruence.{cong-eq}
 use Rattle.algebra.proofs.Tests.{eqList-eq, eqList-of}
 use Rattle.algebra.proofs.Lists.{zeros-at, zeros-residues, mul-residues}
-use Rattle.algebra.proofs.Matrix.{column-ext, mul-assoc}
+use Rattle.algebra.proofs.Matrix.{matrix-at, matrix-residues, column-ext, mul-assoc}
 use Rattle.algebra.proofs.Identity.{hq, delta, delta-below, id-residues, id-mul}
 use Rattle.algebra.proofs.Inverse.{Inverse, id-inverse, inverse-swap, inverse-mul, cancel-middle}
-use Rattle.algebra.proofs.RowEquivalence.{matrix-at, matrix-residues, RowEquivalent}
+use Rattle.algebra.proofs.RowEquivalence.{RowEquivalent}
 use Rattle.algebra.proofs.Elementary.{step-below, Units, step-equivalent, step-units}
 use Rattle.algebra.proofs.Elimination.{Pivot, pivot-law}
 
@@ -54,14 +54,14 @@ module _ {q : ℕ} (p : Prime q) (n : ℕ) where
 
       go : Dec (r < n) → RowEquivalent q n 1 b (unitVector n)
       go (no l) = absurd (nonzero (column-ext h n rb (zeros-residues h (n * 1)) (λ i hi.
-          cong-eq (unfold entry in law .passed i (omega arith) (omega arith) ∙ sym (zeros-at (n * 1) (i * 1 + 0) (omega arith))))))
+          cong-eq (law .passed i (omega arith) (omega arith) ∙ sym (zeros-at (n * 1) (i * 1 + 0) (omega arith))))))
       go (yes l) = rw (sym is-unit) (step-equivalent p n 1 0 r b (omega arith) l (omega arith) rb (law .found l))
         where
           units : Units n 1 1 next
           units = step-units p n 1 0 r b (omega arith) (omega arith) l (omega arith) rb (law .found l) (record { at = λ i j hi hj. absurd (omega arith) })
 
           is-unit : next ≡ unitVector n
-          is-unit = unfold unitVector in column-ext h n (matrix-residues n 1 _ (step-below h 0 r (entry 1 b))) (matrix-residues n 1 _ (λ i j. delta-below (p .two) i 0)) (λ i hi.
+          is-unit = unfold unitVector in column-ext h n (matrix-residues n 1 (step q 0 r (entry 1 b)) (λ i j hi hj. step-below h 0 r (entry 1 b) i j)) (matrix-residues n 1 (λ i j. delta i 0) (λ i j hi hj. delta-below (p .two) i 0)) (λ i hi.
               cong-eq (units .at i 0 hi (omega arith) ∙ sym (matrix-at n 1 (λ x y. delta x 0) i 0 hi (omega arith))))
 
   carrier-nonzero : {b b′ : List ℕ} → Residues q (n * 1) b → Residues q (n * 1) b′ → ((b ≡ zeros (n * 1)) → ⊥) → ((b′ ≡ zeros (n * 1)) → ⊥) → Carrier q n b b′

@@ -2,14 +2,13 @@
 --   delta i j            its entry in row i and column j, with `sum-delta`: a sum against a row of it has one term
 --   id-delta             the entries of `idMat`
 --   id-mul, mul-id       it is neutral on either side
-use mathlib.Core.Path.{_≡_, refl, sym, ap, ap₂, _∙_}
+use mathlib.Core.Path.{_≡_, refl, sym, ap, _∙_}
 use mathlib.Core.Bool.{Bool, true, false}
 use mathlib.Core.List.{List}
-use Prim.Native.Nat.{ℕ, _+_, _*_, _/_, _%_, _<_}
+use Prim.Native.Nat.{ℕ, _+_, _*_, _<_}
 use native.Mathlib.Nat.{one-mul, zero-mul}
 use native.Mathlib.Decide.{ℕ-discrete}
 use native.Mathlib.Omega.{arith}
-use lib.Arith.{digits-lt, digits-div, digits-mod}
 use lib.Dec.{eqb}
 use lib.ListN.{getD}
 use borrow.Author.Tests.{eq-eqb, ne-eqb}
@@ -18,8 +17,8 @@ use Rattle.algebra.specs.Count.{bit}
 use Rattle.algebra.specs.Inverse.{idMat}
 use Rattle.algebra.proofs.Congruence.{cong-eq, cong-trans}
 use Rattle.algebra.proofs.Sums.{sumTo-ext, sumTo-single}
-use Rattle.algebra.proofs.Lists.{getD-tabulate, tabulate-residues, mul-residues}
-use Rattle.algebra.proofs.Matrix.{matrix-ext, mul-at}
+use Rattle.algebra.proofs.Lists.{mul-residues}
+use Rattle.algebra.proofs.Matrix.{matrix-at, matrix-residues, matrix-ext, mul-at}
 
 -- 1 where i is j, and 0 elsewhere
 unfoldable pub delta : ℕ → ℕ → ℕ
@@ -42,9 +41,7 @@ sum-delta n i f h =
 
 pub id-delta : (n i j : ℕ) → i < n → j < n → getD (idMat n) (i * n + j) 0 ≡ delta i j
 unfolding idMat delta
-id-delta n i j hi hj =
-    getD-tabulate (n * n) (λ e. bit (eqb (e / n) (e % n))) (i * n + j) (digits-lt hi hj)
-    ∙ ap₂ (λ r c. bit (eqb r c)) (digits-div i hj) (digits-mod i hj)
+id-delta n i j hi hj = matrix-at n n (λ x y. bit (eqb x y)) i j hi hj
 
 module _ {q : ℕ} (h1 : 1 < q) where
   pub hq : 0 < q
@@ -60,7 +57,7 @@ module _ {q : ℕ} (h1 : 1 < q) where
 
   pub id-residues : (n : ℕ) → Residues q (n * n) (idMat n)
   unfolding idMat delta
-  id-residues n = tabulate-residues q (n * n) _ (λ e l. delta-below (e / n) (e % n))
+  id-residues n = matrix-residues n n (λ i j. bit (eqb i j)) (λ i j hi hj. delta-below i j)
 
   pub id-mul : (n p : ℕ) {a : List ℕ} → Residues q (n * p) a → matMul q n n p (idMat n) a ≡ a
   unfolding dot
