@@ -1,0 +1,58 @@
+-- The two sorts of message: `few`, the bound on a message's residues; `size-1` to `size-5`, its residues by kind. Assumes nothing.
+use mathlib.Core.Path.{_≡_}
+use mathlib.Core.Bool.{true}
+use Prim.Native.Nat.{ℕ, _+_, _*_, _≤_, _<_}
+use native.Mathlib.Nat.{mul-le-mul, mul-le-mul-left}
+use native.Mathlib.Omega.{arith}
+use borrow.Author.Tests.{lt-ltb, le-ltb, ne-eqb, leb-true, eqb-true}
+use Rattle.algebra.proofs.Count.{and-left, and-right}
+use Rattle.protocol.specs.declared.Terms.{Terms}
+use Rattle.protocol.specs.Bounds.{Sort, product, system, within, sidesFit, columns}
+use Rattle.protocol.specs.Message.{kindSort, messageLayout, messageSize}
+use Rattle.checks.proofs.Sides.{sides}
+
+pub product-kind : (kind : ℕ) → kind ≤ 2 → kindSort kind ≡ product
+unfolding kindSort
+product-kind kind h = rw (le-ltb 2 kind h)
+
+pub system-kind : (kind : ℕ) → 2 < kind → kindSort kind ≡ system
+unfolding kindSort
+system-kind kind h = rw (lt-ltb 2 kind h)
+
+system-few : (m k p : ℕ) → sidesFit system m k p ≡ true → m * k + m * p ≤ 4096
+unfolding within sidesFit
+system-few m k p e =
+    let hm = leb-true m 16 (and-right _ _ (and-left _ _ e)) in
+    let hk = eqb-true k m (and-left _ _ (and-right _ _ e)) in
+    let hp = eqb-true p (m + 1) (and-right _ _ (and-right _ _ e)) in
+    omega (arith, mul-le-mul {n₁ = m} {m₁ = k} {n₂ = 16} {m₂ = 16} hm (omega arith), mul-le-mul {n₁ = m} {m₁ = p} {n₂ = 16} {m₂ = 17} hm (omega arith))
+
+pub few : (sort : Sort) (m k p : ℕ) → sidesFit sort m k p ≡ true → m * k + m * p ≤ 4096
+few product m k p e = let s = sides m k p e in omega (arith, s .few-mk, s .few-mp)
+few system m k p e = system-few m k p e
+
+-- right-hand sides have no more columns than Y
+pub few-columns : (m p : ℕ) → m * columns m p ≤ m * p
+unfolding columns
+few-columns m p = mul-le-mul-left m (omega arith)
+
+module _ (t : Terms) where
+  pub size-1 : t .k * t .p ≡ messageSize 1 t
+  unfolding messageSize messageLayout
+  size-1 = omega arith
+
+  pub size-2 : t .m * t .k + t .m * t .p ≡ messageSize 2 t
+  unfolding messageSize messageLayout
+  size-2 = omega arith
+
+  pub size-3 : t .m * t .k ≡ messageSize 3 t
+  unfolding messageSize messageLayout
+  size-3 = omega arith
+
+  pub size-4 : t .m * t .k + t .m * columns (t .m) (t .p) ≡ messageSize 4 t
+  unfolding messageSize messageLayout
+  size-4 = omega arith
+
+  pub size-5 : (kind : ℕ) → (kind ≡ 1 → ⊥) → (kind ≡ 2 → ⊥) → (kind ≡ 3 → ⊥) → (kind ≡ 4 → ⊥) → t .m * columns (t .m) (t .p) ≡ messageSize kind t
+  unfolding messageSize messageLayout
+  size-5 kind a b c d = rw (ne-eqb kind 1 a, ne-eqb kind 2 b, ne-eqb kind 3 c, ne-eqb kind 4 d) (omega arith)

@@ -1,0 +1,163 @@
+// The checks of a message by its head and the count of its residues.
+//   check_head   what a message shows by itself, all but its residues: 1, 2, 3 and 4
+//   check_terms  that it is of a session
+use checks::Check;
+use matrix::Matrix;
+use protocol::Head;
+use protocol::Refusal;
+use protocol::Terms;
+ghost use mathlib.Core.Path.{_≡_};
+ghost use Prim.Native.Nat.{_+_, _*_, _≤_};
+ghost use Rattle.protocol.specs.Bounds.{within, fieldFits, sidesFit, system, columns};
+ghost use Rattle.protocol.specs.Message.{kindSort, messageSize};
+ghost use Rattle.checks.specs.InOrder.{checked, verdict};
+ghost use Rattle.message.specs.Groups.{headTests, messageSizes, sameTerms};
+
+pub fn kind_known(kind: u32) -> bool
+    ensures { λ r. ⌜ r ≡ within 1 5 kind ⌝ }
+{
+    if kind < 1 {
+        return false;
+    }
+    if 5 < kind {
+        return false;
+    }
+    true
+}
+
+// Kinds 3 to 5 are of systems, whose modulus is prime.
+pub fn field_fits(kind: u32, q: u32) -> bool
+    ensures { λ r. ⌜ r ≡ fieldFits (kindSort kind) q ⌝ }
+{
+    if kind <= 2 {
+        return true;
+    }
+    field::is_prime(q)
+}
+
+pub fn system_sides_fit(m: u32, k: u32, p: u32) -> bool
+    ensures { λ r. ⌜ r ≡ sidesFit system m k p ⌝ }
+{
+    if m < 1 {
+        return false;
+    }
+    if 16 < m {
+        return false;
+    }
+    if k != m {
+        return false;
+    }
+    if p != m + 1 {
+        return false;
+    }
+    true
+}
+
+pub fn sides_fit(kind: u32, m: u32, k: u32, p: u32) -> bool
+    ensures { λ r. ⌜ r ≡ sidesFit (kindSort kind) m k p ⌝ }
+{
+    if kind <= 2 {
+        return Matrix::sides_fit(m, k, p);
+    }
+    system_sides_fit(m, k, p)
+}
+
+// The columns of right-hand sides of a system.
+fn columns(m: u32, p: u32) -> u32
+    ensures { λ r. ⌜ r ≡ columns m p ⌝ }
+{
+    if p < m {
+        return 0;
+    }
+    p - m
+}
+
+// How many residues a message has.
+pub fn size(kind: u32, t: Terms) -> usize
+    requires { ⌜ t .m * t .k + t .m * t .p ≤ 4096 ⌝ }
+    ensures { λ r. ⌜ r ≡ messageSize kind t ⌝ }
+{
+    if kind == 1 {
+        return checks::times(t.k, t.p);
+    }
+    if kind == 2 {
+        return checks::times(t.m, t.k) + checks::times(t.m, t.p);
+    }
+    if kind == 3 {
+        return checks::times(t.m, t.k);
+    }
+    let right = columns(t.m, t.p);
+    if kind == 4 {
+        return checks::times(t.m, t.k) + checks::times(t.m, right);
+    }
+    checks::times(t.m, right)
+}
+
+// Its own numbers, with `count` residues.
+pub fn check_sizes(a: Head, count: usize) -> Check
+    ensures { λ r. ⌜ checked r ≡ verdict (messageSizes a count) ⌝ }
+{
+    let t = a.terms;
+    let session = t.session;
+    let tape = t.tape;
+    if session.0 < 1 {
+        return Check::Refused(Refusal::Size);
+    }
+    if !sides_fit(a.kind, t.m, t.k, t.p) {
+        return Check::Refused(Refusal::Size);
+    }
+    if tape.0 < 1 {
+        return Check::Refused(Refusal::Size);
+    }
+    if count != size(a.kind, t) {
+        return Check::Refused(Refusal::Size);
+    }
+    Check::Passed
+}
+
+// Its kind, its modulus and its sizes, with `count` residues: the lowest refusal that applies.
+pub fn check_head(a: Head, count: usize) -> Check
+    ensures { λ r. ⌜ checked r ≡ verdict (headTests a count) ⌝ }
+{
+    let t = a.terms;
+    if !kind_known(a.kind) {
+        return Check::Refused(Refusal::Form);
+    }
+    if !checks::modulus_fits(t.q) {
+        return Check::Refused(Refusal::Modulus);
+    }
+    if !field_fits(a.kind, t.q) {
+        return Check::Refused(Refusal::Composite);
+    }
+    check_sizes(a, count)
+}
+
+// It is of the session.
+pub fn check_terms(a: Head, t: Terms) -> Check
+    ensures { λ r. ⌜ checked r ≡ verdict (sameTerms a t) ⌝ }
+{
+    let b = a.terms;
+    let sent = b.session;
+    let own = t.session;
+    if sent.0 != own.0 {
+        return Check::Refused(Refusal::Stranger);
+    }
+    let sent_tape = b.tape;
+    let own_tape = t.tape;
+    if sent_tape.0 != own_tape.0 {
+        return Check::Refused(Refusal::Stranger);
+    }
+    if b.q != t.q {
+        return Check::Refused(Refusal::Stranger);
+    }
+    if b.m != t.m {
+        return Check::Refused(Refusal::Stranger);
+    }
+    if b.k != t.k {
+        return Check::Refused(Refusal::Stranger);
+    }
+    if b.p != t.p {
+        return Check::Refused(Refusal::Stranger);
+    }
+    Check::Passed
+}
