@@ -1,7 +1,6 @@
 -- Words written over a list of words: what a step writes into a slice, and what stays.
 --   over       words over the start of a list
 --   writtenAt  words over a list from a position on
--- Assumes nothing.
 use mathlib.Core.List.{List, _++_}
 use Prim.Native.Nat.{ℕ}
 use lib.ListN.{length, take, drop}

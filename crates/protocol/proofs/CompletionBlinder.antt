@@ -23,7 +23,7 @@ use Rattle.algebra.proofs.Parts.{Fits, none, _then_, fits-parts, parts-join, jo
 use Rattle.algebra.proofs.Prime.{prime-test}
 use Rattle.algebra.proofs.Inverse.{hq}
 use Rattle.algebra.proofs.Elimination.{regular-inverse, solution-solves}
-use Rattle.algebra.proofs.Blinder.{blinder-start, blinder-open, HonestB, blinder-end}
+use Rattle.algebra.proofs.Blinder.{blinder-start, blinder-open, HonestBlinder, blinder-end}
 use Rattle.protocol.specs.declared.SessionId.{SessionId}
 use Rattle.protocol.specs.declared.TapeId.{TapeId}
 use Rattle.protocol.specs.declared.Terms.{Terms}
@@ -232,7 +232,7 @@ module _ (session : SessionId) (tape : TapeId) (q n : ℕ) (terms : Pass (termsT
         cut-second : cut 4 b4 ≡ second
         cut-second = ap (λ (z : List (List ℕ)). cut 4 (part 1 z)) both-sent ∙ parts-join second-fits
 
-        honest : HonestB q n 1 (seen x0 a0 qm g coins b2 b4 m1 m3 m5) (part 0 input) (part 1 input)
+        honest : HonestBlinder q n 1 (seen x0 a0 qm g coins b2 b4 m1 m3 m5) (part 0 input) (part 1 input)
         unfolding first second
         honest = record {
           x1-is = ap (part 0) cut-first;

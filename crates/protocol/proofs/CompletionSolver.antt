@@ -23,8 +23,7 @@ use Rattle.algebra.proofs.Parts.{Fits, none, _then_, parts-join}
 use Rattle.algebra.proofs.Prime.{prime-test}
 use Rattle.algebra.proofs.Elimination.{regular-inverse, solution-solves}
 use Rattle.algebra.proofs.Inverse.{hq}
-use Rattle.algebra.proofs.Reduce.{Honest}
-use Rattle.algebra.proofs.Secrecy.{solver-view}
+use Rattle.algebra.proofs.Solver.{HonestSolver, solver-view}
 use Rattle.protocol.specs.declared.SessionId.{SessionId}
 use Rattle.protocol.specs.declared.TapeId.{TapeId}
 use Rattle.protocol.specs.declared.Terms.{Terms}
@@ -221,7 +220,7 @@ module _ (session : SessionId) (tape : TapeId) (q n : ℕ) (terms : Pass (termsT
       f-is : part 0 (cut 3 b3) ≡ f-own
       f-is = ap (λ (z : List (List ℕ)). part 0 (cut 3 (part 1 z))) two-own ∙ ap (part 0) (parts-join f-fits)
 
-      honest : Honest q n 1 (seen y0 b0 r v) (part 0 input) (part 1 input)
+      honest : HonestSolver q n 1 (seen y0 b0 r v) (part 0 input) (part 1 input)
       unfolding y1-own f-own
       honest = record {
         l-size = input-residues q (n * n) (part 0 input) (taken-pair t input own .matrix) .size;
