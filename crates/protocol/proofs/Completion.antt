@@ -23,7 +23,7 @@ use Rattle.protocol.specs.View.{View, facing, coinLayout, kindsSent, Fin
 use Rattle.protocol.specs.Completion.{messagesOf, coinsFit, completions, Taken, Counted, solutionFor, answerSeen, Secret}
 use Rattle.protocol.proofs.Judge.{Pass}
 use Rattle.protocol.proofs.SystemSteps.{systemTerms}
-use Rattle.protocol.proofs.CompletionLaws.{viewOf, nothing-received}
+use Rattle.protocol.proofs.CompletionLaws.{halfSlot, viewOf, nothing-received}
 use Rattle.protocol.proofs.CompletionProduct.{left-one, right-one}
 use Rattle.protocol.proofs.CompletionSolver.{solver-open, solver-same}
 use Rattle.protocol.proofs.CompletionBlinder.{blinder-started, blinder-heard, blinder-ended}
@@ -55,7 +55,7 @@ pub record Kept (v : View) : Type 0 where
   pub input-taken : Taken (v .role) (v .terms) (v .input)
   pub coins-residues : Residues (v .terms .q) (total (coinLayout (v .role) (v .terms))) (v .coins)
   pub coins-fit : coinsFit (v .role) (v .terms) (parts (coinLayout (v .role) (v .terms)) (v .coins)) ≡ true
-  pub sent-is : v .sent ≡ messagesOf (v .role) (v .terms) (v .half) (v .coins) (v .input) (v .received)
+  pub sent-is : v .sent ≡ messagesOf (v .role) (v .terms) (halfSlot (v .role) (v .terms) (v .half)) (v .coins) (v .input) (v .received)
 
 pub record Arises (v : View) : Type 0 where
   pub terms-fit : Pass (termsTests (sortOf (v .role)) (v .terms))
@@ -135,7 +135,7 @@ solver-secret session tape q n input half coins sent received terms fits s no-mo
 }
 solver-secret session tape q n input half coins sent received terms fits no-more (r before m) turn kept = absurd (omega (arith, turn))
 solver-secret session tape q n input half coins sent received terms fits (_before_ {a = b1} {as′ = later} r1 s) (_before_ {a = m2} r2 no-more) turn kept = record {
-  unfinished = λ u i j ci cj. solver-open session tape q n terms input half coins b1 m2 later r1 i j (ci .taken) (cj .taken);
+  unfinished = λ u i j ci cj. solver-open session tape q n terms input coins b1 m2 later r1 half fits i j (ci .taken) (cj .taken);
   finished-product = λ e. not-product e;
   finished-blinder = λ e. never e (λ e. cc);
   other-solution = λ e. never e (λ e. cc);
@@ -168,8 +168,8 @@ blinder-secret session tape q n input half coins sent received terms fits mask s
 blinder-secret session tape q n input half coins sent received terms (_then_ {l = x0} rx (_then_ {l = a0} ra (_then_ {l = qm} rq (_then_ {l = g} rg none)))) mask s
     (_before_ {a = m1} r1 no-more) turn kept = record {
       unfinished = λ u i j ci cj.
-          blinder-started session tape q n terms input x0 a0 qm g coins mask i (ci .taken) m1 r1 sent
-          ∙ sym (blinder-started session tape q n terms input x0 a0 qm g coins mask j (cj .taken) m1 r1 sent);
+          blinder-started session tape q n terms input x0 a0 qm g coins (rx then ra then rq then rg then none) mask i (ci .taken) m1 r1 sent
+          ∙ sym (blinder-started session tape q n terms input x0 a0 qm g coins (rx then ra then rq then rg then none) mask j (cj .taken) m1 r1 sent);
       finished-product = λ e. not-product e;
       finished-blinder = λ e f. absurd (omega (arith, f));
       other-solution = λ e f. absurd (omega (arith, f));
@@ -179,8 +179,8 @@ blinder-secret session tape q n input half coins sent received terms fits mask n
 blinder-secret session tape q n input half coins sent received terms (_then_ {l = x0} rx (_then_ {l = a0} ra (_then_ {l = qm} rq (_then_ {l = g} rg none)))) mask
     (_before_ {a = b2} {as′ = later} r2 s) (_before_ {a = m1} r1 (_before_ {a = m3} r3 no-more)) turn kept = record {
       unfinished = λ u i j ci cj.
-          blinder-heard session tape q n terms input x0 a0 qm g coins mask i (ci .taken) m1 m3 b2 r1 r3 r2 later
-          ∙ sym (blinder-heard session tape q n terms input x0 a0 qm g coins mask j (cj .taken) m1 m3 b2 r1 r3 r2 later);
+          blinder-heard session tape q n terms input x0 a0 qm g coins (rx then ra then rq then rg then none) mask i (ci .taken) m1 m3 b2 r1 r3 r2 later
+          ∙ sym (blinder-heard session tape q n terms input x0 a0 qm g coins (rx then ra then rq then rg then none) mask j (cj .taken) m1 m3 b2 r1 r3 r2 later);
       finished-product = λ e. not-product e;
       finished-blinder = λ e f. absurd (omega (arith, f));
       other-solution = λ e f. absurd (omega (arith, f));
@@ -202,7 +202,7 @@ blinder-secret session tape q n input half coins sent received terms (_then_ {l 
     ended : Finished v → (i : List (List ℕ)) → Counted v i → completions v i ≡ bit (eqList (solutionFor v i) (answerSeen v))
     ended f i c =
         let k = kept f in
-        blinder-ended session tape q n terms input x0 a0 qm g coins mask i (c .taken) m1 m3 m5 b2 b4 r1 r3 r5 r2 r4 [] (rx then ra then rq then rg then none) (k .input-taken)
+        blinder-ended session tape q n terms input x0 a0 qm g coins (rx then ra then rq then rg then none) mask i (c .taken) m1 m3 m5 b2 b4 r1 r3 r5 r2 r4 [] (k .input-taken)
         (k .coins-residues) (k .coins-fit) (k .sent-is) (c .sum)
 
 -- ---- every view

@@ -3,7 +3,7 @@
 -- blinder-started   after message 1
 -- blinder-heard     after message 3
 -- blinder-ended     after message 5
-use mathlib.Core.Path.{_≡_, refl, sym, ap, ap₂, _∙_, subst}
+use mathlib.Core.Path.{_≡_, refl, sym, ap, _∙_, subst}
 use mathlib.Core.Bool.{Bool, true, false, cond}
 use mathlib.Core.List.{List, [], _∷_}
 use Prim.Native.Nat.{ℕ, _+_, _*_, _^_, _<_}
@@ -27,19 +27,24 @@ use Rattle.algebra.proofs.Blinder.{blinder-start, blinder-open, HonestBlinder, 
 use Rattle.protocol.specs.declared.SessionId.{SessionId}
 use Rattle.protocol.specs.declared.TapeId.{TapeId}
 use Rattle.protocol.specs.declared.Terms.{Terms}
+use Rattle.protocol.specs.Judge.{Judged}
 use Rattle.protocol.specs.Drawing.{wordsFor}
 use Rattle.protocol.specs.Bounds.{system, columns, termsTests}
-use Rattle.protocol.specs.Tape.{blinder, solver, layout}
+use Rattle.protocol.specs.Tape.{blinder, solver, READY, layout}
+use Rattle.protocol.specs.Deal.{Dealt}
 use Rattle.protocol.specs.Message.{messageLayout, messageSize}
 use Rattle.protocol.specs.System.{sideSize, scratchLayout}
-use Rattle.protocol.specs.Completion.{dealtSlot, blinderMessages, eqLists, dealtTogether, isCompletion, completions, Taken}
+use Rattle.protocol.specs.Completion.{dealing, dealtSlot, dealtTogether, blinderMessages, eqLists, isCompletion, completions, Taken}
 use Rattle.protocol.proofs.Judge.{Pass}
 use Rattle.protocol.proofs.Residues.{input-residues}
 use Rattle.protocol.proofs.SystemSteps.{systemTerms, columns-are}
 use Rattle.protocol.proofs.SystemRight.{product-terms}
-use Rattle.protocol.proofs.CompletionLaws.{same-count, both-true, both-assoc, dealt-alone, message-fits, first-test, viewOf}
-use Rattle.protocol.proofs.CompletionProduct.{first-of, second-of, third-of}
-use Rattle.protocol.proofs.CompletionSystem.{dealt-system, taken-pair, solver-first, solver-second, solver-last, blinder-second}
+use Rattle.protocol.proofs.Halves.{Holding}
+use Rattle.protocol.proofs.Tests.{terms-tests}
+use Rattle.protocol.proofs.CompletionDealt.{blinder-dealt, solver-held}
+use Rattle.protocol.proofs.CompletionLaws.{same-count, both-true, both-assoc, both-same, dealt-alone, message-fits, first-test, halfSlot, viewOf}
+use Rattle.protocol.proofs.CompletionProduct.{first-of, second-of, third-of, fourth-of}
+use Rattle.protocol.proofs.CompletionSystem.{taken-pair, solver-first, solver-second, solver-last, blinder-second}
 use Rattle.protocol.proofs.CompletionSolver.{prime, big, side-one}
 
 module _ (session : SessionId) (tape : TapeId) (q n : ℕ) (terms : Pass (termsTests system (systemTerms session tape q n))) where
@@ -78,7 +83,8 @@ module _ (session : SessionId) (tape : TapeId) (q n : ℕ) (terms : Pass (termsT
     t = part 0 (cut 5 m5);
   }
 
-  module _ (input : List (List ℕ)) (x0 a0 qm g coins : List ℕ) (q-regular : regular q n qm ≡ true) (i : List (List ℕ)) (ti : Taken solver t i) where
+  module _ (input : List (List ℕ)) (x0 a0 qm g coins : List ℕ) (own-fits : Fits q (layout blinder n n (n + 1)) (x0 ∷ a0 ∷ qm ∷ g ∷ [])) (q-regular : regular q n qm ≡ true)
+      (i : List (List ℕ)) (ti : Taken solver t i) where
     y1-of : (y0 : List ℕ) → List ℕ
     y1-of y0 = sendY q n n (n + 1) (beside n n 1 (part 0 i) (part 1 i)) y0
 
@@ -86,10 +92,24 @@ module _ (session : SessionId) (tape : TapeId) (q n : ℕ) (terms : Pass (termsT
     unfolding messageLayout y1-of sendY
     y1-fits y0 = sub-residues h0 _ _ _ then none
 
-    -- the dealer's rules, with Q known to have an inverse
-    dealt : (y0 b0 r v : List ℕ) → dealtTogether system t (x0 ∷ a0 ∷ qm ∷ g ∷ []) (y0 ∷ b0 ∷ r ∷ v ∷ [])
-        ≡ both (eqList b0 (dealB q n n (n + 1) x0 y0 a0)) (eqList v (dealV q n r qm g))
-    dealt y0 b0 r v = dealt-system t x0 a0 qm g y0 b0 r v ∙ rw (q-regular, both-true) refl
+    -- ---- the dealing, with Q known to have an inverse
+    abbrev o : (y0 r : List ℕ) → Judged Dealt
+    o y0 r = dealing system t (x0 ∷ y0 ∷ a0 ∷ qm ∷ r ∷ g ∷ [])
+
+    abbrev dealt-test : (y0 b0 r v : List ℕ) → Bool
+    dealt-test y0 b0 r v = dealtTogether blinder t (o y0 r) (x0 ∷ a0 ∷ qm ∷ g ∷ []) (y0 ∷ b0 ∷ r ∷ v ∷ [])
+
+    dealt : (y0 b0 r v : List ℕ) → Residues q (n * (n + 1)) y0 → Residues q (n * n) r
+        → dealt-test y0 b0 r v ≡ both (eqList b0 (dealB q n n (n + 1) x0 y0 a0)) (eqList v (dealV q n r qm g))
+    unfolding both
+    dealt y0 b0 r v ry rr =
+        blinder-dealt t (terms-tests system t .0 terms) x0 y0 a0 qm r g (first-of own-fits) ry (second-of own-fits) (third-of own-fits) rr (fourth-of own-fits) refl b0 v
+        ∙ rw q-regular refl
+
+    held : (y0 b0 r v : List ℕ) → Residues q (n * (n + 1)) y0 → Residues q (n * n) r → dealt-test y0 b0 r v ≡ true
+        → Holding solver READY t (y0 ∷ b0 ∷ r ∷ v ∷ []) (dealtSlot solver t (o y0 r))
+    held y0 b0 r v ry rr d =
+        solver-held t (terms-tests system t .0 terms) x0 y0 a0 qm r g (first-of own-fits) ry (second-of own-fits) (third-of own-fits) rr (fourth-of own-fits) refl b0 v d
 
     f-of : (b2 y0 b0 r : List ℕ) → List ℕ
     f-of b2 y0 b0 r = sendF q n 1 r (solverShare q n 1 (part 0 (cut 2 b2)) y0 (part 1 (cut 2 b2)) b0)
@@ -105,11 +125,11 @@ module _ (session : SessionId) (tape : TapeId) (q n : ℕ) (terms : Pass (termsT
           ≡ givesY1 q n 1 (seen x0 a0 qm g coins [] [] m1 [] []) (part 0 i) (part 1 i) (part 0 ls) (part 1 ls) (part 2 ls) (part 3 ls)
       unfolding isCompletion givesY1 both eqLists messageLayout parts y1-of
       first-same ls (_then_ {l = y0} ry (_then_ {l = b0} rb (_then_ {l = r} rr (_then_ {l = v} rv none)))) =
-          ap₂ both (dealt y0 b0 r v)
-          (ap (eqLists (m1 ∷ []))
-          (solver-first session tape q n 1 terms (product-terms session tape q n terms) y0 b0 r v _
-          (dealt-alone solver t (y0 ∷ b0 ∷ r ∷ v ∷ []) (ry then rb then rr then rv then none)) i ti sent)
+          both-same _ _ _ (λ d.
+          ap (eqLists (m1 ∷ []))
+          (solver-first session tape q n 1 terms (product-terms session tape q n terms) y0 b0 r v _ (held y0 b0 r v ry rr d) i ti sent)
           ∙ first-test 1 t m1 r1 (y1-fits y0) [] [])
+          ∙ ap (λ (z : Bool). both z (both (eqLists (cut 1 m1) (y1-of y0 ∷ [])) (eqLists [] []))) (dealt y0 b0 r v ry rr)
           ∙ simp (both-true, both-assoc)
 
       pub blinder-started : completions (viewOf blinder t input (x0 ∷ a0 ∷ qm ∷ g ∷ []) coins sent (m1 ∷ [])) i ≡ q ^ (n * n)
@@ -125,12 +145,12 @@ module _ (session : SessionId) (tape : TapeId) (q n : ℕ) (terms : Pass (termsT
           ≡ givesF q n 1 (seen x0 a0 qm g coins b2 [] m1 m3 []) (part 0 i) (part 1 i) (part 0 ls) (part 1 ls) (part 2 ls) (part 3 ls)
       unfolding isCompletion givesF givesY1 both eqLists messageLayout parts y1-of f-of
       second-same ls (_then_ {l = y0} ry (_then_ {l = b0} rb (_then_ {l = r} rr (_then_ {l = v} rv none)))) =
-          ap₂ both (dealt y0 b0 r v)
-          (ap (eqLists (m1 ∷ m3 ∷ []))
-          (solver-second session tape q n 1 terms (product-terms session tape q n terms) y0 b0 r v _
-          (dealt-alone solver t (y0 ∷ b0 ∷ r ∷ v ∷ []) (ry then rb then rr then rv then none)) i ti b2 r2 sent)
+          both-same _ _ _ (λ d.
+          ap (eqLists (m1 ∷ m3 ∷ []))
+          (solver-second session tape q n 1 terms (product-terms session tape q n terms) y0 b0 r v _ (held y0 b0 r v ry rr d) i ti b2 r2 sent)
           ∙ (first-test 1 t m1 r1 (y1-fits y0) (m3 ∷ []) (join (f-of b2 y0 b0 r ∷ []) ∷ [])
           ∙ ap (both (eqLists (cut 1 m1) (y1-of y0 ∷ []))) (first-test 3 t m3 r3 (f-fits b2 y0 b0 r) [] [])))
+          ∙ ap (λ (z : Bool). both z (both (eqLists (cut 1 m1) (y1-of y0 ∷ [])) (both (eqLists (cut 3 m3) (f-of b2 y0 b0 r ∷ [])) (eqLists [] [])))) (dealt y0 b0 r v ry rr)
           ∙ simp (both-true, both-assoc)
 
       pub blinder-heard : completions (viewOf blinder t input (x0 ∷ a0 ∷ qm ∷ g ∷ []) coins (b2 ∷ sent) (m1 ∷ m3 ∷ [])) i ≡ 1
@@ -171,13 +191,14 @@ module _ (session : SessionId) (tape : TapeId) (q n : ℕ) (terms : Pass (termsT
           ≡ givesT q n (seen x0 a0 qm g coins b2 b4 m1 m3 m5) (part 0 i) (part 1 i) (part 0 ls) (part 1 ls) (part 2 ls) (part 3 ls)
       unfolding isCompletion givesT givesF givesY1 both messageLayout parts y1-of f-of
       last-same ls (_then_ {l = y0} ry (_then_ {l = b0} rb (_then_ {l = r} rr (_then_ {l = v} rv none)))) =
-          ap₂ both (dealt y0 b0 r v)
-          (ap (λ (z : List (List ℕ)). eqLists (m1 ∷ m3 ∷ m5 ∷ []) (take 3 z))
-          (solver-last session tape q n 1 terms (product-terms session tape q n terms) y0 b0 r v _
-          (dealt-alone solver t (y0 ∷ b0 ∷ r ∷ v ∷ []) (ry then rb then rr then rv then none)) i ti b2 b4 r2 r4 sent)
+          both-same _ _ _ (λ d.
+          ap (λ (z : List (List ℕ)). eqLists (m1 ∷ m3 ∷ m5 ∷ []) (take 3 z))
+          (solver-last session tape q n 1 terms (product-terms session tape q n terms) y0 b0 r v _ (held y0 b0 r v ry rr d) i ti b2 b4 r2 r4 sent)
           ∙ (first-test 1 t m1 r1 (y1-fits y0) (m3 ∷ m5 ∷ []) _
           ∙ ap (both (eqLists (cut 1 m1) (y1-of y0 ∷ []))) (first-test 3 t m3 r3 (f-fits b2 y0 b0 r) (m5 ∷ []) _
           ∙ ap (both (eqLists (cut 3 m3) (f-of b2 y0 b0 r ∷ []))) (last-test y0 b0 v))))
+          ∙ ap (λ (z : Bool). both z (both (eqLists (cut 1 m1) (y1-of y0 ∷ [])) (both (eqLists (cut 3 m3) (f-of b2 y0 b0 r ∷ []))
+          (both (regular q n (sum v)) (eqList (part 0 (cut 5 m5)) (solution q n (sum v) (target y0 b0))))))) (dealt y0 b0 r v ry rr)
           ∙ (unfold eqLists in simp (both-true, both-assoc))
 
       t-ok : Residues q (n * 1) (part 0 (cut 5 m5))
@@ -189,9 +210,9 @@ module _ (session : SessionId) (tape : TapeId) (q n : ℕ) (terms : Pass (termsT
       t-is = take-all (n * columns n (n + 1)) m5 (omega (arith, r5 .size))
 
       -- ---- the blinder kept to the rules
-      module _ (fits : Fits q (layout blinder n n (n + 1)) (x0 ∷ a0 ∷ qm ∷ g ∷ [])) (own : Taken blinder t input) (coins-ok : Residues q (total (scratchLayout t)) coins)
+      module _ (own : Taken blinder t input) (coins-ok : Residues q (total (scratchLayout t)) coins)
           (p-regular : regular q n (part 0 (parts (scratchLayout t) coins)) ≡ true)
-          (kept : b2 ∷ b4 ∷ sent ≡ blinderMessages t (dealtSlot blinder t (x0 ∷ a0 ∷ qm ∷ g ∷ [])) input (m1 ∷ m3 ∷ m5 ∷ []) (wordsFor q coins)) where
+          (kept : b2 ∷ b4 ∷ sent ≡ blinderMessages t (halfSlot blinder t (x0 ∷ a0 ∷ qm ∷ g ∷ [])) input (m1 ∷ m3 ∷ m5 ∷ []) (wordsFor q coins)) where
         abbrev pm : List ℕ
         pm = part 0 (parts (scratchLayout t) coins)
 
@@ -222,8 +243,8 @@ module _ (session : SessionId) (tape : TapeId) (q n : ℕ) (terms : Pass (termsT
         both-sent : b2 ∷ b4 ∷ sent ≡ join first ∷ join second ∷ []
         unfolding first second
         both-sent = kept
-            ∙ (ap (λ (z : List ℕ). blinderMessages t (dealtSlot blinder t (x0 ∷ a0 ∷ qm ∷ g ∷ [])) input (m1 ∷ m3 ∷ m5 ∷ []) (wordsFor q z)) (sym coins-are)
-            ∙ blinder-second session tape q n 1 terms (product-terms session tape q n terms) x0 a0 qm g _ (dealt-alone blinder t (x0 ∷ a0 ∷ qm ∷ g ∷ []) fits) input own
+            ∙ (ap (λ (z : List ℕ). blinderMessages t (halfSlot blinder t (x0 ∷ a0 ∷ qm ∷ g ∷ [])) input (m1 ∷ m3 ∷ m5 ∷ []) (wordsFor q z)) (sym coins-are)
+            ∙ blinder-second session tape q n 1 terms (product-terms session tape q n terms) x0 a0 qm g _ (dealt-alone blinder t (x0 ∷ a0 ∷ qm ∷ g ∷ []) own-fits) input own
             pm u0 m1 (first-of coins-fit) (second-of coins-fit) p-regular r1 m3 r3 (m5 ∷ []))
 
         cut-first : cut 2 b2 ≡ first
@@ -251,5 +272,5 @@ module _ (session : SessionId) (tape : TapeId) (q n : ℕ) (terms : Pass (termsT
             ∙ blinder-end pr (seen x0 a0 qm g coins b2 b4 m1 m3 m5) (part 0 i) (part 1 i) (part 0 input) (part 1 input)
             (input-residues q (n * n) (part 0 i) (taken-pair t i ti .matrix) .size)
             (input-residues q (sideSize t) (part 1 i) (taken-pair t i ti .side) .size ∙ side-one session tape q n terms)
-            honest (y1-ok m1 r1) (f-ok m3 r3) t-ok (first-of coins-fit) (third-of fits) (sym (regular-inverse pr n (first-of coins-fit)) ∙ p-regular) (sym (regular-inverse pr n (third-of fits)) ∙ q-regular) sum-has
+            honest (y1-ok m1 r1) (f-ok m3 r3) t-ok (first-of coins-fit) (third-of own-fits) (sym (regular-inverse pr n (first-of coins-fit)) ∙ p-regular) (sym (regular-inverse pr n (third-of own-fits)) ∙ q-regular) sum-has
             ∙ ap (λ (z : List ℕ). bit (eqList (solution q n (matAdd q (n * n) (part 0 i) (part 0 input)) (matAdd q (n * 1) (part 1 i) (part 1 input))) (matMul q n n 1 qm z))) t-is

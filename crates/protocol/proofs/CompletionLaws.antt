@@ -26,11 +26,11 @@ use Rattle.protocol.specs.declared.Terms.{Terms}
 use Rattle.protocol.specs.declared.Refusal.{Refusal}
 use Rattle.protocol.specs.Judge.{refused, done}
 use Rattle.protocol.specs.Drawing.{drawn, wordsFor, drawTests}
-use Rattle.protocol.specs.Tape.{Slot, isSlot, slotWords, headerWords, READY, Role, sortOf, layout, bodySize, tapeSize}
+use Rattle.protocol.specs.Tape.{Slot, slotAt, isSlot, slotWords, headerWords, READY, Role, sortOf, layout, bodySize, tapeSize}
 use Rattle.protocol.specs.Message.{messageOf, messageLayout, messageSize}
 use Rattle.protocol.specs.Step.{Effect, Outcome}
 use Rattle.protocol.specs.View.{View}
-use Rattle.protocol.specs.Completion.{dealtSlot, incoming, said, andThen, eqLists, isCompletion, completions}
+use Rattle.protocol.specs.Completion.{incoming, said, andThen, eqLists, isCompletion, completions}
 use Rattle.protocol.proofs.Judge.{All}
 use Rattle.protocol.proofs.Slots.{written}
 use Rattle.protocol.proofs.Drawn.{drawn-residues, enough-residues}
@@ -77,15 +77,20 @@ eqLists-of {ls} {rs} e = ap (λ (z : List (List ℕ)). eqLists ls z) (sym e) ∙
 
 -- ---- a half as dealt
 
-one-slot : (n k : ℕ) → n ≡ k → 0 < k → ltb 0 (n / k) ≡ true
+pub one-slot : (n k : ℕ) → n ≡ k → 0 < k → ltb 0 (n / k) ≡ true
 one-slot n k e h = lt-ltb 0 (n / k) (go (n / k) refl)
   where
     go : (d : ℕ) → n / k ≡ d → 0 < d
     go zero z = absurd (omega (arith, mod-lt n h, subst (λ (x : ℕ). x * k + n % k ≡ n) z (div-add-mod' n k)))
     go (suc d) z = omega arith
 
-pub dealt-alone : (role : Role) (t : Terms) (ls : List (List ℕ)) → Fits (t .q) (layout role (t .m) (t .k) (t .p)) ls → Holding role READY t ls (dealtSlot role t ls)
-unfolding dealtSlot isSlot slotWords headerWords tapeSize bodySize
+-- a half as dealt, alone in a pool
+unfoldable pub halfSlot : Role → Terms → (half : List (List ℕ)) → Slot
+halfSlot role t ls =
+    slotAt (headerWords READY (t .tape .0) (sortOf role) (t .q) (t .m) (t .k) (t .p) ++ join ls) (tapeSize role (t .m) (t .k) (t .p)) 0
+
+pub dealt-alone : (role : Role) (t : Terms) (ls : List (List ℕ)) → Fits (t .q) (layout role (t .m) (t .k) (t .p)) ls → Holding role READY t ls (halfSlot role t ls)
+unfolding halfSlot isSlot slotWords headerWords tapeSize bodySize
 dealt-alone role t ls f = record {
   inside = one-slot (length ws) (tapeSize role (t .m) (t .k) (t .p)) (omega (arith, size)) (omega arith);
   rest = [];

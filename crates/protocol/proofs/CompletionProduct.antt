@@ -10,28 +10,28 @@ use native.Mathlib.Nat.{le-refl}
 use native.Mathlib.Omega.{arith}
 use borrow.Author.Tests.{leb-true}
 use Rattle.algebra.specs.Matrix.{Residues}
-use Rattle.algebra.specs.Count.{both, eqList, parts, part, join}
-use Rattle.algebra.specs.Product.{dealB, sendY, sendX, sendR}
+use Rattle.algebra.specs.Count.{both, parts, part, join}
+use Rattle.algebra.specs.Product.{sendY, sendX, sendR}
 use Rattle.algebra.proofs.Views.{givesRight, givesLeft, rightCompletions, leftCompletions}
-use Rattle.algebra.proofs.Count.{and-left, and-right, and-both, eqList-of}
+use Rattle.algebra.proofs.Count.{and-left, and-right}
 use Rattle.algebra.proofs.Lists.{add-residues, sub-residues}
 use Rattle.algebra.proofs.Parts.{Fits, none, _then_}
 use Rattle.algebra.proofs.Product.{left-secrecy, right-secrecy}
-use Rattle.algebra.proofs.Tests.{same-test}
 use Rattle.protocol.specs.declared.Terms.{Terms}
 use Rattle.protocol.specs.Judge.{done}
 use Rattle.protocol.specs.Drawing.{wordsFor}
 use Rattle.protocol.specs.Bounds.{Sort, product, within, shapeTests, termsTests}
 use Rattle.protocol.specs.Tape.{Slot, left, right, READY, layout}
-use Rattle.protocol.specs.Deal.{dealtB}
 use Rattle.protocol.specs.Message.{messageOf, kindSort, messageLayout, messageSize}
 use Rattle.protocol.specs.Product.{rightFirstEffect, rightFirstTests, rightFirst, leftEffect, leftTests, leftStep}
-use Rattle.protocol.specs.Completion.{hearing, rightMessages, leftMessages, eqLists, dealtTogether, isCompletion, completions, Taken, takenTests}
+use Rattle.protocol.specs.Completion.{hearing, rightMessages, leftMessages, eqLists, isCompletion, completions, Taken, takenTests}
 use Rattle.protocol.proofs.Judge.{Pass, _also_, accepts, passed}
 use Rattle.protocol.proofs.Halves.{Holding, holding-matrices, holding-first}
 use Rattle.protocol.proofs.Messages.{message-parts, message-pass, due-pass}
 use Rattle.protocol.proofs.ProductRight.{room-pass}
-use Rattle.protocol.proofs.CompletionLaws.{same-count, dealt-alone, drawn-own, drawn-enough, message-fits, incoming-is, first-test, both-true, then-accepted, said-message, viewOf}
+use Rattle.protocol.proofs.Tests.{terms-tests}
+use Rattle.protocol.proofs.CompletionDealt.{left-dealt, right-dealt, left-held, right-held}
+use Rattle.protocol.proofs.CompletionLaws.{same-count, drawn-own, drawn-enough, message-fits, incoming-is, first-test, both-true, then-accepted, said-message, viewOf}
 
 -- ---- the terms
 
@@ -105,15 +105,6 @@ module _ (t : Terms) (terms : Pass (termsTests product t)) where
     left-sends got = rw (let z : join (u ∷ []) ≡ u = unfold join in append-nil u in z, incoming-is 1 t a ra)
         (then-accepted s _ _ _ left-accepts ∙ rw (left-sent, said-message) refl)
 
--- ---- the dealer's rules
-
--- X0, A0, Y0 and B0 are dealt together exactly where B0 = X0 × Y0 − A0
-dealt-product : (t : Terms) (x0 a0 y0 b0 : List ℕ) → dealtTogether product t (x0 ∷ a0 ∷ []) (y0 ∷ b0 ∷ []) ≡ eqList b0 (dealB (t .q) (t .m) (t .k) (t .p) x0 y0 a0)
-unfolding dealtTogether dealtB eqLists
-dealt-product t x0 a0 y0 b0 = same-test _ _
-    (λ e. and-left _ _ (and-right _ _ (and-left _ _ (and-right _ _ e))))
-    (λ e. and-both (and-both (eqList-of refl) (and-both (eqList-of refl) refl)) (and-both (and-both (eqList-of refl) (and-both e refl)) refl))
-
 -- ---- left's view
 
 module _ (t : Terms) (terms : Pass (termsTests product t)) (input : List (List ℕ)) (coins : List ℕ) (sent : List (List ℕ)) (a : List ℕ)
@@ -125,13 +116,14 @@ module _ (t : Terms) (terms : Pass (termsTests product t)) (input : List (List �
   unfolding messageLayout y1-received
   y1-residues = first-of (message-fits 1 t a ra)
 
-  left-same : (x0 a0 : List ℕ) (ls : List (List ℕ)) → Fits (t .q) (t .k * t .p ∷ t .m * t .p ∷ []) ls
-      → isCompletion (viewOf left t input (x0 ∷ a0 ∷ []) coins sent (a ∷ [])) i ls ≡ givesLeft (t .q) (t .m) (t .k) (t .p) x0 a0 y1-received (part 0 i) (part 0 ls) (part 1 ls)
+  left-same : (x0 a0 : List ℕ) → Residues (t .q) (t .m * t .k) x0 → Residues (t .q) (t .m * t .p) a0 → (ls : List (List ℕ)) → Fits (t .q) (t .k * t .p ∷ t .m * t .p ∷ []) ls
+      → isCompletion (viewOf left t input (x0 ∷ a0 ∷ []) coins sent (a ∷ [])) i ls
+      ≡ givesLeft (t .q) (t .m) (t .k) (t .p) x0 a0 y1-received (part 0 i) (part 0 ls) (part 1 ls)
   unfolding isCompletion givesLeft y1-received both eqLists messageLayout parts sendY
-  left-same x0 a0 ls (_then_ {l = y0} ry (_then_ {l = b0} rb none)) =
+  left-same x0 a0 rx r ls (_then_ {l = y0} ry (_then_ {l = b0} rb none)) =
       rw (
-        dealt-product t x0 a0 y0 b0,
-        right-sends t terms y0 b0 _ (dealt-alone right t (y0 ∷ b0 ∷ []) (ry then rb then none)) i sent taken,
+        left-dealt t (terms-tests product t .0 terms) x0 y0 a0 rx ry r b0,
+        right-sends t terms y0 _ _ (right-held t (terms-tests product t .0 terms) x0 y0 a0 rx ry r) i sent taken,
         first-test 1 t a ra (sub-residues (h0 t terms) (t .k * t .p) (part 0 i) y0 then none) [] [],
       )
       (simp both-true)
@@ -139,7 +131,7 @@ module _ (t : Terms) (terms : Pass (termsTests product t)) (input : List (List �
   pub left-one : (half : List (List ℕ)) → Fits (t .q) (layout left (t .m) (t .k) (t .p)) half → completions (viewOf left t input half coins sent (a ∷ [])) i ≡ 1
   unfolding completions y1-received leftCompletions
   left-one half (_then_ {l = x0} rx (_then_ {l = a0} r none)) =
-      same-count (t .q) (layout right (t .m) (t .k) (t .p)) _ _ (left-same x0 a0)
+      same-count (t .q) (layout right (t .m) (t .k) (t .p)) _ _ (left-same x0 a0 rx r)
       ∙ left-secrecy (t .q) (t .m) (t .k) (t .p) (h0 t terms) x0 a0 y1-received (part 0 i) y1-residues
 
 -- ---- right's view
@@ -168,14 +160,14 @@ module _ (t : Terms) (terms : Pass (termsTests product t)) (input : List (List �
   unfolding messageLayout sendX sendR
   sent-fits x0 a0 u = add-residues (h0 t terms) _ _ _ then sub-residues (h0 t terms) _ _ _ then none
 
-  right-same : (y0 b0 : List ℕ) (ls : List (List ℕ)) → Fits (t .q) (t .m * t .k ∷ t .m * t .p ∷ t .m * t .p ∷ []) ls
+  right-same : (y0 b0 : List ℕ) → Residues (t .q) (t .k * t .p) y0 → (ls : List (List ℕ)) → Fits (t .q) (t .m * t .k ∷ t .m * t .p ∷ t .m * t .p ∷ []) ls
       → isCompletion (viewOf right t input (y0 ∷ b0 ∷ []) coins (b ∷ sent) (a ∷ [])) i ls
       ≡ givesRight (t .q) (t .m) (t .k) (t .p) y0 b0 y1-sent x1-received r1-received (part 0 i) (part 0 ls) (part 1 ls) (part 2 ls)
   unfolding isCompletion givesRight y1-sent x1-received r1-received both eqLists messageLayout parts
-  right-same y0 b0 ls (_then_ {l = x0} rx (_then_ {l = a0} r (_then_ {l = u} ru none))) =
+  right-same y0 b0 ry ls (_then_ {l = x0} rx (_then_ {l = a0} r (_then_ {l = u} ru none))) =
       rw (
-        dealt-product t x0 a0 y0 b0,
-        left-sends t terms x0 a0 _ (dealt-alone left t (x0 ∷ a0 ∷ []) (rx then r then none)) i taken u b ru rb sent,
+        right-dealt t (terms-tests product t .0 terms) x0 y0 a0 rx ry r b0,
+        left-sends t terms x0 a0 _ (left-held t (terms-tests product t .0 terms) x0 y0 a0 rx ry r) i taken u b ru rb sent,
         first-test 2 t a ra (sent-fits x0 a0 u) [] [],
       )
       (simp both-true)
@@ -183,6 +175,6 @@ module _ (t : Terms) (terms : Pass (termsTests product t)) (input : List (List �
   pub right-one : (half : List (List ℕ)) → Fits (t .q) (layout right (t .m) (t .k) (t .p)) half → completions (viewOf right t input half coins (b ∷ sent) (a ∷ [])) i ≡ 1
   unfolding completions rightCompletions y1-sent x1-received r1-received
   right-one half (_then_ {l = y0} ry (_then_ {l = b0} r none)) =
-      same-count (t .q) (t .m * t .k ∷ t .m * t .p ∷ t .m * t .p ∷ []) _ _ (right-same y0 b0)
+      same-count (t .q) (t .m * t .k ∷ t .m * t .p ∷ t .m * t .p ∷ []) _ _ (right-same y0 b0 ry)
       ∙ right-secrecy (t .q) (t .m) (t .k) (t .p) (h0 t terms) y0 b0 y1-sent x1-received r1-received (part 0 i) r
       x1-residues r1-residues

@@ -2,7 +2,7 @@
 -- solutions are both zero or both not. Assumes nothing.
 -- solver-open   after message 2
 -- solver-same   after message 4
-use mathlib.Core.Path.{_≡_, refl, sym, ap, ap₂, _∙_, subst}
+use mathlib.Core.Path.{_≡_, refl, sym, ap, _∙_, subst}
 use mathlib.Core.Bool.{Bool, true}
 use mathlib.Core.Logic.{_↔_}
 use mathlib.Core.List.{List, [], _∷_}
@@ -27,23 +27,26 @@ use Rattle.algebra.proofs.Solver.{HonestSolver, solver-view}
 use Rattle.protocol.specs.declared.SessionId.{SessionId}
 use Rattle.protocol.specs.declared.TapeId.{TapeId}
 use Rattle.protocol.specs.declared.Terms.{Terms}
+use Rattle.protocol.specs.Judge.{Judged}
 use Rattle.protocol.specs.Drawing.{wordsFor}
 use Rattle.protocol.specs.Bounds.{system, shapeTests, termsTests, fieldFits}
-use Rattle.protocol.specs.Tape.{blinder, solver, READY, layout}
+use Rattle.protocol.specs.Tape.{blinder, solver, layout}
+use Rattle.protocol.specs.Deal.{Dealt}
 use Rattle.protocol.specs.Message.{messageLayout, messageSize}
 use Rattle.protocol.specs.System.{sideSize}
-use Rattle.protocol.specs.Completion.{dealtSlot, solverMessages, blinderMessages, eqLists, dealtTogether, isCompletion, completions, Taken}
+use Rattle.protocol.specs.Completion.{dealing, dealtSlot, solverMessages, blinderMessages, eqLists, dealtTogether, isCompletion, completions, Taken}
 use Rattle.protocol.proofs.Judge.{Pass}
 use Rattle.protocol.proofs.Residues.{input-residues}
-use Rattle.protocol.proofs.Halves.{Holding}
 use Rattle.protocol.proofs.SystemSteps.{systemTerms, columns-are}
 use Rattle.protocol.proofs.SystemRight.{product-terms}
-use Rattle.protocol.proofs.CompletionLaws.{same-count, both-same, dealt-alone, message-fits, first-test, viewOf}
-use Rattle.protocol.proofs.CompletionProduct.{modulus-above, first-of, second-of, fourth-of}
-use Rattle.protocol.proofs.CompletionSystem.{dealt-system, taken-pair, solver-second, blinder-first, blinder-second}
+use Rattle.protocol.proofs.Tests.{terms-tests}
+use Rattle.protocol.proofs.CompletionDealt.{solver-dealt, blinder-held}
+use Rattle.protocol.proofs.CompletionLaws.{same-count, both-same, dealt-alone, message-fits, first-test, halfSlot, viewOf}
+use Rattle.protocol.proofs.CompletionProduct.{modulus-above, first-of, second-of, third-of, fourth-of}
+use Rattle.protocol.proofs.CompletionSystem.{taken-pair, solver-second, blinder-first, blinder-second}
 
 -- the tests of the dealer's rules, P, X1, R1, W and c, in algebra's order
-shuffle : (b v q p x1 r1 w c : Bool) → both (both b (both v q)) (both p (both (both x1 (both r1 true)) (both (both w (both c true)) true)))
+shuffle : (b v q p x1 r1 w c : Bool) → both (both q (both b v)) (both p (both (both x1 (both r1 true)) (both (both w (both c true)) true)))
     ≡ both b (both x1 (both r1 (both v (both w (both c (both p q))))))
 shuffle b v q p x1 r1 w c = same-test _ _
     (λ e.
@@ -51,8 +54,8 @@ shuffle b v q p x1 r1 w c = same-test _ _
     let m = and-right _ _ (and-right _ _ e) in
     let f = and-left _ _ m in
     let g = and-left _ _ (and-right _ _ m) in
-    and-both (and-left _ _ d) (and-both (and-left _ _ f) (and-both (and-left _ _ (and-right _ _ f)) (and-both (and-left _ _ (and-right _ _ d))
-    (and-both (and-left _ _ g) (and-both (and-left _ _ (and-right _ _ g)) (and-both (and-left _ _ (and-right _ _ e)) (and-right _ _ (and-right _ _ d)))))))))
+    and-both (and-left _ _ (and-right _ _ d)) (and-both (and-left _ _ f) (and-both (and-left _ _ (and-right _ _ f)) (and-both (and-right _ _ (and-right _ _ d))
+    (and-both (and-left _ _ g) (and-both (and-left _ _ (and-right _ _ g)) (and-both (and-left _ _ (and-right _ _ e)) (and-left _ _ d))))))))
     (λ e.
     let e1 = and-right _ _ e in
     let e2 = and-right _ _ e1 in
@@ -60,7 +63,7 @@ shuffle b v q p x1 r1 w c = same-test _ _
     let e4 = and-right _ _ e3 in
     let e5 = and-right _ _ e4 in
     let e6 = and-right _ _ e5 in
-    and-both (and-both (and-left _ _ e) (and-both (and-left _ _ e3) (and-right _ _ e6)))
+    and-both (and-both (and-right _ _ e6) (and-both (and-left _ _ e) (and-left _ _ e3)))
     (and-both (and-left _ _ e6) (and-both (and-both (and-left _ _ e1) (and-both (and-left _ _ e2) refl)) (and-both (and-both (and-left _ _ e4) (and-both (and-left _ _ e5) refl)) refl))))
 
 module _ (session : SessionId) (tape : TapeId) (q n : ℕ) (terms : Pass (termsTests system (systemTerms session tape q n))) where
@@ -88,27 +91,31 @@ module _ (session : SessionId) (tape : TapeId) (q n : ℕ) (terms : Pass (termsT
 
   -- ---- after message 2
 
-  module _ (input half : List (List ℕ)) (coins b1 m2 : List ℕ) (sent : List (List ℕ)) (r1 : Residues q (messageSize 1 t) b1) where
+  module _ (input : List (List ℕ)) (coins b1 m2 : List ℕ) (sent : List (List ℕ)) (r1 : Residues q (messageSize 1 t) b1) where
     -- what the blinder sends first is the same for any two inputs
-    open-same : (i j : List (List ℕ)) → Taken blinder t i → Taken blinder t j → (ls : List (List ℕ))
+    open-same : (i j : List (List ℕ)) → Taken blinder t i → Taken blinder t j → (y0 b0 r v : List ℕ) → Residues q (n * (n + 1)) y0 → Residues q (n * n) r → (ls : List (List ℕ))
         → Fits q (n * n ∷ n * (n + 1) ∷ n * n ∷ n * n ∷ n * n ∷ n * (n + 1) ∷ []) ls
-        → isCompletion (viewOf solver t input half coins (b1 ∷ sent) (m2 ∷ [])) i ls ≡ isCompletion (viewOf solver t input half coins (b1 ∷ sent) (m2 ∷ [])) j ls
+        → isCompletion (viewOf solver t input (y0 ∷ b0 ∷ r ∷ v ∷ []) coins (b1 ∷ sent) (m2 ∷ [])) i ls
+        ≡ isCompletion (viewOf solver t input (y0 ∷ b0 ∷ r ∷ v ∷ []) coins (b1 ∷ sent) (m2 ∷ [])) j ls
     unfolding isCompletion
-    open-same i j ti tj ls (_then_ {l = x0} rx (_then_ {l = a0} ra (_then_ {l = qm} rq (_then_ {l = g} rg (_then_ {l = pm} rp (_then_ {l = u0} ru none)))))) =
-        both-same _ _ _ (λ d. both-same (regular q n pm) _ _ (λ p. ap (eqLists (m2 ∷ [])) (sends i ti p ∙ sym (sends j tj p))))
+    open-same i j ti tj y0 b0 r v ry rr ls (_then_ {l = x0} rx (_then_ {l = a0} ra (_then_ {l = qm} rq (_then_ {l = g} rg (_then_ {l = pm} rp (_then_ {l = u0} ru none)))))) =
+        both-same _ _ _ (λ d. both-same (regular q n pm) _ _ (λ p. ap (eqLists (m2 ∷ [])) (sends i ti d p ∙ sym (sends j tj d p))))
       where
-        held : Holding blinder READY t (x0 ∷ a0 ∷ qm ∷ g ∷ []) (dealtSlot blinder t (x0 ∷ a0 ∷ qm ∷ g ∷ []))
-        held = dealt-alone blinder t (x0 ∷ a0 ∷ qm ∷ g ∷ []) (rx then ra then rq then rg then none)
+        dealt : Judged Dealt
+        dealt = dealing system t (x0 ∷ y0 ∷ a0 ∷ qm ∷ r ∷ g ∷ [])
 
-        sends : (i : List (List ℕ)) → Taken blinder t i → regular q n pm ≡ true
-            → take 1 (blinderMessages t (dealtSlot blinder t (x0 ∷ a0 ∷ qm ∷ g ∷ [])) i (b1 ∷ sent) (wordsFor q (join (pm ∷ u0 ∷ []))))
+        sends : (i : List (List ℕ)) → Taken blinder t i → dealtTogether solver t dealt (y0 ∷ b0 ∷ r ∷ v ∷ []) (x0 ∷ a0 ∷ qm ∷ g ∷ []) ≡ true → regular q n pm ≡ true
+            → take 1 (blinderMessages t (dealtSlot blinder t dealt) i (b1 ∷ sent) (wordsFor q (join (pm ∷ u0 ∷ []))))
             ≡ join (sendX q n n (n + 1) pm x0 ∷ sendR q n n (n + 1) pm (part 0 (parts (messageLayout 1 n n (n + 1)) b1)) u0 a0 ∷ []) ∷ []
-        sends i ti p = blinder-first session tape q n 1 terms (product-terms session tape q n terms) x0 a0 qm g _ held i ti pm u0 b1 rp ru p r1 sent
+        sends i ti d p =
+            blinder-first session tape q n 1 terms (product-terms session tape q n terms) x0 a0 qm g _
+            (blinder-held t (terms-tests system t .0 terms) x0 y0 a0 qm r g rx ry ra rq rr rg refl b0 v d) i ti pm u0 b1 rp ru p r1 sent
 
-    pub solver-open : (i j : List (List ℕ)) → Taken blinder t i → Taken blinder t j
+    pub solver-open : (half : List (List ℕ)) → Fits q (layout solver n n (n + 1)) half → (i j : List (List ℕ)) → Taken blinder t i → Taken blinder t j
         → completions (viewOf solver t input half coins (b1 ∷ sent) (m2 ∷ [])) i ≡ completions (viewOf solver t input half coins (b1 ∷ sent) (m2 ∷ [])) j
     unfolding completions
-    solver-open i j ti tj = same-count q _ _ _ (open-same i j ti tj)
+    solver-open half (_then_ {l = y0} ry (_then_ {l = b0} rb (_then_ {l = r} rr (_then_ {l = v} rv none)))) i j ti tj =
+        same-count q _ _ _ (open-same i j ti tj y0 b0 r v ry rr)
 
   -- ---- after message 4
 
@@ -132,7 +139,7 @@ module _ (session : SessionId) (tape : TapeId) (q n : ℕ) (terms : Pass (termsT
       c = part 1 (cut 4 m4);
     }
 
-    module _ (i : List (List ℕ)) (ti : Taken blinder t i) (y0 b0 r v x0 a0 qm g pm u0 : List ℕ) (rx : Residues q (n * n) x0) (ra : Residues q (n * (n + 1)) a0)
+    module _ (i : List (List ℕ)) (ti : Taken blinder t i) (y0 b0 r v x0 a0 qm g pm u0 : List ℕ) (ry : Residues q (n * (n + 1)) y0) (rr : Residues q (n * n) r) (rx : Residues q (n * n) x0) (ra : Residues q (n * (n + 1)) a0)
         (rq : Residues q (n * n) qm) (rg : Residues q (n * n) g) (rp : Residues q (n * n) pm) (ru : Residues q (n * (n + 1)) u0) where
       first : List (List ℕ)
       first = sendX q n n (n + 1) pm x0 ∷ sendR q n n (n + 1) pm (part 0 (cut 1 b1)) u0 a0 ∷ []
@@ -148,33 +155,39 @@ module _ (session : SessionId) (tape : TapeId) (q n : ℕ) (terms : Pass (termsT
       unfolding messageLayout second sendW sendC
       second-fits = rw (columns-are n 1) (sub-residues (hq big) (n * n) _ _ then add-residues (hq big) (n * 1) _ _ then none)
 
+      abbrev dealt : Judged Dealt
+      dealt = dealing system t (x0 ∷ y0 ∷ a0 ∷ qm ∷ r ∷ g ∷ [])
+
       abbrev sends : List (List ℕ)
-      sends = blinderMessages t (dealtSlot blinder t (x0 ∷ a0 ∷ qm ∷ g ∷ [])) i (b1 ∷ b3 ∷ sent) (wordsFor q (join (pm ∷ u0 ∷ [])))
+      sends = blinderMessages t (dealtSlot blinder t dealt) i (b1 ∷ b3 ∷ sent) (wordsFor q (join (pm ∷ u0 ∷ [])))
 
       -- the blinder's two messages
-      sends-are : regular q n pm ≡ true → eqLists (m2 ∷ m4 ∷ []) (take 2 sends) ≡ both (eqLists (cut 2 m2) first) (both (eqLists (cut 4 m4) second) (eqLists [] []))
+      sends-are : dealtTogether solver t dealt (y0 ∷ b0 ∷ r ∷ v ∷ []) (x0 ∷ a0 ∷ qm ∷ g ∷ []) ≡ true → regular q n pm ≡ true
+          → eqLists (m2 ∷ m4 ∷ []) (take 2 sends) ≡ both (eqLists (cut 2 m2) first) (both (eqLists (cut 4 m4) second) (eqLists [] []))
       unfolding first second
-      sends-are p =
+      sends-are d p =
           ap (λ (z : List (List ℕ)). eqLists (m2 ∷ m4 ∷ []) (take 2 z))
           (blinder-second session tape q n 1 terms (product-terms session tape q n terms) x0 a0 qm g _
-          (dealt-alone blinder t (x0 ∷ a0 ∷ qm ∷ g ∷ []) (rx then ra then rq then rg then none)) i ti pm u0 b1 rp ru p r1 b3 r3 sent)
+          (blinder-held t (terms-tests system t .0 terms) x0 y0 a0 qm r g rx ry ra rq rr rg refl b0 v d) i ti pm u0 b1 rp ru p r1 b3 r3 sent)
           ∙ first-test 2 t m2 r2 first-fits (m4 ∷ []) (join second ∷ [])
           ∙ ap (both (eqLists (cut 2 m2) first)) (first-test 4 t m4 r4 second-fits [] [])
 
-      one-test : both (dealtTogether system t (x0 ∷ a0 ∷ qm ∷ g ∷ []) (y0 ∷ b0 ∷ r ∷ v ∷ [])) (both (regular q n pm) (eqLists (m2 ∷ m4 ∷ []) (take 2 sends)))
+      one-test : both (dealtTogether solver t dealt (y0 ∷ b0 ∷ r ∷ v ∷ []) (x0 ∷ a0 ∷ qm ∷ g ∷ [])) (both (regular q n pm) (eqLists (m2 ∷ m4 ∷ []) (take 2 sends)))
           ≡ givesSolver q n 1 (seen y0 b0 r v) (part 0 i) (part 1 i) (x0 ∷ a0 ∷ qm ∷ g ∷ pm ∷ u0 ∷ [])
       unfolding givesSolver eqLists first second messageLayout parts
       one-test =
-          ap₂ both (dealt-system t x0 a0 qm g y0 b0 r v) (both-same (regular q n pm) _ _ sends-are)
+          both-same _ _ _ (λ d. both-same (regular q n pm) _ _ (sends-are d))
+          ∙ ap (λ (z : Bool). both z (both (regular q n pm) (both (eqLists (cut 2 m2) first) (both (eqLists (cut 4 m4) second) (eqLists [] [])))))
+          (solver-dealt t (terms-tests system t .0 terms) x0 y0 a0 qm r g rx ry ra rq rr rg refl b0 v)
           ∙ shuffle _ _ _ _ _ _ _ _
           ∙ rw (regular-inverse (prime-test q prime) n rp, regular-inverse (prime-test q prime) n rq) refl
 
-    end-same : (i : List (List ℕ)) → Taken blinder t i → (y0 b0 r v : List ℕ) (ls : List (List ℕ))
+    end-same : (i : List (List ℕ)) → Taken blinder t i → (y0 b0 r v : List ℕ) → Residues q (n * (n + 1)) y0 → Residues q (n * n) r → (ls : List (List ℕ))
         → Fits q (n * n ∷ n * (n + 1) ∷ n * n ∷ n * n ∷ n * n ∷ n * (n + 1) ∷ []) ls
         → isCompletion (viewOf solver t input (y0 ∷ b0 ∷ r ∷ v ∷ []) coins (b1 ∷ b3 ∷ sent) (m2 ∷ m4 ∷ [])) i ls ≡ givesSolver q n 1 (seen y0 b0 r v) (part 0 i) (part 1 i) ls
     unfolding isCompletion
-    end-same i ti y0 b0 r v ls (_then_ {l = x0} rx (_then_ {l = a0} ra (_then_ {l = qm} rq (_then_ {l = g} rg (_then_ {l = pm} rp (_then_ {l = u0} ru none)))))) =
-        one-test i ti y0 b0 r v x0 a0 qm g pm u0 rx ra rq rg rp ru
+    end-same i ti y0 b0 r v ry rr ls (_then_ {l = x0} rx (_then_ {l = a0} ra (_then_ {l = qm} rq (_then_ {l = g} rg (_then_ {l = pm} rp (_then_ {l = u0} ru none)))))) =
+        one-test i ti y0 b0 r v x0 a0 qm g pm u0 ry rr rx ra rq rg rp ru
 
     x1-ok : Residues q (n * n) (part 0 (cut 2 m2))
     unfolding messageLayout
@@ -194,7 +207,7 @@ module _ (session : SessionId) (tape : TapeId) (q n : ℕ) (terms : Pass (termsT
 
     -- the solver kept to the rules
     module _ (own : Taken solver t input) (y0 b0 r v : List ℕ) (fits : Fits q (layout solver n n (n + 1)) (y0 ∷ b0 ∷ r ∷ v ∷ []))
-        (kept : b1 ∷ b3 ∷ sent ≡ solverMessages t (dealtSlot solver t (y0 ∷ b0 ∷ r ∷ v ∷ [])) input (m2 ∷ m4 ∷ [])) where
+        (kept : b1 ∷ b3 ∷ sent ≡ solverMessages t (halfSlot solver t (y0 ∷ b0 ∷ r ∷ v ∷ [])) input (m2 ∷ m4 ∷ [])) where
       y1-own : List ℕ
       y1-own = sendY q n n (n + 1) (beside n n 1 (part 0 input) (part 1 input)) y0
 
@@ -248,6 +261,6 @@ module _ (session : SessionId) (tape : TapeId) (q n : ℕ) (terms : Pass (termsT
       solver-same i j ti tj hi hj w =
           let s = solves (part 0 input) (part 0 i) (part 1 input) (part 1 i) hi in
           let s′ = solves (part 0 input) (part 0 j) (part 1 input) (part 1 j) hj in
-          same-count q _ _ _ (end-same i ti y0 b0 r v)
+          same-count q _ _ _ (end-same i ti y0 b0 r v (first-of fits) (third-of fits))
           ∙ solver-view (seen y0 b0 r v) (part 0 input) (part 1 input) (part 0 i) (part 1 i) _ (part 0 j) (part 1 j) _ prime honest hi hj (s .0) (s′ .0) (s .1) (s′ .1) w
-          ∙ sym (same-count q _ _ _ (end-same j tj y0 b0 r v))
+          ∙ sym (same-count q _ _ _ (end-same j tj y0 b0 r v (first-of fits) (third-of fits)))

@@ -1,5 +1,4 @@
 -- What the ends of a system send, by their own steps, on whatever residues they get: algebra's formulas. Assumes nothing.
--- dealt-system                          the dealer's rules for the two halves
 -- solver-first, solver-second, solver-last    the solver's messages, up to its first, second and last
 -- blinder-first, blinder-second               the blinder's
 use mathlib.Core.Path.{_≡_, refl, _∙_}
@@ -10,17 +9,15 @@ use native.Mathlib.Nat.{le-refl}
 use native.Mathlib.Omega.{arith}
 use lib.ListN.{length, take}
 use Rattle.algebra.specs.Matrix.{Residues, zeros}
-use Rattle.algebra.specs.Count.{both, eqList, parts, part, join}
+use Rattle.algebra.specs.Count.{both, parts, part, join}
 use Rattle.algebra.specs.Columns.{beside}
 use Rattle.algebra.specs.Elimination.{regular, solution}
-use Rattle.algebra.specs.Product.{dealB, sendY, sendX, sendR, rightShare}
-use Rattle.algebra.specs.System.{lastCols, dealV, solverShare, sendF, sendW, sendC, sumMatrix, sumVector}
+use Rattle.algebra.specs.Product.{sendY, sendX, sendR, rightShare}
+use Rattle.algebra.specs.System.{lastCols, solverShare, sendF, sendW, sendC, sumMatrix, sumVector}
 use Rattle.algebra.specs.Words.{over}
 use Rattle.algebra.proofs.Lists.{length-tabulate, sub-residues}
 use Rattle.algebra.proofs.Columns.{cols-residues}
-use Rattle.algebra.proofs.Count.{and-left, and-right, and-both, eqList-of}
 use Rattle.algebra.proofs.Parts.{none, _then_, fits-join, parts-join}
-use Rattle.algebra.proofs.Tests.{same-test}
 use Rattle.protocol.specs.declared.SessionId.{SessionId}
 use Rattle.protocol.specs.declared.TapeId.{TapeId}
 use Rattle.protocol.specs.declared.Terms.{Terms}
@@ -30,11 +27,10 @@ use Rattle.protocol.specs.Judge.{done}
 use Rattle.protocol.specs.Drawing.{wordsFor}
 use Rattle.protocol.specs.Bounds.{product, system, within, allBelow, termsTests, inputTests}
 use Rattle.protocol.specs.Tape.{Slot, slotWords, blinder, solver, READY, IN-USE}
-use Rattle.protocol.specs.Deal.{dealtB, dealtV}
 use Rattle.protocol.specs.Message.{noMessage, messageOf, kindSort, messageLayout, messageSize}
 use Rattle.protocol.specs.Step.{isOpen, laterTests, Effect}
 use Rattle.protocol.specs.System.{padded, sideSize, keptS, keptM, keptY, scratchLayout, scratchSize, scratchParts, regularTests, keptTests, blinderTests, solverTests, coinsOf, jointSum, solverFirstEffect, solverFirstTests, solverFirst, blinderFirstEffect, blinderFirstTests, blinderFirst, solverSecondEffect, solverSecondTests, solverSecond, blinderSecondEffect, blinderSecondTests, blinderSecond, solverLastEffect, solverLastTests, solverLast}
-use Rattle.protocol.specs.Completion.{incoming, said, andThen, hearing, solverMessages, blinderMessages, eqLists, dealtTogether, Taken, pairTests}
+use Rattle.protocol.specs.Completion.{incoming, said, andThen, hearing, solverMessages, blinderMessages, Taken, pairTests}
 use Rattle.protocol.proofs.Judge.{All, all-split, Pass, _also_, _next_, nothing, pass-given, accepts, passed}
 use Rattle.protocol.proofs.Slots.{written}
 use Rattle.protocol.proofs.Residues.{input-residues, residues-below, take-over, parts-over, over-length, zeros-below}
@@ -44,19 +40,6 @@ use Rattle.protocol.proofs.ProductRight.{room-pass}
 use Rattle.protocol.proofs.SystemSteps.{wideTerms, columns-are}
 use Rattle.protocol.proofs.CompletionLaws.{drawn-own, drawn-enough, message-fits, incoming-is, then-accepted, said-message}
 use Rattle.protocol.proofs.CompletionProduct.{modulus-above, modulus-below}
-
--- ---- the dealer's rules
-
--- X0, A0, Q, G and Y0, B0, R, V are dealt together exactly where B0 = X0 × Y0 − A0 and V = R × Q + G, and Q has an inverse
-pub dealt-system : (t : Terms) (x0 a0 qm g y0 b0 r v : List ℕ) → dealtTogether system t (x0 ∷ a0 ∷ qm ∷ g ∷ []) (y0 ∷ b0 ∷ r ∷ v ∷ [])
-    ≡ both (eqList b0 (dealB (t .q) (t .m) (t .k) (t .p) x0 y0 a0)) (both (eqList v (dealV (t .q) (t .m) r qm g)) (regular (t .q) (t .m) qm))
-unfolding dealtTogether dealtB dealtV eqLists
-dealt-system t x0 a0 qm g y0 b0 r v = same-test _ _
-    (λ e.
-    let second = and-right _ _ (and-left _ _ (and-right _ _ e)) in
-    and-both (and-left _ _ second) (and-both (and-left _ _ (and-right _ _ (and-right _ _ second))) (and-right _ _ (and-right _ _ e))))
-    (λ e. and-both (and-both (eqList-of refl) (and-both (eqList-of refl) (and-both (eqList-of refl) (and-both (eqList-of refl) refl))))
-    (and-both (and-both (eqList-of refl) (and-both (and-left _ _ e) (and-both (eqList-of refl) (and-both (and-left _ _ (and-right _ _ e)) refl)))) (and-right _ _ (and-right _ _ e))))
 
 -- ---- the inputs that the steps take
 

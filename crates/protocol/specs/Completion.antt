@@ -1,6 +1,6 @@
 -- How many tapes and coins of the other end stand behind a view, and the promise on these numbers. Assumes nothing.
 -- messagesOf            what an end sends, by its own steps, one after the other
--- dealtTogether         the dealer's rules for two halves
+-- dealing, dealtTogether the dealer's rules for two halves
 -- isCompletion          a tape and coins of the other end that give a view (01: a filling)
 -- completions           how many there are
 -- Counted               the inputs that are counted over
@@ -10,7 +10,7 @@ use mathlib.Core.Path.{_≡_}
 use mathlib.Core.Logic.{_≢_, _↔_}
 use mathlib.Core.Bool.{Bool, true, false, cond}
 use mathlib.Core.List.{List, [], _∷_, _++_}
-use Prim.Native.Nat.{ℕ, _*_}
+use Prim.Native.Nat.{ℕ, _+_, _*_}
 use lib.Dec.{eqb}
 use lib.ListN.{length, take, drop}
 use Rattle.algebra.specs.Matrix.{zeros, matAdd, matMul}
@@ -22,8 +22,8 @@ use Rattle.protocol.specs.declared.Terms.{Terms}
 use Rattle.protocol.specs.Judge.{Test, Judged, refused, done, judge}
 use Rattle.protocol.specs.Drawing.{wordsFor}
 use Rattle.protocol.specs.Bounds.{Sort, product, system, inputTests}
-use Rattle.protocol.specs.Tape.{Slot, slotAt, poolWith, headerWords, READY, Role, left, right, blinder, solver, sortOf, layout, tapeSize}
-use Rattle.protocol.specs.Deal.{Request, firstHalf, secondHalf, dealtB, dealtV, maskFits}
+use Rattle.protocol.specs.Tape.{Slot, slotAt, slotWords, poolWith, Role, left, right, blinder, solver, sortOf, layout, tapeSize, matrices}
+use Rattle.protocol.specs.Deal.{firstRole, secondRole, Dealt, deal, firstAfter, secondAfter}
 use Rattle.protocol.specs.Message.{Message, messageSize}
 use Rattle.protocol.specs.Step.{Outcome, scratchAfter}
 use Rattle.protocol.specs.Product.{rightFirst, leftStep}
@@ -31,11 +31,6 @@ use Rattle.protocol.specs.System.{sideSize, scratchSize, regularTests, s
 use Rattle.protocol.specs.View.{View, facing, coinLayout, Finished, Unfinished}
 
 -- ---- the messages that an end sends
-
--- a half as dealt, alone in a pool
-unfoldable pub dealtSlot : Role → Terms → (half : List (List ℕ)) → Slot
-dealtSlot role t ls =
-    slotAt (headerWords READY (t .tape .0) (sortOf role) (t .q) (t .m) (t .k) (t .p) ++ join ls) (tapeSize role (t .m) (t .k) (t .p)) 0
 
 -- the session's message of a kind with these residues
 abbrev pub incoming : ℕ → Terms → (residues : List ℕ) → Message
@@ -80,12 +75,12 @@ module _ (t : Terms) (s : Slot) (input got : List (List ℕ)) where
       andThen s first (λ x s. hearing got (λ a got.
       andThen s (blinderSecond x s (over (scratchAfter first) lent) (incoming 3 t a) (messageSize 4 t)) (λ x s. []))))
 
--- what an end sends that holds this half as dealt, draws these coins, has this input and gets these messages
-abbrev pub messagesOf : Role → Terms → (half : List (List ℕ)) (coins : List ℕ) (input got : List (List ℕ)) → List (List ℕ)
-messagesOf left t half coins input got = leftMessages t (dealtSlot left t half) input got (wordsFor (t .q) coins)
-messagesOf right t half coins input got = rightMessages t (dealtSlot right t half) input got
-messagesOf blinder t half coins input got = blinderMessages t (dealtSlot blinder t half) input got (wordsFor (t .q) coins)
-messagesOf solver t half coins input got = solverMessages t (dealtSlot solver t half) input got
+-- what an end sends that has its half in this slot, draws these coins, has this input and gets these messages
+abbrev pub messagesOf : Role → Terms → Slot → (coins : List ℕ) (input got : List (List ℕ)) → List (List ℕ)
+messagesOf left t s coins input got = leftMessages t s input got (wordsFor (t .q) coins)
+messagesOf right t s coins input got = rightMessages t s input got
+messagesOf blinder t s coins input got = blinderMessages t s input got (wordsFor (t .q) coins)
+messagesOf solver t s coins input got = solverMessages t s input got
 
 -- ---- the dealer's rules
 
@@ -101,22 +96,42 @@ abbrev pub drawnIn : Sort → (first second : List (List ℕ)) → List (List �
 drawnIn product a b = part 0 a ∷ part 0 b ∷ part 1 a ∷ []
 drawnIn system a b = part 0 a ∷ part 0 b ∷ part 1 a ∷ part 2 a ∷ part 2 b ∷ part 3 a ∷ []
 
-abbrev pub tapeRequest : Sort → Terms → Request
-tapeRequest sort t = record { sort = sort; tape = t .tape; q = t .q; m = t .m; k = t .k; p = t .p; words = [] }
+-- the same, of an end's own half and the other's
+abbrev pub drawnBetween : Role → (own other : List (List ℕ)) → List (List ℕ)
+drawnBetween left own other = drawnIn product own other
+drawnBetween right own other = drawnIn product other own
+drawnBetween blinder own other = drawnIn system own other
+drawnBetween solver own other = drawnIn system other own
 
--- the dealer makes these two halves of what is drawn, and takes it: Q has an inverse
-unfoldable pub dealtTogether : Sort → Terms → (first second : List (List ℕ)) → Bool
-dealtTogether sort t a b =
-    let d = drawnIn sort a b in
-    both (eqLists a (firstHalf sort d))
-    (both (eqLists b (secondHalf sort d (dealtB (tapeRequest sort t) d) (dealtV (tapeRequest sort t) d))) (maskFits sort (t .q) (t .m) d))
+-- room for either half of a tape
+abbrev pub slotSize : Sort → Terms → ℕ
+slotSize sort t = tapeSize (firstRole sort) (t .m) (t .k) (t .p) + tapeSize (secondRole sort) (t .m) (t .k) (t .p)
 
--- the same of an end's own half and the other's
-abbrev pub dealtWith : Role → Terms → (own other : List (List ℕ)) → Bool
-dealtWith left t own other = dealtTogether product t own other
-dealtWith right t own other = dealtTogether product t other own
-dealtWith blinder t own other = dealtTogether system t own other
-dealtWith solver t own other = dealtTogether system t other own
+-- the dealing that draws these matrices, over two empty slots, each alone in its pool
+unfoldable pub dealing : Sort → Terms → (drawn : List (List ℕ)) → Judged Dealt
+dealing sort t d =
+    let size = slotSize sort t in
+    deal (zeros size) (zeros size) size 0
+    (record { sort = sort; tape = t .tape; q = t .q; m = t .m; k = t .k; p = t .p; words = wordsFor (t .q) (join d) })
+
+abbrev pub isDone : Judged Dealt → Bool
+isDone (refused r) = false
+isDone (done d) = true
+
+-- the slot in which a dealing left an end's half
+abbrev pub dealtSlot : Role → Terms → Judged Dealt → Slot
+dealtSlot left t o = slotAt (firstAfter [] o) (slotSize product t) 0
+dealtSlot right t o = slotAt (secondAfter [] o) (slotSize product t) 0
+dealtSlot blinder t o = slotAt (firstAfter [] o) (slotSize system t) 0
+dealtSlot solver t o = slotAt (secondAfter [] o) (slotSize system t) 0
+
+-- the matrices of an end's half, as they stand in a slot, are these
+unfoldable pub holds : Role → Terms → Slot → (half : List (List ℕ)) → Bool
+holds role t s half = eqLists half (matrices role t (slotWords s))
+
+-- a dealing is accepted, and leaves these two halves
+unfoldable pub dealtTogether : Role → Terms → Judged Dealt → (own other : List (List ℕ)) → Bool
+dealtTogether role t o own other = both (isDone o) (both (holds role t (dealtSlot role t o) own) (holds (facing role) t (dealtSlot (facing role) t o) other))
 
 -- P has an inverse
 abbrev pub coinsFit : Role → Terms → (coins : List (List ℕ)) → Bool
@@ -128,16 +143,17 @@ coinsFit solver t c = true
 -- ---- completions
 
 -- 01: "A filling is the other end's tape, coins and P, counted in residues, with which the dealer's rules and the other end's steps give that view; P and Q
--- in it have an inverse". f: the matrices of the other end's half, then its coins and P; with them and with the input i its steps, on the messages that
--- the viewer sent, send those received so far
+-- in it have an inverse". f: the matrices of the other end's half, then its coins and P. The dealer, drawing what stands in the two halves, leaves them both;
+-- it asks that Q has an inverse. With the coins, the input i and the messages that the viewer sent, the other end's steps on its slot send those received so far
 unfoldable pub isCompletion : View → (i f : List (List ℕ)) → Bool
 isCompletion v i f =
     let other = facing (v .role) in
     let t = v .terms in
     let n = length (layout other (t .m) (t .k) (t .p)) in
-    both (dealtWith (v .role) t (v .half) (take n f))
+    let o = dealing (sortOf (v .role)) t (drawnBetween (v .role) (v .half) (take n f)) in
+    both (dealtTogether (v .role) t o (v .half) (take n f))
     (both (coinsFit other t (drop n f))
-    (eqLists (v .received) (take (length (v .received)) (messagesOf other t (take n f) (join (drop n f)) i (v .sent)))))
+    (eqLists (v .received) (take (length (v .received)) (messagesOf other t (dealtSlot other t o) (join (drop n f)) i (v .sent)))))
 
 unfoldable pub completions : View → (input : List (List ℕ)) → ℕ
 completions v i =
