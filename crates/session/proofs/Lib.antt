@@ -1,0 +1,8 @@
+-- Join    judging two groups of tests is taking the lower of their refusals; tests made phase by phase
+-- Shape   what sides that fit are bounded by; the sizes of messages as code counts them
+-- Phases  the shared groups of tests, in the phases in which the code makes them
+-- Slot    a slot lent as a part of its pool, its status, and a half in it
+pub mod Join
+pub mod Shape
+pub mod Phases
+pub mod Slot

@@ -1,0 +1,40 @@
+-- The shared groups of tests, in the phases in which the code makes them. Assumes nothing.
+use mathlib.Core.Path.{_≡_, refl, sym, ap, _∙_}
+use mathlib.Core.Bool.{Bool, true, false}
+use mathlib.Core.List.{List, [], _∷_, _++_}
+use Prim.Native.Nat.{ℕ}
+use Rattle.algebra.specs.Count.{both}
+use Rattle.protocol.specs.declared.Terms.{Terms}
+use Rattle.protocol.specs.declared.Head.{Head}
+use Rattle.protocol.specs.declared.Refusal.the-variants.{Size}
+use Rattle.protocol.specs.Judge.{needs, clear, refused, done, judge, judgeBy}
+use Rattle.protocol.specs.Bounds.{Sort}
+use Rattle.protocol.specs.Tape.{Role}
+use Rattle.checks.specs.InOrder.{only, sortedBy, sorted, judged, after}
+use Rattle.checks.proofs.InOrder.{after-last}
+use Rattle.checks.proofs.Place.{no-slot}
+use Rattle.session.specs.Groups.{numberTests, placeTests, countTests}
+use Rattle.session.proofs.Join.{judged-phases}
+
+pub sizes-phases : (sort : Sort) (role : Role) (t : Terms) (pool size index : ℕ)
+    → judged (numberTests sort t ++ placeTests role t pool size index) ≡ after (judged (numberTests sort t)) (judged (placeTests role t pool size index))
+unfolding sorted sortedBy only numberTests placeTests
+sizes-phases sort role t pool size index =
+    judged-phases _ (numberTests sort t ∷ placeTests role t pool size index ∷ []) refl
+    ∙ ap (after (judged (numberTests sort t))) (sym (after-last (judged (placeTests role t pool size index))))
+
+pub head-phases : (sort : Sort) (a : Head) (count : ℕ)
+    → judged (numberTests sort (a .terms) ++ countTests a count) ≡ after (judged (numberTests sort (a .terms))) (judged (countTests a count))
+unfolding sorted sortedBy only numberTests countTests
+head-phases sort a count =
+    judged-phases _ (numberTests sort (a .terms) ∷ countTests a count ∷ []) refl
+    ∙ ap (after (judged (numberTests sort (a .terms)))) (sym (after-last (judged (countTests a count))))
+
+first-fails : (h : Bool) → judged (needs Size false ∷ needs Size h ∷ []) ≡ refused Size
+unfolding judge judgeBy clear both
+first-fails h = refl
+
+-- no slot has the size 0
+pub no-place : (role : Role) (t : Terms) (pool size index : ℕ) → size ≡ 0 → judged (placeTests role t pool size index) ≡ refused Size
+unfolding placeTests
+no-place role t pool size index e = rw (no-slot pool size index e) (first-fails _)

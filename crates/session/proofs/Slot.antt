@@ -1,0 +1,125 @@
+-- A slot lent as a part of its pool, its status, and its matrices as parts of it.
+--   slot-part, slot-back, slot-written  a slot lent to a reader, and to a writer
+--   status-set                          the first word of a slot is its status
+--   part-written, zeroed-spent          a part of a slot lent to a writer; a spent tape
+-- Assumes nothing.
+use mathlib.Core.Path.{_≡_, refl, sym, ap, _∙_}
+use mathlib.Core.List.{List, [], _∷_, _++_, append-nil}
+use Prim.Native.Nat.{ℕ, zero, suc, _+_, _-_, _*_, _≤_, _<_}
+use native.Mathlib.Nat.{not-suc-le-zero}
+use native.Mathlib.Omega.{arith}
+use lib.ListN.{length, set, take, drop, length-append, length-take, length-drop, drop-of-length-le}
+use lib.Seq.{take-all}
+use borrow.Rule.Slice.PartMut.{midOf, putMid}
+use Rattle.algebra.specs.Matrix.{zeros}
+use Rattle.algebra.specs.Words.{over, writtenAt}
+use Rattle.algebra.proofs.Lists.{length-tabulate}
+use Rattle.protocol.specs.declared.Terms.{Terms}
+use Rattle.protocol.specs.Tape.{Role, slotAt, slotWords, poolWith, bodySize, tapeSize, body, withStatus, spent, IN-USE, wordsInUse, wordsSpent}
+
+-- ---- a slot of a pool
+
+-- a slot, lent as a part of its pool
+pub slot-part : (pool : List ℕ) (size index : ℕ) → take (index * size + size - index * size) (drop (index * size) pool) ≡ slotWords (slotAt pool size index)
+unfolding slotWords
+slot-part pool size index =
+    let n : index * size + size - index * size ≡ size = omega arith in
+    rw n
+
+pub slot-part-length : (pool : List ℕ) (size index : ℕ) → index * size + size ≤ length pool
+    → length (take (index * size + size - index * size) (drop (index * size) pool)) ≡ size
+slot-part-length pool size index h = simp (length-take, length-drop) (omega arith)
+
+-- a slot that was lent comes back with other words
+slot-back : (pool ys : List ℕ) (size index : ℕ) → length ys ≡ size
+    → putMid (index * size) (index * size + size - index * size) pool ys ≡ poolWith (slotAt pool size index) ys
+unfolding poolWith writtenAt over
+slot-back pool ys size index e =
+    let n : index * size + size - index * size ≡ length ys = omega arith in
+    rw n
+
+-- a slot lent to a writer that makes f of its words
+pub slot-written : (pool ys : List ℕ) (size index : ℕ) (f : List ℕ → List ℕ) → index * size + size ≤ length pool
+    → ((words : List ℕ) → length words ≡ size → length (f words) ≡ size)
+    → ys ≡ f (take (index * size + size - index * size) (drop (index * size) pool))
+    → putMid (index * size) (index * size + size - index * size) pool ys ≡ poolWith (slotAt pool size index) (f (slotWords (slotAt pool size index)))
+slot-written pool ys size index f inside keeps e =
+    slot-back pool ys size index (ap length e ∙ keeps _ (slot-part-length pool size index inside))
+    ∙ ap (poolWith (slotAt pool size index)) (e ∙ ap f (slot-part pool size index))
+
+-- ---- its status
+
+status-set : (v : ℕ) (words : List ℕ) → 0 < length words → set words 0 v ≡ withStatus v words
+unfolding withStatus writtenAt over
+status-set v [] h = absurd (not-suc-le-zero h)
+status-set v (x ∷ words) h = refl
+
+status-length : (v : ℕ) (words : List ℕ) → 0 < length words → length (withStatus v words) ≡ length words
+unfolding withStatus writtenAt over
+status-length v words h = simp length-drop (omega arith)
+
+pub in-use-set : (words : List ℕ) → 0 < length words → set words 0 2 ≡ wordsInUse words
+unfolding wordsInUse
+in-use-set words h = status-set IN-USE words h
+
+pub in-use-length : (words : List ℕ) → 0 < length words → length (wordsInUse words) ≡ length words
+unfolding wordsInUse
+in-use-length words h = status-length IN-USE words h
+
+-- ---- a spent tape
+
+-- the part `&mut xs[a..]` was lent to a writer of ws, which left ys there
+pub part-written : (a : ℕ) (ws xs ys : List ℕ) → a ≤ length xs → ys ≡ over ws (midOf a (length xs - a) xs)
+    → putMid a (length xs - a) xs ys ≡ writtenAt a ws xs
+unfolding writtenAt
+part-written a ws xs ys h e =
+    let len : length (drop a xs) ≤ length xs - a = omega (arith, length-drop a xs) in
+    let none : drop (length xs - a) (drop a xs) ≡ [] = drop-of-length-le (drop a xs) len in
+    let all : take (length xs - a) (drop a xs) ≡ drop a xs = take-all (length xs - a) (drop a xs) len in
+    ap (λ (l : List ℕ). take a xs ++ (ys ++ l)) none
+    ∙ ap (λ (l : List ℕ). take a xs ++ l) (append-nil ys ∙ (e ∙ ap (over ws) all))
+
+pub written-length : (a : ℕ) (ws xs : List ℕ) → a + length ws ≤ length xs → length (writtenAt a ws xs) ≡ length xs
+unfolding writtenAt over
+written-length a ws xs h = simp (length-append, length-take, length-drop) (omega arith)
+
+pub zeros-count : (n : ℕ) → length (zeros n) ≡ n
+unfolding zeros
+zeros-count n = length-tabulate n _
+
+pub zeroed-spent : (n : ℕ) (words ys : List ℕ) → 7 + n ≤ length words → ys ≡ over (zeros n) (midOf 7 (length words - 7) words)
+    → set (putMid 7 (length words - 7) words ys) 0 3 ≡ spent n words
+unfolding spent
+zeroed-spent n words ys h e =
+    rw (part-written 7 (zeros n) words ys (omega arith) e)
+    (status-set 3 (writtenAt 7 (zeros n) words) (omega (arith, written-length 7 (zeros n) words (omega (arith, zeros-count n)))))
+
+spent-length : (n : ℕ) (words : List ℕ) → 7 + n ≤ length words → length (spent n words) ≡ length words
+unfolding spent
+spent-length n words h =
+    let whole = written-length 7 (zeros n) words (omega (arith, zeros-count n)) in
+    status-length 3 (writtenAt 7 (zeros n) words) (omega arith) ∙ whole
+
+-- ---- a half
+
+module _ (role : Role) (t : Terms) where
+  pub half-body : 7 + bodySize role (t .m) (t .k) (t .p) ≡ tapeSize role (t .m) (t .k) (t .p)
+  unfolding tapeSize
+  half-body = refl
+
+  -- the words between the header and a half's end are its matrices
+  pub body-part : (words : List ℕ) (half : ℕ) → half ≡ tapeSize role (t .m) (t .k) (t .p) → take (half - 7) (drop 7 words) ≡ body role t words
+  unfolding body tapeSize
+  body-part words half e =
+      let n : half - 7 ≡ bodySize role (t .m) (t .k) (t .p) = omega arith in
+      rw n
+
+  pub spent-is : (words : List ℕ) (half : ℕ) → half ≡ tapeSize role (t .m) (t .k) (t .p) → spent (half - 7) words ≡ wordsSpent role t words
+  unfolding wordsSpent tapeSize
+  spent-is words half e =
+      let n : half - 7 ≡ bodySize role (t .m) (t .k) (t .p) = omega arith in
+      rw n
+
+  pub spent-keeps : (words : List ℕ) → tapeSize role (t .m) (t .k) (t .p) ≤ length words → length (wordsSpent role t words) ≡ length words
+  unfolding wordsSpent
+  spent-keeps words h = spent-length _ words (omega (arith, half-body, h))

@@ -1,0 +1,56 @@
+use mathlib.Core.Path.{_≡_, refl, sym, ap, _∙_}
+use mathlib.Core.List.{List, _++_}
+use Prim.Native.Nat.{ℕ, _+_, _*_, _-_, _/_, _%_, _≤_, _<_}
+use native.Mathlib.Omega.{arith}
+use lib.ListN.{length, getD, set, take, drop}
+use borrow.Author.Needs.{needs}
+use Rattle.session.specs.Groups.{modulusTests, kindTests, numberTests, placeTests, idTests, countTests, sameTests}
+use Rattle.session.proofs.Join.{judged-join, judged-cons, judged-phases}
+use Rattle.session.proofs.Shape.{product-kind, system-kind, sides-of, side-fits, few, ids-fit, size-1, size-2, size-3, size-4, size-5}
+use Rattle.checks.specs.InOrder.{checked}
+use Rattle.session.proofs.Phases.{sizes-phases, head-phases, no-place}
+use Rattle.session.proofs.Join.{hands-on, goes-past}
+use Rattle.session.specs.Ends.{role, sort}
+use Rattle.protocol.specs.Message.{kindSort}
+use Rattle.session.proofs.numbers.check_head.Statement.{statement}
+use Rattle.session.proofs.numbers.check_head.Tie as tie
+
+kind-sides-fit-requires : tie.Need-kind-sides-fit-requires
+kind-sides-fit-requires c κs = search needs
+
+check-ids-requires : tie.Need-check-ids-requires
+check-ids-requires c κs = search needs
+
+enum-told : tie.Need-enum-told
+enum-told c = search needs
+
+enum-told-2 : tie.Need-enum-told-2
+enum-told-2 c = search needs
+
+returns : tie.Need-returns
+unfolding numberTests idTests countTests
+returns c = hands-on (c .before .before .check-ids .result) _ (rw (c .before .before .before .kind-sides-fit .ensures) at (c .before .before .check-ids .ensures)) (c .enum-told2 .given .1) ∙ sym (head-phases (kindSort (c .before .before .before .before .before .args .a .kind)) (c .before .before .before .before .before .args .a) (c .before .before .before .before .before .args .count))
+
+message-size-requires : tie.Need-message-size-requires
+unfolding idTests
+message-size-requires c κs = let t = c .before .before .before .before .before .args .a .terms in few (kindSort (c .before .before .before .before .before .args .a .kind)) (t .m) (t .k) (t .p) (ids-fit t _ (sym (rw (c .before .before .before .kind-sides-fit .ensures) at (c .before .before .check-ids .ensures)) ∙ ap checked (c .enum-told .given .1)))
+
+need-requires : tie.Need-need-requires
+need-requires c κs = search needs
+
+returns-2 : tie.Need-returns-2
+unfolding numberTests idTests countTests
+returns-2 c = simp (c .need .ensures, c .before .message-size .ensures) refl ∙ sym (head-phases (kindSort (c .before .before .before .before .before .before .before .args .a .kind)) (c .before .before .before .before .before .before .before .args .a) (c .before .before .before .before .before .before .before .args .count) ∙ goes-past (c .before .before .before .before .check-ids .result) (rw (c .before .before .before .before .before .kind-sides-fit .ensures) at (c .before .before .before .before .check-ids .ensures)) (c .before .before .enum-told .given .1))
+
+pub check-head-spec : {M : Type 1} → statement M
+check-head-spec =
+    tie.close
+    (tie.spec
+    kind-sides-fit-requires
+    check-ids-requires
+    enum-told
+    enum-told-2
+    returns
+    message-size-requires
+    need-requires
+    returns-2)

@@ -1,0 +1,74 @@
+use mathlib.Core.Path.{_≡_, refl, sym, ap, _∙_}
+use mathlib.Core.List.{List, _++_}
+use Prim.Native.Nat.{ℕ, _+_, _*_, _-_, _/_, _%_, _≤_, _<_}
+use native.Mathlib.Omega.{arith}
+use lib.ListN.{length, getD, set, take, drop}
+use borrow.Author.Needs.{needs}
+use Rattle.session.specs.Groups.{modulusTests, kindTests, numberTests, placeTests, idTests, countTests, sameTests}
+use Rattle.session.proofs.Join.{judged-join, judged-cons, judged-phases}
+use Rattle.session.proofs.Shape.{product-kind, system-kind, sides-of, side-fits, few, ids-fit, size-1, size-2, size-3, size-4, size-5}
+use Rattle.checks.specs.InOrder.{checked}
+use Rattle.session.proofs.Phases.{sizes-phases, head-phases, no-place}
+use Rattle.session.proofs.Join.{hands-on, goes-past}
+use Rattle.session.specs.Ends.{role, sort}
+use Rattle.protocol.specs.Message.{kindSort}
+use Rattle.checks.proofs.InOrder.{verdict-all}
+use Rattle.session.proofs.numbers.check_sizes.Statement.{statement}
+use Rattle.session.proofs.numbers.check_sizes.Tie as tie
+
+sides-fit-requires : tie.Need-sides-fit-requires
+sides-fit-requires c κs = search needs
+
+check-ids-requires : tie.Need-check-ids-requires
+check-ids-requires c κs = search needs
+
+enum-told : tie.Need-enum-told
+enum-told c = search needs
+
+enum-told-2 : tie.Need-enum-told-2
+enum-told-2 c = search needs
+
+returns : tie.Need-returns
+unfolding numberTests idTests placeTests
+returns c = hands-on (c .before .before .check-ids .result) _ (rw (c .before .before .before .sides-fit .ensures) at (c .before .before .check-ids .ensures)) (c .enum-told2 .given .1) ∙ sym (sizes-phases (sort (c .before .before .before .before .args .end)) (role (c .before .before .before .before .args .end)) (c .before .before .before .before .args .t) (c .before .before .before .before .args .pool) (c .before .before .before .before .args .size) (c .before .before .before .before .args .index))
+
+returns-2 : tie.Need-returns-2
+unfolding numberTests idTests placeTests
+returns-2 c = sym (sizes-phases (sort (c .before .before .before .before .before .args .end)) (role (c .before .before .before .before .before .args .end)) (c .before .before .before .before .before .args .t) (c .before .before .before .before .before .args .pool) (c .before .before .before .before .before .args .size) (c .before .before .before .before .before .args .index) ∙ goes-past (c .before .before .before .check-ids .result) (rw (c .before .before .before .before .sides-fit .ensures) at (c .before .before .before .check-ids .ensures)) (c .before .enum-told .given .1) ∙ no-place (role (c .before .before .before .before .before .args .end)) (c .before .before .before .before .before .args .t) (c .before .before .before .before .before .args .pool) (c .before .before .before .before .before .args .size) (c .before .before .before .before .before .args .index) (c .if1 .taken))
+
+div-need : tie.Need-div-need
+div-need c = search needs
+
+need-requires : tie.Need-need-requires
+need-requires c κs = search needs
+
+half-size-requires : tie.Need-half-size-requires
+unfolding numberTests idTests
+half-size-requires c κs = ids-fit (c .before .before .before .before .before .before .args .t) _ (sym (rw (c .before .before .before .before .before .sides-fit .ensures) at (c .before .before .before .before .check-ids .ensures)) ∙ ap checked (c .before .before .enum-told .given .1))
+
+need-requires-2 : tie.Need-need-requires-2
+need-requires-2 c κs = search needs
+
+worst-requires : tie.Need-worst-requires
+worst-requires c κs = search needs
+
+returns-3 : tie.Need-returns-3
+unfolding numberTests idTests placeTests
+returns-3 c = simp (c .worst .ensures, c .before .before .before .need .ensures, c .before .need2 .ensures, c .before .before .half-size .ensures) (sym (judged-cons _ _ _)) ∙ sym (sizes-phases (sort (c .before .before .before .before .before .before .before .before .before .args .end)) (role (c .before .before .before .before .before .before .before .before .before .args .end)) (c .before .before .before .before .before .before .before .before .before .args .t) (c .before .before .before .before .before .before .before .before .before .args .pool) (c .before .before .before .before .before .before .before .before .before .args .size) (c .before .before .before .before .before .before .before .before .before .args .index) ∙ goes-past (c .before .before .before .before .before .before .before .check-ids .result) (rw (c .before .before .before .before .before .before .before .before .sides-fit .ensures) at (c .before .before .before .before .before .before .before .check-ids .ensures)) (c .before .before .before .before .before .enum-told .given .1))
+
+pub check-sizes-spec : {M : Type 1} → statement M
+check-sizes-spec =
+    tie.close
+    (tie.spec
+    sides-fit-requires
+    check-ids-requires
+    enum-told
+    enum-told-2
+    returns
+    returns-2
+    div-need
+    need-requires
+    half-size-requires
+    need-requires-2
+    worst-requires
+    returns-3)

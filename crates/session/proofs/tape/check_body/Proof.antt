@@ -1,0 +1,45 @@
+use mathlib.Core.Path.{_≡_, refl, sym, ap, _∙_}
+use mathlib.Core.List.{List, _++_}
+use Prim.Native.Nat.{ℕ, _+_, _*_, _-_, _/_, _%_, _≤_, _<_}
+use native.Mathlib.Omega.{arith}
+use lib.ListN.{length, getD, set, take, drop}
+use borrow.Author.Needs.{needs}
+use Rattle.session.proofs.Slot.{slot-part, slot-part-length, slot-written, in-use-set, in-use-length, part-written, zeroed-spent, half-body, body-part, spent-is, spent-keeps}
+use Rattle.session.specs.Ends.{role, sort}
+use Rattle.protocol.specs.Tape.{bodyTests}
+use Rattle.session.proofs.tape.check_body.Statement.{statement}
+use Rattle.session.proofs.tape.check_body.Tie as tie
+
+half-size-requires : tie.Need-half-size-requires
+half-size-requires c κs = c .before .pre .0
+
+sub-all-below : tie.Need-sub-all-below
+sub-all-below c = omega (arith, c .half-size .ensures, half-body (role (c .before .before .args .end)) (c .before .before .args .t))
+
+part-all-below-start : tie.Need-part-all-below-start
+part-all-below-start c = let h = c .half-size .ensures in let b = half-body (role (c .before .before .args .end)) (c .before .before .args .t) in search needs
+
+part-all-below-end : tie.Need-part-all-below-end
+part-all-below-end c = let h = c .half-size .ensures in let b = half-body (role (c .before .before .args .end)) (c .before .before .args .t) in search needs
+
+all-below-requires : tie.Need-all-below-requires
+all-below-requires c κs = search needs
+
+need-requires : tie.Need-need-requires
+need-requires c κs = search needs
+
+returns : tie.Need-returns
+unfolding bodyTests
+returns c = simp (c .need .ensures, c .before .all-below .ensures, body-part (role (c .before .before .before .before .before .args .end)) (c .before .before .before .before .before .args .t) (c .before .before .before .before .before .args .slot .now) (c .before .before .before .half-size .result) (c .before .before .before .half-size .ensures))
+
+pub check-body-spec : {M : Type 1} → statement M
+check-body-spec =
+    tie.close
+    (tie.spec
+    half-size-requires
+    sub-all-below
+    part-all-below-start
+    part-all-below-end
+    all-below-requires
+    need-requires
+    returns)

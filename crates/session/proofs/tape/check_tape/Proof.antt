@@ -1,0 +1,35 @@
+use mathlib.Core.Path.{_≡_, refl, sym, ap, _∙_}
+use mathlib.Core.List.{List, _++_}
+use Prim.Native.Nat.{ℕ, _+_, _*_, _-_, _/_, _%_, _≤_, _<_}
+use native.Mathlib.Omega.{arith}
+use lib.ListN.{length, getD, set, take, drop}
+use borrow.Author.Needs.{needs}
+use Rattle.session.proofs.Slot.{slot-part, slot-part-length, slot-written, in-use-set, in-use-length, part-written, zeroed-spent, half-body, body-part, spent-is, spent-keeps}
+use Rattle.session.specs.Ends.{role, sort}
+use Rattle.protocol.specs.Tape.{tapeTests, statusOf}
+use Rattle.session.specs.Groups.{tapeNumberTests}
+use Rattle.session.proofs.Join.{judged-cons, also}
+use mathlib.Core.List.{[], _∷_}
+use Rattle.session.proofs.tape.check_tape.Statement.{statement}
+use Rattle.session.proofs.tape.check_tape.Tie as tie
+
+shared-slice-read-need : tie.Need-shared-slice-read-need
+shared-slice-read-need c = search needs
+
+need-requires : tie.Need-need-requires
+need-requires c κs = search needs
+
+check-numbers-requires : tie.Need-check-numbers-requires
+check-numbers-requires c κs = search needs
+
+worst-requires : tie.Need-worst-requires
+worst-requires c κs = search needs
+
+returns : tie.Need-returns
+unfolding tapeTests tapeNumberTests statusOf
+returns c = also (_ ∷ []) _ (c .worst .ensures) (c .before .before .need .ensures) (c .before .check-numbers .ensures)
+
+pub check-tape-spec : {M : Type 1} → statement M
+check-tape-spec =
+    tie.close
+    (tie.spec shared-slice-read-need need-requires check-numbers-requires worst-requires returns)

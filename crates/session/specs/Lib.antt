@@ -1,0 +1,6 @@
+-- Lowest  the lower of two judgements' refusals, and tests made phase by phase
+-- Ends    the ends as the code names them
+-- Groups  the groups of tests that the steps share
+pub mod Lowest
+pub mod Ends
+pub mod Groups

@@ -1,0 +1,219 @@
+// The checks of a session's numbers, of its slot's, and of a message's. None reads a word of a pool.
+use crate::End;
+use crate::lowest::need;
+use crate::lowest::worst;
+use checks::Check;
+use checks::modulus_fits;
+use checks::times;
+use matrix::Matrix;
+use protocol::Head;
+use protocol::Refusal;
+use protocol::Terms;
+ghost use mathlib.Core.Path.{_≡_};
+ghost use mathlib.Core.List.{_++_};
+ghost use Prim.Native.Nat.{_+_, _*_, _≤_, _<_};
+ghost use mathlib.Core.Bool.{true};
+ghost use Rattle.protocol.specs.Bounds.{within, fieldFits, sidesFit, system, columns};
+ghost use Rattle.protocol.specs.Tape.{bodySize, tapeSize};
+ghost use Rattle.protocol.specs.Message.{kindSort, messageSize};
+ghost use Rattle.checks.specs.InOrder.{checked, judged};
+ghost use Rattle.session.specs.Ends.{role, sort};
+ghost use Rattle.session.specs.Groups.{modulusTests, kindTests, numberTests, placeTests, idTests, countTests, sameTests};
+
+// ---- the modulus
+
+// The modulus of a system is prime.
+fn field_fits(end: End, q: u32) -> bool
+    ensures { λ r. ⌜ r ≡ fieldFits (sort end) q ⌝ }
+{
+    match end {
+        End::Left => true,
+        End::Right => true,
+        End::Blinder => field::is_prime(q),
+        End::Solver => field::is_prime(q),
+    }
+}
+
+pub fn check_modulus(end: End, q: u32) -> Check
+    ensures { λ r. ⌜ checked r ≡ judged (modulusTests (sort end) q) ⌝ }
+{
+    let range = need(Refusal::Modulus, modulus_fits(q));
+    let prime = need(Refusal::Composite, field_fits(end, q));
+    worst(range, prime)
+}
+
+fn kind_fits(kind: u32) -> bool
+    ensures { λ r. ⌜ r ≡ within 1 5 kind ⌝ }
+{
+    if kind < 1 {
+        return false;
+    }
+    if 5 < kind {
+        return false;
+    }
+    true
+}
+
+// Kinds 3 to 5 are of systems.
+fn kind_field_fits(kind: u32, q: u32) -> bool
+    ensures { λ r. ⌜ r ≡ fieldFits (kindSort kind) q ⌝ }
+{
+    if kind <= 2 {
+        return true;
+    }
+    field::is_prime(q)
+}
+
+pub fn check_kind(a: Head) -> Check
+    ensures { λ r. ⌜ checked r ≡ judged (kindTests a) ⌝ }
+{
+    let t = a.terms;
+    let kind = need(Refusal::Form, kind_fits(a.kind));
+    let range = need(Refusal::Modulus, modulus_fits(t.q));
+    let prime = need(Refusal::Composite, kind_field_fits(a.kind, t.q));
+    worst(kind, worst(range, prime))
+}
+
+// ---- sizes
+
+fn system_sides_fit(m: u32, k: u32, p: u32) -> bool
+    ensures { λ r. ⌜ r ≡ sidesFit system m k p ⌝ }
+{
+    if m < 1 {
+        return false;
+    }
+    if 16 < m {
+        return false;
+    }
+    if k != m {
+        return false;
+    }
+    if p != m + 1 {
+        return false;
+    }
+    true
+}
+
+fn sides_fit(end: End, m: u32, k: u32, p: u32) -> bool
+    ensures { λ r. ⌜ r ≡ sidesFit (sort end) m k p ⌝ }
+{
+    match end {
+        End::Left => Matrix::sides_fit(m, k, p),
+        End::Right => Matrix::sides_fit(m, k, p),
+        End::Blinder => system_sides_fit(m, k, p),
+        End::Solver => system_sides_fit(m, k, p),
+    }
+}
+
+fn kind_sides_fit(kind: u32, m: u32, k: u32, p: u32) -> bool
+    ensures { λ r. ⌜ r ≡ sidesFit (kindSort kind) m k p ⌝ }
+{
+    if kind <= 2 {
+        return Matrix::sides_fit(m, k, p);
+    }
+    system_sides_fit(m, k, p)
+}
+
+// Of the sides is told whether they fit.
+fn check_ids(t: Terms, fits: bool) -> Check
+    ensures { λ r. ⌜ checked r ≡ judged (idTests t fits) ⌝ }
+{
+    let session = t.session;
+    let tape = t.tape;
+    let first = need(Refusal::Size, 1 <= session.0);
+    let sides = need(Refusal::Size, fits);
+    let second = need(Refusal::Size, 1 <= tape.0);
+    worst(first, worst(sides, second))
+}
+
+// The words of an end's half.
+pub fn half_size(end: End, t: Terms) -> usize
+    requires { ⌜ sidesFit (sort end) (t .m) (t .k) (t .p) ≡ true ⌝ }
+    ensures { λ r. ⌜ r ≡ tapeSize (role end) (t .m) (t .k) (t .p) ⌝ }
+{
+    let mk = times(t.m, t.k);
+    let kp = times(t.k, t.p);
+    let mp = times(t.m, t.p);
+    match end {
+        End::Left => 7 + mk + mp,
+        End::Right => 7 + kp + mp,
+        End::Blinder => 7 + mk + mp + mk + mk,
+        End::Solver => 7 + kp + mp + mk + mk,
+    }
+}
+
+// A session's numbers, its sides, and the slot with its half.
+pub fn check_sizes(end: End, t: Terms, pool: usize, size: usize, index: usize) -> Check
+    ensures { λ r. ⌜ checked r ≡ judged (numberTests (sort end) t ++ placeTests (role end) t pool size index) ⌝ }
+{
+    let numbers = check_ids(t, sides_fit(end, t.m, t.k, t.p));
+    let Check::Passed = numbers else {
+        return numbers;
+    };
+    if size == 0 {
+        return Check::Refused(Refusal::Size);
+    }
+    let slot = need(Refusal::Size, index < pool / size);
+    let half = need(Refusal::Size, half_size(end, t) <= size);
+    worst(slot, half)
+}
+
+// How many residues a message of a kind has.
+pub fn message_size(kind: u32, t: Terms) -> usize
+    requires { ⌜ t .m * t .k + t .m * t .p ≤ 4096 ⌝ }
+    ensures { λ r. ⌜ r ≡ messageSize kind t ⌝ }
+{
+    if kind == 1 {
+        return times(t.k, t.p);
+    }
+    if kind == 2 {
+        return times(t.m, t.k) + times(t.m, t.p);
+    }
+    if kind == 3 {
+        return times(t.m, t.k);
+    }
+    let columns = columns_of(t.m, t.p);
+    if kind == 4 {
+        return times(t.m, t.k) + times(t.m, columns);
+    }
+    times(t.m, columns)
+}
+
+fn columns_of(m: u32, p: u32) -> u32
+    ensures { λ r. ⌜ r ≡ columns m p ⌝ }
+{
+    if p < m {
+        return 0;
+    }
+    p - m
+}
+
+// What a message shows by its head and its count of residues.
+pub fn check_head(a: Head, count: usize) -> Check
+    ensures { λ r. ⌜ checked r ≡ judged (numberTests (kindSort (a .kind)) (a .terms) ++ countTests a count) ⌝ }
+{
+    let t = a.terms;
+    let numbers = check_ids(t, kind_sides_fit(a.kind, t.m, t.k, t.p));
+    let Check::Passed = numbers else {
+        return numbers;
+    };
+    need(Refusal::Size, count == message_size(a.kind, t))
+}
+
+// The message bears the session's numbers.
+pub fn check_same(a: Head, t: Terms) -> Check
+    ensures { λ r. ⌜ checked r ≡ judged (sameTests a t) ⌝ }
+{
+    let b = a.terms;
+    let sent = b.session;
+    let own = t.session;
+    let sent_tape = b.tape;
+    let own_tape = t.tape;
+    let session = need(Refusal::Stranger, sent.0 == own.0);
+    let tape = need(Refusal::Stranger, sent_tape.0 == own_tape.0);
+    let q = need(Refusal::Stranger, b.q == t.q);
+    let m = need(Refusal::Stranger, b.m == t.m);
+    let k = need(Refusal::Stranger, b.k == t.k);
+    let p = need(Refusal::Stranger, b.p == t.p);
+    worst(session, worst(tape, worst(q, worst(m, worst(k, p)))))
+}
