@@ -2,7 +2,9 @@
 -- Shape   what sides that fit are bounded by; the sizes of messages as code counts them
 -- Phases  the shared groups of tests, in the phases in which the code makes them
 -- Slot    a slot lent as a part of its pool, its status, and a half in it
+-- Leaving  what a step leaves, refused and accepted
 pub mod Join
 pub mod Shape
 pub mod Phases
 pub mod Slot
+pub mod Leaving

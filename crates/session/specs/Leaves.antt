@@ -1,0 +1,30 @@
+-- Everything that a step's code leaves, as one term of the definition's outcome: a step's contract is one equation with it. Assumes nothing.
+use mathlib.Core.List.{List}
+use Prim.Native.Nat.{ℕ}
+use Rattle.algebra.specs.Words.{over}
+use Rattle.protocol.specs.declared.Answer.{Answer}
+use Rattle.protocol.specs.declared.Head.{Head}
+use Rattle.protocol.specs.Tape.{Slot}
+use Rattle.protocol.specs.Step.{Outcome, answerAfter, sessionAfter, poolAfter, scratchAfter, sentAfter, resultAfter}
+
+pub record Leaves (S : Type 0) : Type 0 where
+  pub answer : Answer
+  pub session : S
+  pub head : Head
+  pub pool : List ℕ
+  -- the slices lent for P and U0, for the message, and for the share or z; [] where none is lent
+  pub scratch : List ℕ
+  pub sent : List ℕ
+  pub result : List ℕ
+
+-- from the session, the slot and the lent slices as they were
+abbrev pub leaves : {S : Type 0} → S → Slot → (scratch sent result : List ℕ) → Outcome S → Leaves S
+leaves x s scratch sent result o = record {
+  answer = answerAfter o;
+  session = sessionAfter x o;
+  head = sentAfter o .head;
+  pool = poolAfter s o;
+  scratch = over (scratchAfter o) scratch;
+  sent = over (sentAfter o .residues) sent;
+  result = over (resultAfter o) result;
+}
