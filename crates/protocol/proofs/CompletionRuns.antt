@@ -1,0 +1,54 @@
+-- Completions of small views, computed from the definitions: the dealer and the steps run on every tape and coins. Assumes nothing.
+-- product-view   right's, after message 2: one completion for each input of left
+-- system-view    the blinder's, after message 5: one for an input of the solver with the solution seen, none for another
+use mathlib.Core.Path.{_≡_, refl}
+use mathlib.Core.List.{[], _∷_}
+use Rattle.algebra.specs.Matrix.{sumTo, tabulate, zeros, addMod, subMod, matAdd, matSub, dotTo, dot, matMul}
+use Rattle.algebra.specs.Count.{sumLists, count, countParts, both, eqList, parts, join}
+use Rattle.algebra.specs.Columns.{cols, beside}
+use Rattle.algebra.specs.Prime.{noDivisor, isPrime}
+use Rattle.algebra.specs.Elimination.{inverseBy, inverse, swapAt, swapRows, scaleRow, clearColumn, pivotFrom, pivot, step, eliminateFrom, eliminate, regular, solution}
+use Rattle.algebra.specs.Product.{dealB, sendY, sendX, sendR, rightShare}
+use Rattle.algebra.specs.System.{dealV, solverShare, sendF, sendW, sendC, sumMatrix}
+use Rattle.algebra.specs.Words.{over, writtenAt}
+use Rattle.protocol.specs.Judge.{given, clear, judgeBy, judge}
+use Rattle.protocol.specs.Drawing.{isKept, residueOf, residuesOf, drawn, wordsFor, wordsRead, drawTests}
+use Rattle.protocol.specs.Bounds.{within, columns, allBelow, fieldFits, sidesFit, shapeTests, termsTests, inputTests, roomTests}
+use Rattle.protocol.specs.Tape.{right, blinder, isSlot, slotWords, poolWith, headerWords, bodySize, tapeSize, statusOf, withStatus, spent, body, matrices, wordsInUse, wordsSpent, slotTests, halfTests, tapeTests, bodyTests}
+use Rattle.protocol.specs.Deal.{drawSize, drawnParts, dealtB, dealtV, isFree, dealTests, dealtOver, dealtEffect, deal}
+use Rattle.protocol.specs.Message.{kindSort, messageLayout, messageSize, messageParts, messageTests, dueTests}
+use Rattle.protocol.specs.Step.{firstTests, isOpen, openTests, laterTests}
+use Rattle.protocol.specs.Product.{rightFirstEffect, rightFirstTests, rightFirst, leftEffect, leftTests, leftStep, rightLastEffect, rightLastTests, rightLast}
+use Rattle.protocol.specs.System.{padded, sideSize, keptS, keptM, keptY, scratchSize, keptTests, blinderTests, solverTests, coinsOf, scratchParts, regularTests, jointSum, solverFirstEffect, solverFirstTests, solverFirst, blinderFirstEffect, blinderFirstTests, blinderFirst, solverSecondEffect, solverSecondTests, solverSecond, blinderSecondEffect, blinderSecondTests, blinderSecond, solverLastEffect, solverLastTests, solverLast, blinderLastEffect, blinderLastTests, blinderLast}
+use Rattle.protocol.specs.View.{View}
+use Rattle.protocol.specs.Completion.{said, andThen, hearing, rightMessages, leftMessages, solverMessages, blinderMessages, eqLists, dealing, holds, dealtTogether, isCompletion, completions}
+
+-- q 2, X and Y of one residue: Y0 1, B0 0; Y1 1 sent; X1 1, R1 0 received
+abbrev product-view : View
+product-view = record {
+  role = right;
+  terms = record { session = record { 0 = 9 }; tape = record { 0 = 4 }; q = 2; m = 1; k = 1; p = 1 };
+  input = (0 ∷ []) ∷ [];
+  half = (1 ∷ []) ∷ (0 ∷ []) ∷ [];
+  coins = [];
+  sent = (1 ∷ []) ∷ [];
+  received = (1 ∷ 0 ∷ []) ∷ [];
+}
+
+-- q 3, one unknown, M 1, y 2: X0 1, A0 (0,2), Q 2, G 1, P 1, U0 (1,0); Y1 (2,1), F 1, t 1 received, so that z is 2
+abbrev system-view : View
+system-view = record {
+  role = blinder;
+  terms = record { session = record { 0 = 9 }; tape = record { 0 = 4 }; q = 3; m = 1; k = 1; p = 2 };
+  input = (1 ∷ []) ∷ (2 ∷ []) ∷ [];
+  half = (1 ∷ []) ∷ (0 ∷ 2 ∷ []) ∷ (2 ∷ []) ∷ (1 ∷ []) ∷ [];
+  coins = 1 ∷ 1 ∷ 0 ∷ [];
+  sent = (2 ∷ 1 ∷ 2 ∷ []) ∷ (1 ∷ 2 ∷ []) ∷ [];
+  received = (2 ∷ 1 ∷ []) ∷ (1 ∷ []) ∷ (1 ∷ []) ∷ [];
+}
+
+-- X 0 and X 1; L 1 with x 2, whose solution is 2, and with x 0
+pub small-counts : completions product-view ((0 ∷ []) ∷ []) ∷ completions product-view ((1 ∷ []) ∷ [])
+    ∷ completions system-view ((1 ∷ []) ∷ (2 ∷ []) ∷ []) ∷ completions system-view ((1 ∷ []) ∷ (0 ∷ []) ∷ []) ∷ [] ≡ 1 ∷ 1 ∷ 1 ∷ 0 ∷ []
+unfolding sumTo tabulate zeros addMod subMod matAdd matSub dotTo dot matMul both eqList parts join cols beside noDivisor isPrime inverseBy inverse swapAt swapRows scaleRow clearColumn pivotFrom pivot step eliminateFrom eliminate regular solution dealB sendY sendX sendR rightShare dealV solverShare sendF sendW sendC sumMatrix given clear judgeBy judge isKept residueOf residuesOf drawn wordsRead drawTests within columns allBelow fieldFits sidesFit shapeTests termsTests inputTests roomTests over writtenAt isSlot slotWords poolWith headerWords bodySize tapeSize statusOf withStatus spent body matrices wordsInUse wordsSpent slotTests halfTests tapeTests bodyTests drawSize drawnParts dealtB dealtV isFree dealTests dealtOver dealtEffect deal kindSort messageLayout messageSize messageParts messageTests dueTests firstTests isOpen openTests laterTests rightFirstEffect rightFirstTests rightFirst leftEffect leftTests leftStep rightLastEffect rightLastTests rightLast padded sideSize keptS keptM keptY scratchSize keptTests blinderTests solverTests coinsOf scratchParts regularTests jointSum solverFirstEffect solverFirstTests solverFirst blinderFirstEffect blinderFirstTests blinderFirst solverSecondEffect solverSecondTests solverSecond blinderSecondEffect blinderSecondTests blinderSecond solverLastEffect solverLastTests solverLast blinderLastEffect blinderLastTests blinderLast sumLists count countParts wordsFor said andThen hearing rightMessages leftMessages solverMessages blinderMessages eqLists dealing holds dealtTogether isCompletion completions
+small-counts = refl
