@@ -1,0 +1,73 @@
+-- `tape::tests/product` meets its contract: the two groups of tests, in their order. Assumes nothing.
+use mathlib.Core.Path.{sym, ap, _∙_}
+use Prim.Native.Nat.{_<_}
+use native.Mathlib.Omega.{arith}
+use lib.ListN.{length}
+use borrow.Author.Needs.{needs}
+use Rattle.checks.specs.InOrder.{checked}
+use Rattle.protocol.specs.Bounds.{product}
+use Rattle.protocol.specs.Deal.{productRequest}
+use Rattle.tape.proofs.Sorted.{deal-judged}
+use Rattle.tape.proofs.Words.{slot-status}
+use Rattle.tape.proofs.Known.{numbers-passed, shape-masks, left-count}
+use Rattle.tape.proofs.tests.product.Statement.{statement}
+use Rattle.tape.proofs.tests.product.Tie as tie
+
+product-numbers-requires : tie.Need-product-numbers-requires
+product-numbers-requires c κs = search needs
+
+enum-told : tie.Need-enum-told
+enum-told c = search needs
+
+enum-told-2 : tie.Need-enum-told-2
+enum-told-2 c = search needs
+
+returns : tie.Need-returns
+returns c = rw (deal-judged (c .before .before .before .before .before .before .args .first .now) (c .before .before .before .before .before .before .args .second .now) (c .before .before .before .before .before .before .args .size) (c .before .before .before .before .before .before .args .index) (productRequest (c .before .before .before .before .before .before .args .tape) (c .before .before .before .before .before .before .args .q) (c .before .before .before .before .before .before .args .m) (c .before .before .before .before .before .before .args .k) (c .before .before .before .before .before .before .args .p) (c .before .before .before .before .before .before .args .words .now)), sym (c .before .before .product-numbers .ensures), c .enum-told2 .given .1)
+
+mul-at : tie.Need-mul-at
+mul-at c = let s = numbers-passed product (c .before .before .before .before .before .before .args .tape .0) (c .before .before .before .before .before .before .args .q) (c .before .before .before .before .before .before .args .m) (c .before .before .before .before .before .before .args .k) (c .before .before .before .before .before .before .args .p) (length (c .before .before .before .before .before .before .args .first .now)) (length (c .before .before .before .before .before .before .args .second .now)) (c .before .before .before .before .before .before .args .size) (c .before .before .before .before .before .before .args .index) (sym (c .before .before .product-numbers .ensures) ∙ ap checked (c .enum-told .given .1)) in
+    omega (arith, s .left .inside)
+
+mul-product-words : tie.Need-mul-product-words
+mul-product-words c = let s = numbers-passed product (c .before .before .before .before .before .before .args .tape .0) (c .before .before .before .before .before .before .args .q) (c .before .before .before .before .before .before .args .m) (c .before .before .before .before .before .before .args .k) (c .before .before .before .before .before .before .args .p) (length (c .before .before .before .before .before .before .args .first .now)) (length (c .before .before .before .before .before .before .args .second .now)) (c .before .before .before .before .before .before .args .size) (c .before .before .before .before .before .before .args .index) (sym (c .before .before .product-numbers .ensures) ∙ ap checked (c .enum-told .given .1)) in
+    search needs
+
+shared-slice-read-product-words : tie.Need-shared-slice-read-product-words
+shared-slice-read-product-words c = let s = numbers-passed product (c .before .before .before .before .before .before .before .args .tape .0) (c .before .before .before .before .before .before .before .args .q) (c .before .before .before .before .before .before .before .args .m) (c .before .before .before .before .before .before .before .args .k) (c .before .before .before .before .before .before .before .args .p) (length (c .before .before .before .before .before .before .before .args .first .now)) (length (c .before .before .before .before .before .before .before .args .second .now)) (c .before .before .before .before .before .before .before .args .size) (c .before .before .before .before .before .before .before .args .index) (sym (c .before .before .before .product-numbers .ensures) ∙ ap checked (c .before .enum-told .given .1)) in
+    omega (arith, s .left .inside, s .left .room, left-count (c .before .before .before .before .before .before .before .args .m) (c .before .before .before .before .before .before .before .args .k) (c .before .before .before .before .before .before .before .args .p))
+
+mul-product-words-2 : tie.Need-mul-product-words-2
+mul-product-words-2 c = let s = numbers-passed product (c .before .before .before .before .before .before .before .args .tape .0) (c .before .before .before .before .before .before .before .args .q) (c .before .before .before .before .before .before .before .args .m) (c .before .before .before .before .before .before .before .args .k) (c .before .before .before .before .before .before .before .args .p) (length (c .before .before .before .before .before .before .before .args .first .now)) (length (c .before .before .before .before .before .before .before .args .second .now)) (c .before .before .before .before .before .before .before .args .size) (c .before .before .before .before .before .before .before .args .index) (sym (c .before .before .before .product-numbers .ensures) ∙ ap checked (c .before .enum-told .given .1)) in
+    search needs
+
+shared-slice-read-product-words-2 : tie.Need-shared-slice-read-product-words-2
+shared-slice-read-product-words-2 c = let s = numbers-passed product (c .before .before .before .before .before .before .before .before .args .tape .0) (c .before .before .before .before .before .before .before .before .args .q) (c .before .before .before .before .before .before .before .before .args .m) (c .before .before .before .before .before .before .before .before .args .k) (c .before .before .before .before .before .before .before .before .args .p) (length (c .before .before .before .before .before .before .before .before .args .first .now)) (length (c .before .before .before .before .before .before .before .before .args .second .now)) (c .before .before .before .before .before .before .before .before .args .size) (c .before .before .before .before .before .before .before .before .args .index) (sym (c .before .before .before .before .product-numbers .ensures) ∙ ap checked (c .before .before .enum-told .given .1)) in
+    omega (arith, s .right .inside, s .left .room, left-count (c .before .before .before .before .before .before .before .before .args .m) (c .before .before .before .before .before .before .before .before .args .k) (c .before .before .before .before .before .before .before .before .args .p))
+
+product-words-requires : tie.Need-product-words-requires
+product-words-requires c κs = let s = numbers-passed product (c .before .before .before .before .before .before .before .before .args .tape .0) (c .before .before .before .before .before .before .before .before .args .q) (c .before .before .before .before .before .before .before .before .args .m) (c .before .before .before .before .before .before .before .before .args .k) (c .before .before .before .before .before .before .before .before .args .p) (length (c .before .before .before .before .before .before .before .before .args .first .now)) (length (c .before .before .before .before .before .before .before .before .args .second .now)) (c .before .before .before .before .before .before .before .before .args .size) (c .before .before .before .before .before .before .before .before .args .index) (sym (c .before .before .before .before .product-numbers .ensures) ∙ ap checked (c .before .before .enum-told .given .1)) in
+    let g = shape-masks _ _ _ _ _ (s .shape) in
+    (g .some-q, g .few-mk, g .few-kp, g .few-mp)
+
+returns-2 : tie.Need-returns-2
+returns-2 c = let s = numbers-passed product (c .before .before .before .before .before .before .before .before .before .args .tape .0) (c .before .before .before .before .before .before .before .before .before .args .q) (c .before .before .before .before .before .before .before .before .before .args .m) (c .before .before .before .before .before .before .before .before .before .args .k) (c .before .before .before .before .before .before .before .before .before .args .p) (length (c .before .before .before .before .before .before .before .before .before .args .first .now)) (length (c .before .before .before .before .before .before .before .before .before .args .second .now)) (c .before .before .before .before .before .before .before .before .before .args .size) (c .before .before .before .before .before .before .before .before .before .args .index) (sym (c .before .before .before .before .before .product-numbers .ensures) ∙ ap checked (c .before .before .before .enum-told .given .1)) in
+    let some : 0 < c .before .before .before .before .before .before .before .before .before .args .size = omega (arith, s .left .room, left-count (c .before .before .before .before .before .before .before .before .before .args .m) (c .before .before .before .before .before .before .before .before .before .args .k) (c .before .before .before .before .before .before .before .before .before .args .p)) in
+    rw (deal-judged (c .before .before .before .before .before .before .before .before .before .args .first .now) (c .before .before .before .before .before .before .before .before .before .args .second .now) (c .before .before .before .before .before .before .before .before .before .args .size) (c .before .before .before .before .before .before .before .before .before .args .index) (productRequest (c .before .before .before .before .before .before .before .before .before .args .tape) (c .before .before .before .before .before .before .before .before .before .args .q) (c .before .before .before .before .before .before .before .before .before .args .m) (c .before .before .before .before .before .before .before .before .before .args .k) (c .before .before .before .before .before .before .before .before .before .args .p) (c .before .before .before .before .before .before .before .before .before .args .words .now)), sym (c .before .before .before .before .before .product-numbers .ensures) ∙ ap checked (c .before .before .before .enum-told .given .1))
+    (rw (slot-status (c .before .before .before .before .before .before .before .before .before .args .first .now) (c .before .before .before .before .before .before .before .before .before .args .size) (c .before .before .before .before .before .before .before .before .before .args .index) some, slot-status (c .before .before .before .before .before .before .before .before .before .args .second .now) (c .before .before .before .before .before .before .before .before .before .args .size) (c .before .before .before .before .before .before .before .before .before .args .index) some) at (c .product-words .ensures))
+
+pub product-spec : {M : Type 1} → statement M
+product-spec =
+    tie.close
+    (tie.spec
+    product-numbers-requires
+    enum-told
+    enum-told-2
+    returns
+    mul-at
+    mul-product-words
+    shared-slice-read-product-words
+    mul-product-words-2
+    shared-slice-read-product-words-2
+    product-words-requires
+    returns-2)

@@ -1,0 +1,66 @@
+-- `tape::write/draw_next` meets its contract: the parts that are lent are tails. Assumes nothing.
+use native.Mathlib.Omega.{arith}
+use lib.ListN.{drop}
+use borrow.Author.Needs.{needs}
+use lib.ListN.{length-take, length-drop}
+use Rattle.tape.proofs.Words.{tail-part, part-written}
+use Rattle.drawing.proofs.Then.{read-few}
+use Rattle.tape.proofs.write.draw_next.Statement.{statement}
+use Rattle.tape.proofs.write.draw_next.Tie as tie
+
+mul-draw : tie.Need-mul-draw
+mul-draw c = search needs
+
+sub-draw : tie.Need-sub-draw
+sub-draw c = search needs
+
+part-draw-start : tie.Need-part-draw-start
+part-draw-start c = search needs
+
+part-draw-end : tie.Need-part-draw-end
+part-draw-end c = search needs
+
+mul-draw-2 : tie.Need-mul-draw-2
+mul-draw-2 c = search needs
+
+sub-draw-2 : tie.Need-sub-draw-2
+sub-draw-2 c = search needs
+
+part-draw-start-2 : tie.Need-part-draw-start-2
+part-draw-start-2 c = search needs
+
+part-draw-end-2 : tie.Need-part-draw-end-2
+part-draw-end-2 c = search needs
+
+draw-requires : tie.Need-draw-requires
+draw-requires c κs = (c .before .before .before .before .pre .0, rw (tail-part (c .before .before .before .before .args .from) (c .before .before .before .before .args .words .now)) (c .before .before .before .before .pre .2), simp (length-take, length-drop) (omega (arith, c .before .before .before .before .pre .3)))
+
+add-result : tie.Need-add-result
+add-result c = omega (arith, c .before .before .draw .ensures .0, read-few (c .before .before .before .before .before .before .before .args .q) (c .before .before .before .before .before .before .before .args .n) (drop (c .before .before .before .before .before .before .before .args .from) (c .before .before .before .before .before .before .before .args .words .now)), length-drop (c .before .before .before .before .before .before .before .args .from) (c .before .before .before .before .before .before .before .args .words .now), rw (tail-part (c .before .before .before .before .before .before .before .args .from) (c .before .before .before .before .before .before .before .args .words .now)) at (c .before .before .draw .ensures .0))
+
+same-length : tie.Need-same-length
+same-length c = search needs
+
+returns : tie.Need-returns
+returns c =
+    let e = c .before .before .draw .ensures in (
+      omega (arith, rw (tail-part (c .before .before .before .before .before .before .before .args .from) (c .before .before .before .before .before .before .before .args .words .now)) at (e .0)),
+      part-written (c .before .before .before .before .before .before .before .args .at) _ (c .before .before .before .before .before .before .before .args .out .now) _ (search needs) (rw (tail-part (c .before .before .before .before .before .before .before .args .from) (c .before .before .before .before .before .before .before .args .words .now)) at (e .1)),
+    )
+
+pub draw-next-spec : {M : Type 1} → statement M
+draw-next-spec =
+    tie.close
+    (tie.spec
+    mul-draw
+    sub-draw
+    part-draw-start
+    part-draw-end
+    mul-draw-2
+    sub-draw-2
+    part-draw-start-2
+    part-draw-end-2
+    draw-requires
+    add-result
+    same-length
+    returns)
