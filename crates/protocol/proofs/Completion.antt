@@ -16,12 +16,12 @@ use Rattle.algebra.proofs.Parts.{Fits, none, _then_}
 use Rattle.protocol.specs.declared.SessionId.{SessionId}
 use Rattle.protocol.specs.declared.TapeId.{TapeId}
 use Rattle.protocol.specs.declared.Terms.{Terms}
-use Rattle.protocol.specs.Bounds.{product, system, sidesFit, shapeTests, termsTests}
+use Rattle.protocol.specs.Bounds.{product, system, sidesFit}
 use Rattle.protocol.specs.Tape.{Role, left, right, blinder, solver, sortOf, layout}
 use Rattle.protocol.specs.Message.{messageSize}
 use Rattle.protocol.specs.View.{View, facing, coinLayout, kindsSent, Finished}
 use Rattle.protocol.specs.Completion.{messagesOf, coinsFit, completions, Taken, Counted, solutionFor, answerSeen, Secret}
-use Rattle.protocol.proofs.Judge.{Pass}
+use Rattle.protocol.proofs.Tests.{TermsFit}
 use Rattle.protocol.proofs.SystemSteps.{systemTerms}
 use Rattle.protocol.proofs.CompletionLaws.{halfSlot, viewOf, nothing-received}
 use Rattle.protocol.proofs.CompletionProduct.{left-one, right-one}
@@ -58,7 +58,7 @@ pub record Kept (v : View) : Type 0 where
   pub sent-is : v .sent ≡ messagesOf (v .role) (v .terms) (halfSlot (v .role) (v .terms) (v .half)) (v .coins) (v .input) (v .received)
 
 pub record Arises (v : View) : Type 0 where
-  pub terms-fit : Pass (termsTests (sortOf (v .role)) (v .terms))
+  pub terms-fit : TermsFit (sortOf (v .role)) (v .terms)
   pub half-fits : Fits (v .terms .q) (layout (v .role) (v .terms .m) (v .terms .k) (v .terms .p)) (v .half)
   pub mask-fits : ownMask (v .role) (v .terms) (v .half) ≡ true
   -- of a product, any message that the other end took
@@ -72,7 +72,7 @@ pub record Arises (v : View) : Type 0 where
 never : {A : Type 0} {a b : Role} → a ≡ b → (a ≡ b → _≡_ {A = ℕ} 0 1) → A
 never e f = absurd (omega (arith, f e))
 
-left-secret : (t : Terms) (input half : List (List ℕ)) (coins : List ℕ) (sent received : List (List ℕ)) → Pass (termsTests product t)
+left-secret : (t : Terms) (input half : List (List ℕ)) (coins : List ℕ) (sent received : List (List ℕ)) → TermsFit product t
     → Fits (t .q) (layout left (t .m) (t .k) (t .p)) half → Messages t (1 ∷ []) received → Secret (viewOf left t input half coins sent received)
 left-secret t input half coins sent received terms fits no-more = record {
   unfinished = λ u i j ci cj. nothing-received left t input half coins sent i j;
@@ -89,7 +89,7 @@ left-secret t input half coins sent received terms fits (_before_ {a} ra no-more
   finished-solver = λ e. never e (λ e. cc);
 }
 
-right-secret : (t : Terms) (input half : List (List ℕ)) (coins : List ℕ) (sent received : List (List ℕ)) → Pass (termsTests product t)
+right-secret : (t : Terms) (input half : List (List ℕ)) (coins : List ℕ) (sent received : List (List ℕ)) → TermsFit product t
     → Fits (t .q) (layout right (t .m) (t .k) (t .p)) half → Messages t (1 ∷ []) sent → Messages t (2 ∷ []) received → length received ≤ length sent + 0
     → Secret (viewOf right t input half coins sent received)
 right-secret t input half coins sent received terms fits s no-more turn = record {
@@ -114,15 +114,15 @@ not-product : {A : Type 0} → system ≡ product → A
 not-product e = absurd (let z : _≡_ {A = ℕ} 0 1 = cc in omega arith)
 
 -- a system's terms are those of its unknowns
-terms-are : (t : Terms) → Pass (termsTests system t) → systemTerms (t .session) (t .tape) (t .q) (t .m) ≡ t
-unfolding termsTests shapeTests sidesFit
+terms-are : (t : Terms) → TermsFit system t → systemTerms (t .session) (t .tape) (t .q) (t .m) ≡ t
+unfolding sidesFit
 terms-are t a =
-    let sides = and-right _ _ (a .all .1 .1 .1 .0) in
+    let sides = and-right _ _ (a .sides) in
     ap₂ (λ (k p : ℕ). record { session = t .session; tape = t .tape; q = t .q; m = t .m; k = k; p = p })
     (sym (eqb-true (t .k) (t .m) (and-left _ _ sides))) (sym (eqb-true (t .p) (t .m + 1) (and-right _ _ sides)))
 
 solver-secret : (session : SessionId) (tape : TapeId) (q n : ℕ) (input half : List (List ℕ)) (coins : List ℕ) (sent received : List (List ℕ))
-    → Pass (termsTests system (systemTerms session tape q n)) → Fits q (layout solver n n (n + 1)) half
+    → TermsFit system (systemTerms session tape q n) → Fits q (layout solver n n (n + 1)) half
     → Messages (systemTerms session tape q n) (1 ∷ 3 ∷ 5 ∷ []) sent → Messages (systemTerms session tape q n) (2 ∷ 4 ∷ []) received → length received ≤ length sent + 0
     → (Finished (viewOf solver (systemTerms session tape q n) input half coins sent received) → Kept (viewOf solver (systemTerms session tape q n) input half coins sent received))
     → Secret (viewOf solver (systemTerms session tape q n) input half coins sent received)
@@ -154,7 +154,7 @@ solver-secret session tape q n input half coins sent received terms (_then_ {l =
     }
 
 blinder-secret : (session : SessionId) (tape : TapeId) (q n : ℕ) (input half : List (List ℕ)) (coins : List ℕ) (sent received : List (List ℕ))
-    → Pass (termsTests system (systemTerms session tape q n)) → Fits q (layout blinder n n (n + 1)) half → regular q n (part 2 half) ≡ true
+    → TermsFit system (systemTerms session tape q n) → Fits q (layout blinder n n (n + 1)) half → regular q n (part 2 half) ≡ true
     → Messages (systemTerms session tape q n) (2 ∷ 4 ∷ []) sent → Messages (systemTerms session tape q n) (1 ∷ 3 ∷ 5 ∷ []) received → length received ≤ length sent + 1
     → (Finished (viewOf blinder (systemTerms session tape q n) input half coins sent received) → Kept (viewOf blinder (systemTerms session tape q n) input half coins sent received))
     → Secret (viewOf blinder (systemTerms session tape q n) input half coins sent received)

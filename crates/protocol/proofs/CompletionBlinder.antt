@@ -29,25 +29,21 @@ use Rattle.protocol.specs.declared.TapeId.{TapeId}
 use Rattle.protocol.specs.declared.Terms.{Terms}
 use Rattle.protocol.specs.Judge.{Judged}
 use Rattle.protocol.specs.Drawing.{wordsFor}
-use Rattle.protocol.specs.Bounds.{system, columns, termsTests}
+use Rattle.protocol.specs.Bounds.{system, columns}
 use Rattle.protocol.specs.Tape.{blinder, solver, READY, layout}
 use Rattle.protocol.specs.Deal.{Dealt}
 use Rattle.protocol.specs.Message.{messageLayout, messageSize}
-use Rattle.protocol.specs.System.{sideSize, scratchLayout}
+use Rattle.protocol.specs.System.{scratchLayout}
 use Rattle.protocol.specs.Completion.{dealing, dealtSlot, dealtTogether, blinderMessages, eqLists, isCompletion, completions, Taken}
-use Rattle.protocol.proofs.Judge.{Pass}
-use Rattle.protocol.proofs.Residues.{input-residues}
 use Rattle.protocol.proofs.SystemSteps.{systemTerms, columns-are}
-use Rattle.protocol.proofs.SystemRight.{product-terms}
 use Rattle.protocol.proofs.Halves.{Holding}
-use Rattle.protocol.proofs.Tests.{terms-tests}
+use Rattle.protocol.proofs.Tests.{TermsFit}
 use Rattle.protocol.proofs.CompletionDealt.{blinder-dealt, solver-held}
-use Rattle.protocol.proofs.CompletionLaws.{same-count, both-true, both-assoc, both-same, dealt-alone, message-fits, first-test, halfSlot, viewOf}
-use Rattle.protocol.proofs.CompletionProduct.{first-of, second-of, third-of, fourth-of}
-use Rattle.protocol.proofs.CompletionSystem.{taken-pair, solver-first, solver-second, solver-last, blinder-second}
+use Rattle.protocol.proofs.CompletionLaws.{first-of, second-of, third-of, fourth-of, same-count, both-true, both-assoc, both-same, dealt-alone, message-fits, first-test, halfSlot, viewOf}
+use Rattle.protocol.proofs.CompletionSystem.{taken-pair, solver-sends-one, solver-sends-two, solver-sends-all, blinder-sends-all}
 use Rattle.protocol.proofs.CompletionSolver.{prime, big, side-one}
 
-module _ (session : SessionId) (tape : TapeId) (q n : ℕ) (terms : Pass (termsTests system (systemTerms session tape q n))) where
+module _ (session : SessionId) (tape : TapeId) (q n : ℕ) (terms : TermsFit system (systemTerms session tape q n)) where
   abbrev t : Terms
   t = systemTerms session tape q n
 
@@ -103,13 +99,13 @@ module _ (session : SessionId) (tape : TapeId) (q n : ℕ) (terms : Pass (termsT
         → dealt-test y0 b0 r v ≡ both (eqList b0 (dealB q n n (n + 1) x0 y0 a0)) (eqList v (dealV q n r qm g))
     unfolding both
     dealt y0 b0 r v ry rr =
-        blinder-dealt t (terms-tests system t .0 terms) x0 y0 a0 qm r g (first-of own-fits) ry (second-of own-fits) (third-of own-fits) rr (fourth-of own-fits) refl b0 v
+        blinder-dealt t terms x0 y0 a0 qm r g (first-of own-fits) ry (second-of own-fits) (third-of own-fits) rr (fourth-of own-fits) refl b0 v
         ∙ rw q-regular refl
 
     held : (y0 b0 r v : List ℕ) → Residues q (n * (n + 1)) y0 → Residues q (n * n) r → dealt-test y0 b0 r v ≡ true
         → Holding solver READY t (y0 ∷ b0 ∷ r ∷ v ∷ []) (dealtSlot solver t (o y0 r))
     held y0 b0 r v ry rr d =
-        solver-held t (terms-tests system t .0 terms) x0 y0 a0 qm r g (first-of own-fits) ry (second-of own-fits) (third-of own-fits) rr (fourth-of own-fits) refl b0 v d
+        solver-held t terms x0 y0 a0 qm r g (first-of own-fits) ry (second-of own-fits) (third-of own-fits) rr (fourth-of own-fits) refl b0 v d
 
     f-of : (b2 y0 b0 r : List ℕ) → List ℕ
     f-of b2 y0 b0 r = sendF q n 1 r (solverShare q n 1 (part 0 (cut 2 b2)) y0 (part 1 (cut 2 b2)) b0)
@@ -127,7 +123,7 @@ module _ (session : SessionId) (tape : TapeId) (q n : ℕ) (terms : Pass (termsT
       first-same ls (_then_ {l = y0} ry (_then_ {l = b0} rb (_then_ {l = r} rr (_then_ {l = v} rv none)))) =
           both-same _ _ _ (λ d.
           ap (eqLists (m1 ∷ []))
-          (solver-first session tape q n 1 terms (product-terms session tape q n terms) y0 b0 r v _ (held y0 b0 r v ry rr d) i ti sent)
+          (solver-sends-one session tape q n 1 terms y0 b0 r v _ (held y0 b0 r v ry rr d) i ti sent)
           ∙ first-test 1 t m1 r1 (y1-fits y0) [] [])
           ∙ ap (λ (z : Bool). both z (both (eqLists (cut 1 m1) (y1-of y0 ∷ [])) (eqLists [] []))) (dealt y0 b0 r v ry rr)
           ∙ simp (both-true, both-assoc)
@@ -147,7 +143,7 @@ module _ (session : SessionId) (tape : TapeId) (q n : ℕ) (terms : Pass (termsT
       second-same ls (_then_ {l = y0} ry (_then_ {l = b0} rb (_then_ {l = r} rr (_then_ {l = v} rv none)))) =
           both-same _ _ _ (λ d.
           ap (eqLists (m1 ∷ m3 ∷ []))
-          (solver-second session tape q n 1 terms (product-terms session tape q n terms) y0 b0 r v _ (held y0 b0 r v ry rr d) i ti b2 r2 sent)
+          (solver-sends-two session tape q n 1 terms y0 b0 r v _ (held y0 b0 r v ry rr d) i ti b2 r2 sent)
           ∙ (first-test 1 t m1 r1 (y1-fits y0) (m3 ∷ []) (join (f-of b2 y0 b0 r ∷ []) ∷ [])
           ∙ ap (both (eqLists (cut 1 m1) (y1-of y0 ∷ []))) (first-test 3 t m3 r3 (f-fits b2 y0 b0 r) [] [])))
           ∙ ap (λ (z : Bool). both z (both (eqLists (cut 1 m1) (y1-of y0 ∷ [])) (both (eqLists (cut 3 m3) (f-of b2 y0 b0 r ∷ [])) (eqLists [] [])))) (dealt y0 b0 r v ry rr)
@@ -193,7 +189,7 @@ module _ (session : SessionId) (tape : TapeId) (q n : ℕ) (terms : Pass (termsT
       last-same ls (_then_ {l = y0} ry (_then_ {l = b0} rb (_then_ {l = r} rr (_then_ {l = v} rv none)))) =
           both-same _ _ _ (λ d.
           ap (λ (z : List (List ℕ)). eqLists (m1 ∷ m3 ∷ m5 ∷ []) (take 3 z))
-          (solver-last session tape q n 1 terms (product-terms session tape q n terms) y0 b0 r v _ (held y0 b0 r v ry rr d) i ti b2 b4 r2 r4 sent)
+          (solver-sends-all session tape q n 1 terms y0 b0 r v _ (held y0 b0 r v ry rr d) i ti b2 b4 r2 r4 sent)
           ∙ (first-test 1 t m1 r1 (y1-fits y0) (m3 ∷ m5 ∷ []) _
           ∙ ap (both (eqLists (cut 1 m1) (y1-of y0 ∷ []))) (first-test 3 t m3 r3 (f-fits b2 y0 b0 r) (m5 ∷ []) _
           ∙ ap (both (eqLists (cut 3 m3) (f-of b2 y0 b0 r ∷ []))) (last-test y0 b0 v))))
@@ -244,7 +240,7 @@ module _ (session : SessionId) (tape : TapeId) (q n : ℕ) (terms : Pass (termsT
         unfolding first second
         both-sent = kept
             ∙ (ap (λ (z : List ℕ). blinderMessages t (halfSlot blinder t (x0 ∷ a0 ∷ qm ∷ g ∷ [])) input (m1 ∷ m3 ∷ m5 ∷ []) (wordsFor q z)) (sym coins-are)
-            ∙ blinder-second session tape q n 1 terms (product-terms session tape q n terms) x0 a0 qm g _ (dealt-alone blinder t (x0 ∷ a0 ∷ qm ∷ g ∷ []) own-fits) input own
+            ∙ blinder-sends-all session tape q n 1 terms x0 a0 qm g _ (dealt-alone blinder t (x0 ∷ a0 ∷ qm ∷ g ∷ []) own-fits) input own
             pm u0 m1 (first-of coins-fit) (second-of coins-fit) p-regular r1 m3 r3 (m5 ∷ []))
 
         cut-first : cut 2 b2 ≡ first
@@ -270,7 +266,7 @@ module _ (session : SessionId) (tape : TapeId) (q n : ℕ) (terms : Pass (termsT
             let pr = prime-test q (prime session tape q n terms) in
             same-count q _ _ _ last-same
             ∙ blinder-end pr (seen x0 a0 qm g coins b2 b4 m1 m3 m5) (part 0 i) (part 1 i) (part 0 input) (part 1 input)
-            (input-residues q (n * n) (part 0 i) (taken-pair t i ti .matrix) .size)
-            (input-residues q (sideSize t) (part 1 i) (taken-pair t i ti .side) .size ∙ side-one session tape q n terms)
+            (taken-pair t i ti .matrix .size)
+            (taken-pair t i ti .side .size ∙ side-one session tape q n terms)
             honest (y1-ok m1 r1) (f-ok m3 r3) t-ok (first-of coins-fit) (third-of own-fits) (sym (regular-inverse pr n (first-of coins-fit)) ∙ p-regular) (sym (regular-inverse pr n (third-of own-fits)) ∙ q-regular) sum-has
             ∙ ap (λ (z : List ℕ). bit (eqList (solution q n (matAdd q (n * n) (part 0 i) (part 0 input)) (matAdd q (n * 1) (part 1 i) (part 1 input))) (matMul q n n 1 qm z))) t-is

@@ -11,7 +11,6 @@ use Prim.Native.Nat.{ℕ, zero, suc, _*_, _<_}
 use native.Mathlib.Omega.{arith}
 use lib.ListN.{length, getD, take, drop}
 use lib.Seq.{take-all}
-use borrow.Author.Tests.{leb-true}
 use Rattle.algebra.specs.Matrix.{Residues, tabulate, zeros}
 use Rattle.algebra.specs.Count.{both, eqList, join}
 use Rattle.algebra.specs.Elimination.{regular}
@@ -22,7 +21,7 @@ use Rattle.algebra.proofs.Tests.{and-left, and-right, and-both, eqList-eq, eqLi
 use Rattle.algebra.proofs.Parts.{Fits, none, _then_, fits-join, parts-join}
 use Rattle.protocol.specs.declared.Terms.{Terms}
 use Rattle.protocol.specs.Judge.{Judged, refused, done}
-use Rattle.protocol.specs.Drawing.{wordsFor, drawTests}
+use Rattle.protocol.specs.Drawing.{wordsFor}
 use Rattle.protocol.specs.Bounds.{Sort, product, system}
 use Rattle.protocol.specs.Tape.{Slot, slotAt, isSlot, slotWords, READY, left, right, blinder, solver, tapeSize, statusOf}
 use Rattle.protocol.specs.Deal.{Request, drawLayout, drawSize, drawnParts, dealtB, dealtV, maskFits, isFree, Dealt, dealtEffect, deal}
@@ -70,7 +69,7 @@ module _ (sort : Sort) (t : Terms) (terms : TermsFit sort t) (d : List (List ℕ
   drawn-is = rw (drawn-own (terms .small) (fits-join fits)) (parts-join fits)
 
   fits-deal : maskFits sort (t .q) (t .m) d ≡ true → DealFits request empty empty
-  unfolding drawSize drawTests
+  unfolding drawSize
   fits-deal mask = record {
     big = terms .big;
     small = terms .small;
@@ -81,7 +80,7 @@ module _ (sort : Sort) (t : Terms) (terms : TermsFit sort t) (d : List (List ℕ
     first-room = omega arith;
     second-slot = empty-inside;
     second-room = omega arith;
-    enough = leb-true _ _ (drawn-enough (terms .small) (fits-join fits) .0);
+    enough = drawn-enough (terms .small) (fits-join fits);
     first-free = empty-free;
     second-free = empty-free;
     mask = rw drawn-is mask;

@@ -1,12 +1,13 @@
 -- Laws for counting completions: equal tests count the same, a half as dealt stands in its slot, coins are drawn from their own words, and one step's
 -- message comes before those of the next. Assumes nothing.
 -- same-count                      tests that agree on all residues
--- eqLists-eq, eqLists-of          lists of lists
--- dealt-holding-alone             a half alone in a pool
+-- both-same, eqLists-eq, eqLists-of   tests
+-- first-of .. fourth-of           parts that fit
+-- halfSlot, dealt-alone           a half alone in a pool
 -- drawn-own, drawn-enough         coins as raw words
--- incoming-is, message-test       a message of the session, and its parts
--- then-accepted, heard-first      an end's messages
--- Messages, taken-product, taken-system
+-- message-fits, incoming-is, first-test   a message of the session, and its parts
+-- then-accepted, said-message     an end's messages
+-- viewOf, nothing-received        a view part by part; before anything is received no input is in it
 use mathlib.Core.Path.{_≡_, refl, sym, ap, ap₂, _∙_, subst}
 use mathlib.Core.Bool.{Bool, true, false}
 use mathlib.Core.List.{List, [], _∷_, _++_, append-nil}
@@ -16,22 +17,21 @@ use native.Mathlib.Omega.{arith}
 use lib.Dec.{ltb, eqb·suc-zero}
 use lib.ListN.{length, take, drop}
 use lib.Seq.{take-all}
-use borrow.Author.Tests.{lt-ltb}
+use borrow.Author.Tests.{lt-ltb, leb-true}
 use Rattle.algebra.specs.Matrix.{Residues}
-use Rattle.algebra.specs.Count.{bit, both, eqList, parts, join, total, count, countParts}
+use Rattle.algebra.specs.Count.{bit, both, eqList, parts, part, join, total, count, countParts}
 use Rattle.algebra.proofs.Count.{and-left, and-right, and-both, eqList-eq, eqList-of, sumLists-ext}
 use Rattle.algebra.proofs.Tests.{same-test}
-use Rattle.algebra.proofs.Parts.{Fits, fits-join, fits-parts, parts-join, join-parts}
+use Rattle.algebra.proofs.Parts.{Fits, _then_, fits-join, fits-parts, parts-join, join-parts}
 use Rattle.protocol.specs.declared.Terms.{Terms}
 use Rattle.protocol.specs.declared.Refusal.{Refusal}
 use Rattle.protocol.specs.Judge.{refused, done}
-use Rattle.protocol.specs.Drawing.{drawn, wordsFor, drawTests}
+use Rattle.protocol.specs.Drawing.{residuesOf, drawn, wordsFor, drawTests}
 use Rattle.protocol.specs.Tape.{Slot, slotAt, isSlot, slotWords, headerWords, READY, Role, sortOf, layout, bodySize, tapeSize}
 use Rattle.protocol.specs.Message.{messageOf, messageLayout, messageSize}
 use Rattle.protocol.specs.Step.{Effect, Outcome}
 use Rattle.protocol.specs.View.{View}
 use Rattle.protocol.specs.Completion.{incoming, said, andThen, eqLists, isCompletion, completions}
-use Rattle.protocol.proofs.Judge.{All}
 use Rattle.protocol.proofs.Slots.{written}
 use Rattle.protocol.proofs.Drawn.{drawn-residues, enough-residues}
 use Rattle.protocol.proofs.Halves.{Holding}
@@ -75,6 +75,20 @@ same-lists (l ∷ ls) = and-both (eqList-of refl) (same-lists ls)
 pub eqLists-of : {ls rs : List (List ℕ)} → ls ≡ rs → eqLists ls rs ≡ true
 eqLists-of {ls} {rs} e = ap (λ (z : List (List ℕ)). eqLists ls z) (sym e) ∙ same-lists ls
 
+-- ---- parts that fit
+
+pub first-of : {q n : ℕ} {ns : List ℕ} {ls : List (List ℕ)} → Fits q (n ∷ ns) ls → Residues q n (part 0 ls)
+first-of (r then f) = r
+
+pub second-of : {q a n : ℕ} {ns : List ℕ} {ls : List (List ℕ)} → Fits q (a ∷ n ∷ ns) ls → Residues q n (part 1 ls)
+second-of (r then r′ then f) = r′
+
+pub third-of : {q a b n : ℕ} {ns : List ℕ} {ls : List (List ℕ)} → Fits q (a ∷ b ∷ n ∷ ns) ls → Residues q n (part 2 ls)
+third-of (r then r′ then r″ then f) = r″
+
+pub fourth-of : {q a b c n : ℕ} {ns : List ℕ} {ls : List (List ℕ)} → Fits q (a ∷ b ∷ c ∷ n ∷ ns) ls → Residues q n (part 3 ls)
+fourth-of (r then r′ then r″ then r‴ then f) = r‴
+
 -- ---- a half as dealt
 
 pub one-slot : (n k : ℕ) → n ≡ k → 0 < k → ltb 0 (n / k) ≡ true
@@ -116,9 +130,9 @@ module _ {q n : ℕ} {l : List ℕ} (b : q ≤ 2147483647) (r : Residues q n l) 
   unfolding wordsFor
   drawn-own = drawn-residues q n l b r
 
-  pub drawn-enough : All (drawTests q n (wordsFor q l))
-  unfolding wordsFor
-  drawn-enough = enough-residues q n l b r
+  pub drawn-enough : n ≤ length (residuesOf q (wordsFor q l))
+  unfolding wordsFor drawTests
+  drawn-enough = leb-true n (length (residuesOf q l)) (enough-residues q n l b r .0)
 
 -- ---- messages
 

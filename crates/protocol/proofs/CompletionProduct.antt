@@ -5,68 +5,46 @@
 -- right-one                 right's view after message 2: exactly one for each input of left
 use mathlib.Core.Path.{_≡_, refl, _∙_}
 use mathlib.Core.List.{List, [], _∷_, append-nil}
-use Prim.Native.Nat.{ℕ, _*_, _≤_, _<_}
+use Prim.Native.Nat.{ℕ, _*_, _<_}
 use native.Mathlib.Nat.{le-refl}
 use native.Mathlib.Omega.{arith}
-use borrow.Author.Tests.{leb-true}
 use Rattle.algebra.specs.Matrix.{Residues}
 use Rattle.algebra.specs.Count.{both, parts, part, join}
 use Rattle.algebra.specs.Product.{sendY, sendX, sendR}
 use Rattle.algebra.proofs.Views.{givesRight, givesLeft, rightCompletions, leftCompletions}
-use Rattle.algebra.proofs.Count.{and-left, and-right}
 use Rattle.algebra.proofs.Lists.{add-residues, sub-residues}
 use Rattle.algebra.proofs.Parts.{Fits, none, _then_}
 use Rattle.algebra.proofs.Product.{left-secrecy, right-secrecy}
 use Rattle.protocol.specs.declared.Terms.{Terms}
 use Rattle.protocol.specs.Judge.{done}
 use Rattle.protocol.specs.Drawing.{wordsFor}
-use Rattle.protocol.specs.Bounds.{Sort, product, within, shapeTests, termsTests}
+use Rattle.protocol.specs.Bounds.{product}
 use Rattle.protocol.specs.Tape.{Slot, left, right, READY, layout}
-use Rattle.protocol.specs.Message.{messageOf, kindSort, messageLayout, messageSize}
-use Rattle.protocol.specs.Product.{rightFirstEffect, rightFirstTests, rightFirst, leftEffect, leftTests, leftStep}
+use Rattle.protocol.specs.Message.{messageOf, messageLayout, messageSize}
+use Rattle.protocol.specs.Product.{rightFirstEffect, rightFirst, leftEffect, leftStep}
 use Rattle.protocol.specs.Completion.{hearing, rightMessages, leftMessages, eqLists, isCompletion, completions, Taken, takenTests}
-use Rattle.protocol.proofs.Judge.{Pass, _also_, accepts, passed}
-use Rattle.protocol.proofs.Halves.{Holding, holding-matrices, holding-first}
-use Rattle.protocol.proofs.Messages.{message-parts, message-pass, due-pass}
-use Rattle.protocol.proofs.ProductRight.{room-pass}
-use Rattle.protocol.proofs.Tests.{terms-tests}
+use Rattle.protocol.proofs.Judge.{passed}
+use Rattle.protocol.proofs.Residues.{input-residues}
+use Rattle.protocol.proofs.Halves.{Holding, holding-matrices, first-fits}
+use Rattle.protocol.proofs.Messages.{message-parts, own-message}
+use Rattle.protocol.proofs.Tests.{TermsFit}
+use Rattle.protocol.proofs.StepTests.{right-first, left-step}
 use Rattle.protocol.proofs.CompletionDealt.{left-dealt, right-dealt, left-held, right-held}
-use Rattle.protocol.proofs.CompletionLaws.{same-count, drawn-own, drawn-enough, message-fits, incoming-is, first-test, both-true, then-accepted, said-message, viewOf}
-
--- ---- the terms
-
-module _ (sort : Sort) (t : Terms) (terms : Pass (termsTests sort t)) where
-  pub modulus-above : 1 < t .q
-  unfolding termsTests shapeTests within
-  modulus-above = leb-true _ _ (and-left _ _ (terms .all .1 .0))
-
-  pub modulus-below : t .q ≤ 2147483647
-  unfolding termsTests shapeTests within
-  modulus-below = leb-true _ _ (and-right _ _ (terms .all .1 .0))
-
-pub first-of : {q n : ℕ} {ns : List ℕ} {ls : List (List ℕ)} → Fits q (n ∷ ns) ls → Residues q n (part 0 ls)
-first-of (r then f) = r
-
-pub second-of : {q a n : ℕ} {ns : List ℕ} {ls : List (List ℕ)} → Fits q (a ∷ n ∷ ns) ls → Residues q n (part 1 ls)
-second-of (r then r′ then f) = r′
-
-pub third-of : {q a b n : ℕ} {ns : List ℕ} {ls : List (List ℕ)} → Fits q (a ∷ b ∷ n ∷ ns) ls → Residues q n (part 2 ls)
-third-of (r then r′ then r″ then f) = r″
-
-pub fourth-of : {q a b c n : ℕ} {ns : List ℕ} {ls : List (List ℕ)} → Fits q (a ∷ b ∷ c ∷ n ∷ ns) ls → Residues q n (part 3 ls)
-fourth-of (r then r′ then r″ then r‴ then f) = r‴
+use Rattle.protocol.proofs.CompletionLaws.{first-of, second-of, same-count, drawn-own, drawn-enough, message-fits, incoming-is, first-test, both-true, then-accepted, said-message, viewOf}
 
 -- ---- what the ends send
 
-module _ (t : Terms) (terms : Pass (termsTests product t)) where
+module _ (t : Terms) (terms : TermsFit product t) where
   h0 : 0 < t .q
-  h0 = omega (arith, modulus-above product t terms)
+  h0 = omega (arith, terms .big)
 
   module _ (y0 b0 : List ℕ) (s : Slot) (h : Holding right READY t (y0 ∷ b0 ∷ []) s) (input got : List (List ℕ)) (taken : Taken right t input) where
     right-accepts : rightFirst t s (part 0 input) (messageSize 1 t) ≡ done (rightFirstEffect t s (part 0 input))
-    unfolding rightFirst rightFirstTests
-    right-accepts = accepts _ _
-        ((holding-first right t _ s h terms also record { all = passed (takenTests right t input) taken .0 } also room-pass _ _ (le-refl _)) .all)
+    right-accepts = right-first t s (part 0 input) (messageSize 1 t) .accepts (record {
+      first = first-fits h terms;
+      y-fits = input-residues (t .q) (t .k * t .p) (part 0 input) (passed (takenTests right t input) taken .0);
+      message-room = le-refl _;
+    })
 
     right-sent : rightFirstEffect t s (part 0 input) .sent ≡ messageOf 1 t (sendY (t .q) (t .m) (t .k) (t .p) (part 0 input) y0 ∷ [])
     unfolding rightFirstEffect
@@ -83,21 +61,20 @@ module _ (t : Terms) (terms : Pass (termsTests product t)) where
 
     left-accepts : leftStep t s (part 0 input) (wordsFor (t .q) u) (messageOf 1 t y1) (messageSize 2 t) (t .m * t .p)
         ≡ done (leftEffect t s (part 0 input) (wordsFor (t .q) u) (messageOf 1 t y1))
-    unfolding leftStep leftTests y1
-    left-accepts = accepts _ _
-        ((message-pass 1 t y1 (message-fits 1 t a ra) (unfold within both in refl) (unfold kindSort in terms)
-        also holding-first left t _ s h terms
-        also due-pass 1 t y1
-        also record { all = passed (takenTests left t input) taken .0 }
-        also room-pass _ _ (le-refl _)
-        also room-pass _ _ (le-refl _)
-        also record { all = drawn-enough (modulus-below product t terms) ru })
-        .all)
+    unfolding y1
+    left-accepts = left-step t s (part 0 input) (wordsFor (t .q) u) (messageOf 1 t y1) (messageSize 2 t) (t .m * t .p) .accepts (record {
+      first = first-fits h terms;
+      message = own-message 1 t y1 (message-fits 1 t a ra);
+      x-fits = input-residues (t .q) (t .m * t .k) (part 0 input) (passed (takenTests left t input) taken .0);
+      message-room = le-refl _;
+      share-room = le-refl _;
+      enough = drawn-enough (terms .small) ru;
+    })
 
     left-sent : leftEffect t s (part 0 input) (wordsFor (t .q) u) (messageOf 1 t y1) .sent
         ≡ messageOf 2 t (sendX (t .q) (t .m) (t .k) (t .p) (part 0 input) x0 ∷ sendR (t .q) (t .m) (t .k) (t .p) (part 0 input) (part 0 y1) u a0 ∷ [])
     unfolding leftEffect y1
-    left-sent = rw (holding-matrices left READY t _ s h, message-parts 1 t y1 (message-fits 1 t a ra), drawn-own (modulus-below product t terms) ru)
+    left-sent = rw (holding-matrices left READY t _ s h, message-parts 1 t y1 (message-fits 1 t a ra), drawn-own (terms .small) ru)
 
     pub left-sends : (got : List (List ℕ)) → leftMessages t s input (a ∷ got) (wordsFor (t .q) (join (u ∷ [])))
         ≡ join (sendX (t .q) (t .m) (t .k) (t .p) (part 0 input) x0 ∷ sendR (t .q) (t .m) (t .k) (t .p) (part 0 input) (part 0 (parts (messageLayout 1 (t .m) (t .k) (t .p)) a)) u a0 ∷ []) ∷ []
@@ -107,7 +84,7 @@ module _ (t : Terms) (terms : Pass (termsTests product t)) where
 
 -- ---- left's view
 
-module _ (t : Terms) (terms : Pass (termsTests product t)) (input : List (List ℕ)) (coins : List ℕ) (sent : List (List ℕ)) (a : List ℕ)
+module _ (t : Terms) (terms : TermsFit product t) (input : List (List ℕ)) (coins : List ℕ) (sent : List (List ℕ)) (a : List ℕ)
     (ra : Residues (t .q) (messageSize 1 t) a) (i : List (List ℕ)) (taken : Taken right t i) where
   y1-received : List ℕ
   y1-received = part 0 (parts (messageLayout 1 (t .m) (t .k) (t .p)) a)
@@ -122,8 +99,8 @@ module _ (t : Terms) (terms : Pass (termsTests product t)) (input : List (List �
   unfolding isCompletion givesLeft y1-received both eqLists messageLayout parts sendY
   left-same x0 a0 rx r ls (_then_ {l = y0} ry (_then_ {l = b0} rb none)) =
       rw (
-        left-dealt t (terms-tests product t .0 terms) x0 y0 a0 rx ry r b0,
-        right-sends t terms y0 _ _ (right-held t (terms-tests product t .0 terms) x0 y0 a0 rx ry r) i sent taken,
+        left-dealt t terms x0 y0 a0 rx ry r b0,
+        right-sends t terms y0 _ _ (right-held t terms x0 y0 a0 rx ry r) i sent taken,
         first-test 1 t a ra (sub-residues (h0 t terms) (t .k * t .p) (part 0 i) y0 then none) [] [],
       )
       (simp both-true)
@@ -136,7 +113,7 @@ module _ (t : Terms) (terms : Pass (termsTests product t)) (input : List (List �
 
 -- ---- right's view
 
-module _ (t : Terms) (terms : Pass (termsTests product t)) (input : List (List ℕ)) (coins : List ℕ) (b a : List ℕ) (sent : List (List ℕ))
+module _ (t : Terms) (terms : TermsFit product t) (input : List (List ℕ)) (coins : List ℕ) (b a : List ℕ) (sent : List (List ℕ))
     (rb : Residues (t .q) (messageSize 1 t) b) (ra : Residues (t .q) (messageSize 2 t) a) (i : List (List ℕ)) (taken : Taken left t i) where
   y1-sent : List ℕ
   y1-sent = part 0 (parts (messageLayout 1 (t .m) (t .k) (t .p)) b)
@@ -166,8 +143,8 @@ module _ (t : Terms) (terms : Pass (termsTests product t)) (input : List (List �
   unfolding isCompletion givesRight y1-sent x1-received r1-received both eqLists messageLayout parts
   right-same y0 b0 ry ls (_then_ {l = x0} rx (_then_ {l = a0} r (_then_ {l = u} ru none))) =
       rw (
-        right-dealt t (terms-tests product t .0 terms) x0 y0 a0 rx ry r b0,
-        left-sends t terms x0 a0 _ (left-held t (terms-tests product t .0 terms) x0 y0 a0 rx ry r) i taken u b ru rb sent,
+        right-dealt t terms x0 y0 a0 rx ry r b0,
+        left-sends t terms x0 a0 _ (left-held t terms x0 y0 a0 rx ry r) i taken u b ru rb sent,
         first-test 2 t a ra (sent-fits x0 a0 u) [] [],
       )
       (simp both-true)

@@ -29,21 +29,17 @@ use Rattle.protocol.specs.declared.TapeId.{TapeId}
 use Rattle.protocol.specs.declared.Terms.{Terms}
 use Rattle.protocol.specs.Judge.{Judged}
 use Rattle.protocol.specs.Drawing.{wordsFor}
-use Rattle.protocol.specs.Bounds.{system, shapeTests, termsTests, fieldFits}
+use Rattle.protocol.specs.Bounds.{system, fieldFits}
 use Rattle.protocol.specs.Tape.{blinder, solver, layout}
 use Rattle.protocol.specs.Deal.{Dealt}
 use Rattle.protocol.specs.Message.{messageLayout, messageSize}
 use Rattle.protocol.specs.System.{sideSize}
 use Rattle.protocol.specs.Completion.{dealing, dealtSlot, solverMessages, blinderMessages, eqLists, dealtTogether, isCompletion, completions, Taken}
-use Rattle.protocol.proofs.Judge.{Pass}
-use Rattle.protocol.proofs.Residues.{input-residues}
 use Rattle.protocol.proofs.SystemSteps.{systemTerms, columns-are}
-use Rattle.protocol.proofs.SystemRight.{product-terms}
-use Rattle.protocol.proofs.Tests.{terms-tests}
+use Rattle.protocol.proofs.Tests.{TermsFit}
 use Rattle.protocol.proofs.CompletionDealt.{solver-dealt, blinder-held}
-use Rattle.protocol.proofs.CompletionLaws.{same-count, both-same, dealt-alone, message-fits, first-test, halfSlot, viewOf}
-use Rattle.protocol.proofs.CompletionProduct.{modulus-above, first-of, second-of, third-of, fourth-of}
-use Rattle.protocol.proofs.CompletionSystem.{taken-pair, solver-second, blinder-first, blinder-second}
+use Rattle.protocol.proofs.CompletionLaws.{first-of, second-of, third-of, fourth-of, same-count, both-same, dealt-alone, message-fits, first-test, halfSlot, viewOf}
+use Rattle.protocol.proofs.CompletionSystem.{taken-pair, solver-sends-two, blinder-sends-one, blinder-sends-all}
 
 -- the tests of the dealer's rules, P, X1, R1, W and c, in algebra's order
 shuffle : (b v q p x1 r1 w c : Bool) → both (both q (both b v)) (both p (both (both x1 (both r1 true)) (both (both w (both c true)) true)))
@@ -66,16 +62,16 @@ shuffle b v q p x1 r1 w c = same-test _ _
     and-both (and-both (and-right _ _ e6) (and-both (and-left _ _ e) (and-left _ _ e3)))
     (and-both (and-left _ _ e6) (and-both (and-both (and-left _ _ e1) (and-both (and-left _ _ e2) refl)) (and-both (and-both (and-left _ _ e4) (and-both (and-left _ _ e5) refl)) refl))))
 
-module _ (session : SessionId) (tape : TapeId) (q n : ℕ) (terms : Pass (termsTests system (systemTerms session tape q n))) where
+module _ (session : SessionId) (tape : TapeId) (q n : ℕ) (terms : TermsFit system (systemTerms session tape q n)) where
   abbrev t : Terms
   t = systemTerms session tape q n
 
   pub prime : isPrime q ≡ true
-  unfolding termsTests shapeTests fieldFits
-  prime = terms .all .1 .1 .0
+  unfolding fieldFits
+  prime = terms .field
 
   pub big : 1 < q
-  big = modulus-above system t terms
+  big = terms .big
 
   pub side-one : sideSize t ≡ n * 1
   unfolding sideSize
@@ -108,8 +104,8 @@ module _ (session : SessionId) (tape : TapeId) (q n : ℕ) (terms : Pass (termsT
             → take 1 (blinderMessages t (dealtSlot blinder t dealt) i (b1 ∷ sent) (wordsFor q (join (pm ∷ u0 ∷ []))))
             ≡ join (sendX q n n (n + 1) pm x0 ∷ sendR q n n (n + 1) pm (part 0 (parts (messageLayout 1 n n (n + 1)) b1)) u0 a0 ∷ []) ∷ []
         sends i ti d p =
-            blinder-first session tape q n 1 terms (product-terms session tape q n terms) x0 a0 qm g _
-            (blinder-held t (terms-tests system t .0 terms) x0 y0 a0 qm r g rx ry ra rq rr rg refl b0 v d) i ti pm u0 b1 rp ru p r1 sent
+            blinder-sends-one session tape q n 1 terms x0 a0 qm g _
+            (blinder-held t terms x0 y0 a0 qm r g rx ry ra rq rr rg refl b0 v d) i ti pm u0 b1 rp ru p r1 sent
 
     pub solver-open : (half : List (List ℕ)) → Fits q (layout solver n n (n + 1)) half → (i j : List (List ℕ)) → Taken blinder t i → Taken blinder t j
         → completions (viewOf solver t input half coins (b1 ∷ sent) (m2 ∷ [])) i ≡ completions (viewOf solver t input half coins (b1 ∷ sent) (m2 ∷ [])) j
@@ -167,8 +163,8 @@ module _ (session : SessionId) (tape : TapeId) (q n : ℕ) (terms : Pass (termsT
       unfolding first second
       sends-are d p =
           ap (λ (z : List (List ℕ)). eqLists (m2 ∷ m4 ∷ []) (take 2 z))
-          (blinder-second session tape q n 1 terms (product-terms session tape q n terms) x0 a0 qm g _
-          (blinder-held t (terms-tests system t .0 terms) x0 y0 a0 qm r g rx ry ra rq rr rg refl b0 v d) i ti pm u0 b1 rp ru p r1 b3 r3 sent)
+          (blinder-sends-all session tape q n 1 terms x0 a0 qm g _
+          (blinder-held t terms x0 y0 a0 qm r g rx ry ra rq rr rg refl b0 v d) i ti pm u0 b1 rp ru p r1 b3 r3 sent)
           ∙ first-test 2 t m2 r2 first-fits (m4 ∷ []) (join second ∷ [])
           ∙ ap (both (eqLists (cut 2 m2) first)) (first-test 4 t m4 r4 second-fits [] [])
 
@@ -178,7 +174,7 @@ module _ (session : SessionId) (tape : TapeId) (q n : ℕ) (terms : Pass (termsT
       one-test =
           both-same _ _ _ (λ d. both-same (regular q n pm) _ _ (sends-are d))
           ∙ ap (λ (z : Bool). both z (both (regular q n pm) (both (eqLists (cut 2 m2) first) (both (eqLists (cut 4 m4) second) (eqLists [] [])))))
-          (solver-dealt t (terms-tests system t .0 terms) x0 y0 a0 qm r g rx ry ra rq rr rg refl b0 v)
+          (solver-dealt t terms x0 y0 a0 qm r g rx ry ra rq rr rg refl b0 v)
           ∙ shuffle _ _ _ _ _ _ _ _
           ∙ rw (regular-inverse (prime-test q prime) n rp, regular-inverse (prime-test q prime) n rq) refl
 
@@ -217,7 +213,7 @@ module _ (session : SessionId) (tape : TapeId) (q n : ℕ) (terms : Pass (termsT
       two-own : b1 ∷ b3 ∷ [] ≡ join (y1-own ∷ []) ∷ join (f-own ∷ []) ∷ []
       unfolding y1-own f-own
       two-own = ap (take 2) kept
-          ∙ solver-second session tape q n 1 terms (product-terms session tape q n terms) y0 b0 r v _ (dealt-alone solver t (y0 ∷ b0 ∷ r ∷ v ∷ []) fits) input own m2 r2 (m4 ∷ [])
+          ∙ solver-sends-two session tape q n 1 terms y0 b0 r v _ (dealt-alone solver t (y0 ∷ b0 ∷ r ∷ v ∷ []) fits) input own m2 r2 (m4 ∷ [])
 
       y1-fits : Fits q (messageLayout 1 n n (n + 1)) (y1-own ∷ [])
       unfolding messageLayout y1-own sendY
@@ -236,7 +232,7 @@ module _ (session : SessionId) (tape : TapeId) (q n : ℕ) (terms : Pass (termsT
       honest : HonestSolver q n 1 (seen y0 b0 r v) (part 0 input) (part 1 input)
       unfolding y1-own f-own
       honest = record {
-        l-size = input-residues q (n * n) (part 0 input) (taken-pair t input own .matrix) .size;
+        l-size = taken-pair t input own .matrix .size;
         x-size = side-length;
         y1-is = y1-is;
         f-is = f-is;
@@ -249,7 +245,7 @@ module _ (session : SessionId) (tape : TapeId) (q n : ℕ) (terms : Pass (termsT
       }
         where
           side-length : length (part 1 input) ≡ n * 1
-          side-length = input-residues q (sideSize t) (part 1 input) (taken-pair t input own .side) .size ∙ side-one
+          side-length = taken-pair t input own .side .size ∙ side-one
 
       pub solver-same : (i j : List (List ℕ)) → Taken blinder t i → Taken blinder t j
           → hasInverse q n (matAdd q (n * n) (part 0 input) (part 0 i)) ≡ true → hasInverse q n (matAdd q (n * n) (part 0 input) (part 0 j)) ≡ true

@@ -1,6 +1,6 @@
 -- What the ends of a system send, by their own steps, on whatever residues they get: algebra's formulas. Assumes nothing.
--- solver-first, solver-second, solver-last    the solver's messages, up to its first, second and last
--- blinder-first, blinder-second               the blinder's
+-- solver-sends-one, solver-sends-two, solver-sends-all   the solver's messages, as far as the messages that it gets carry it
+-- blinder-sends-one, blinder-sends-all                   the blinder's
 use mathlib.Core.Path.{_≡_, refl, _∙_}
 use mathlib.Core.Bool.{Bool, true, false, cond}
 use mathlib.Core.List.{List, [], _∷_, _++_}
@@ -9,7 +9,7 @@ use native.Mathlib.Nat.{le-refl}
 use native.Mathlib.Omega.{arith}
 use lib.ListN.{length, take}
 use Rattle.algebra.specs.Matrix.{Residues, zeros}
-use Rattle.algebra.specs.Count.{both, parts, part, join}
+use Rattle.algebra.specs.Count.{parts, part, join}
 use Rattle.algebra.specs.Columns.{beside}
 use Rattle.algebra.specs.Elimination.{regular, solution}
 use Rattle.algebra.specs.Product.{sendY, sendX, sendR, rightShare}
@@ -25,56 +25,44 @@ use Rattle.protocol.specs.declared.SolverSession.{SolverSession}
 use Rattle.protocol.specs.declared.BlinderSession.{BlinderSession}
 use Rattle.protocol.specs.Judge.{done}
 use Rattle.protocol.specs.Drawing.{wordsFor}
-use Rattle.protocol.specs.Bounds.{product, system, within, allBelow, termsTests, inputTests}
+use Rattle.protocol.specs.Bounds.{system, inputTests}
 use Rattle.protocol.specs.Tape.{Slot, slotWords, blinder, solver, READY, IN-USE}
-use Rattle.protocol.specs.Message.{noMessage, messageOf, kindSort, messageLayout, messageSize}
-use Rattle.protocol.specs.Step.{isOpen, laterTests, Effect}
-use Rattle.protocol.specs.System.{padded, sideSize, keptS, keptM, keptY, scratchLayout, scratchSize, scratchParts, regularTests, keptTests, blinderTests, solverTests, coinsOf, jointSum, solverFirstEffect, solverFirstTests, solverFirst, blinderFirstEffect, blinderFirstTests, blinderFirst, solverSecondEffect, solverSecondTests, solverSecond, blinderSecondEffect, blinderSecondTests, blinderSecond, solverLastEffect, solverLastTests, solverLast}
+use Rattle.protocol.specs.Message.{noMessage, messageOf, messageLayout, messageSize}
+use Rattle.protocol.specs.Step.{Effect}
+use Rattle.protocol.specs.System.{padded, sideSize, keptS, keptM, keptY, scratchLayout, scratchSize, scratchParts, regularTests, coinsOf, jointSum, solverFirstEffect, solverFirst, blinderFirstEffect, blinderFirst, solverSecondEffect, solverSecond, blinderSecondEffect, blinderSecond, solverLastEffect, solverLast}
 use Rattle.protocol.specs.Completion.{incoming, said, andThen, hearing, solverMessages, blinderMessages, Taken, pairTests}
-use Rattle.protocol.proofs.Judge.{All, all-split, Pass, _also_, _next_, nothing, pass-given, accepts, passed}
+use Rattle.protocol.proofs.Judge.{all-split, passed}
+use Rattle.protocol.proofs.Tests.{TermsFit}
+use Rattle.protocol.proofs.StepTests.{solver-first, solver-second, solver-last, blinder-first, blinder-second}
 use Rattle.protocol.proofs.Slots.{written}
 use Rattle.protocol.proofs.Residues.{input-residues, residues-below, take-over, parts-over, over-length, zeros-below}
-use Rattle.protocol.proofs.Halves.{Holding, holding-matrices, holding-first, holding-later, holding-used, holding-same}
-use Rattle.protocol.proofs.Messages.{message-parts, message-pass, due-pass}
-use Rattle.protocol.proofs.ProductRight.{room-pass}
+use Rattle.protocol.proofs.Halves.{Holding, holding-matrices, holding-used, holding-same, first-fits, later-fits}
+use Rattle.protocol.proofs.Messages.{message-parts, own-message}
 use Rattle.protocol.proofs.SystemSteps.{wideTerms, columns-are}
 use Rattle.protocol.proofs.CompletionLaws.{drawn-own, drawn-enough, message-fits, incoming-is, then-accepted, said-message}
-use Rattle.protocol.proofs.CompletionProduct.{modulus-above, modulus-below}
 
 -- ---- the inputs that the steps take
 
-pub record Taken-pair (t : Terms) (i : List (List ℕ)) : Type 0 where
-  pub matrix : All (inputTests (t .q) (t .m * t .m) (part 0 i))
-  pub side : All (inputTests (t .q) (sideSize t) (part 1 i))
-  pub inverse : All (regularTests (t .q) (t .m) (part 0 i))
+pub record Pair (t : Terms) (i : List (List ℕ)) : Type 0 where
+  pub matrix : Residues (t .q) (t .m * t .m) (part 0 i)
+  pub side : Residues (t .q) (sideSize t) (part 1 i)
+  pub inverse : regular (t .q) (t .m) (part 0 i) ≡ true
 
-pub taken-pair : (t : Terms) (i : List (List ℕ)) → Taken solver t i → Taken-pair t i
+pub taken-pair : (t : Terms) (i : List (List ℕ)) → Taken solver t i → Pair t i
+unfolding regularTests
 taken-pair t i taken =
     let a = all-split (inputTests (t .q) (t .m * t .m) (part 0 i) ++ inputTests (t .q) (sideSize t) (part 1 i)) (regularTests (t .q) (t .m) (part 0 i)) (passed (pairTests t i) taken .0) in
     let b = all-split (inputTests (t .q) (t .m * t .m) (part 0 i)) (inputTests (t .q) (sideSize t) (part 1 i)) (a .0) in
-    record { matrix = b .0; side = b .1; inverse = a .1 }
+    record { matrix = input-residues (t .q) (t .m * t .m) (part 0 i) (b .0); side = input-residues (t .q) (sideSize t) (part 1 i) (b .1); inverse = a .1 .0 }
 
 -- ---- the ends' steps
 
--- a later step of the solver, and of the blinder
-solver-pass : (kind : ℕ) (z : SolverSession) (slot : Slot) → Pass (laterTests solver kind (z .due) (z .terms) slot) → allBelow (z .terms .q) (keptS z) ≡ true
-    → Pass (solverTests kind z slot)
-unfolding solverTests keptTests
-solver-pass kind z slot a e = a also (e next nothing)
-
-blinder-pass : (kind : ℕ) (z : BlinderSession) (slot : Slot) (u : List ℕ) → Pass (laterTests blinder kind (z .due) (z .terms) slot)
-    → scratchSize (z .terms) ≤ length u → allBelow (z .terms .q) (keptM z) ≡ true → allBelow (z .terms .q) (keptY z) ≡ true → allBelow (z .terms .q) (take (scratchSize (z .terms)) u) ≡ true
-    → Pass (blinderTests kind z slot u)
-unfolding blinderTests keptTests
-blinder-pass kind z slot u a e em ey eu = a also pass-given (isOpen (z .due)) _ (room-pass _ _ e) also (em next nothing) also (ey next nothing) also (eu next nothing)
-
-module _ (session : SessionId) (tape : TapeId) (q n rhs : ℕ) (terms : Pass (termsTests system (wideTerms session tape q n rhs)))
-    (products : Pass (termsTests product (wideTerms session tape q n rhs))) where
+module _ (session : SessionId) (tape : TapeId) (q n rhs : ℕ) (terms : TermsFit system (wideTerms session tape q n rhs)) where
   abbrev t : Terms
   t = wideTerms session tape q n rhs
 
   h0 : 0 < q
-  h0 = omega (arith, modulus-above system t terms)
+  h0 = omega (arith, terms .big)
 
   side-is : sideSize t ≡ n * rhs
   unfolding sideSize
@@ -85,16 +73,10 @@ module _ (session : SessionId) (tape : TapeId) (q n rhs : ℕ) (terms : Pass (te
     y1 = sendY q n n (n + rhs) (beside n n rhs (part 0 input) (part 1 input)) y0
 
     step1 : solverFirst t s (part 0 input) (part 1 input) (messageSize 1 t) ≡ done (solverFirstEffect t s (part 0 input) (part 1 input))
-    unfolding solverFirst solverFirstTests
     step1 =
         let i = taken-pair t input taken in
-        accepts _ _
-        ((holding-first solver t _ s h terms
-        also record { all = i .matrix }
-        also record { all = i .side }
-        also room-pass _ _ (le-refl _)
-        also record { all = i .inverse })
-        .all)
+        solver-first t s (part 0 input) (part 1 input) (messageSize 1 t) .accepts
+        (record { first = first-fits h terms; l-fits = i .matrix; x-fits = i .side; message-room = le-refl _; l-regular = i .inverse })
 
     sent1 : solverFirstEffect t s (part 0 input) (part 1 input) .sent ≡ messageOf 1 t (y1 ∷ [])
     unfolding solverFirstEffect y1
@@ -129,13 +111,13 @@ module _ (session : SessionId) (tape : TapeId) (q n rhs : ℕ) (terms : Pass (te
       held1 = holding-used solver t _ s h
 
       step3 : solverSecond session1 slot1 (messageOf 2 t cut2) (messageSize 3 t) ≡ done (solverSecondEffect session1 slot1 (messageOf 2 t cut2))
-      unfolding solverSecond solverSecondTests session1 keptS
-      step3 = accepts _ _
-          ((message-pass 2 t cut2 (message-fits 2 t a ra) (unfold within both in refl) (unfold kindSort in products)
-          also solver-pass 2 session1 slot1 (holding-later solver 2 t _ slot1 held1 terms (unfold isOpen in refl)) (zeros-below q 16 (sideSize t) h0)
-          also due-pass 2 t cut2
-          also pass-given (isOpen 2) _ (room-pass _ _ (le-refl _)))
-          .all)
+      unfolding session1 keptS
+      step3 = solver-second session1 slot1 (messageOf 2 t cut2) (messageSize 3 t) .accepts (record {
+        later = later-fits held1 terms (omega arith);
+        message = own-message 2 t cut2 (message-fits 2 t a ra);
+        s-below = zeros-below q 16 (sideSize t) h0;
+        message-room = le-refl _;
+      })
 
       sent3 : solverSecondEffect session1 slot1 (messageOf 2 t cut2) .sent ≡ messageOf 3 t (sendF q n rhs r share ∷ [])
       unfolding solverSecondEffect session1 share
@@ -182,13 +164,13 @@ module _ (session : SessionId) (tape : TapeId) (q n rhs : ℕ) (terms : Pass (te
         kept-s = rw side-is (take-over (zeros 16) last-residues)
 
         step5 : solverLast session3 slot3 (messageOf 4 t cut4) (messageSize 5 t) ≡ done (solverLastEffect session3 slot3 (messageOf 4 t cut4))
-        unfolding solverLast solverLastTests session3
-        step5 = accepts _ _
-            ((message-pass 4 t cut4 (message-fits 4 t b rb) (unfold within both in refl) (unfold kindSort in terms)
-            also solver-pass 4 session3 slot3 (holding-later solver 4 t _ slot3 held3 terms (unfold isOpen in refl)) (rw kept-s (residues-below last-residues))
-            also due-pass 4 t cut4
-            also pass-given (isOpen 4) _ (room-pass _ _ (le-refl _)))
-            .all)
+        unfolding session3
+        step5 = solver-last session3 slot3 (messageOf 4 t cut4) (messageSize 5 t) .accepts (record {
+          later = later-fits held3 terms (omega arith);
+          message = own-message 4 t cut4 (message-fits 4 t b rb);
+          s-below = rw kept-s (residues-below last-residues);
+          message-room = le-refl _;
+        })
 
         sum-is : jointSum session3 slot3 (messageOf 4 t cut4) ≡ sum
         unfolding jointSum session3 sum
@@ -207,27 +189,27 @@ module _ (session : SessionId) (tape : TapeId) (q n rhs : ℕ) (terms : Pass (te
             go false = refl
 
     -- the solver's messages, as far as the messages that it gets carry it
-    pub solver-first : (got : List (List ℕ)) → take 1 (solverMessages t s input got) ≡ join (sendY q n n (n + rhs) (beside n n rhs (part 0 input) (part 1 input)) y0 ∷ []) ∷ []
+    pub solver-sends-one : (got : List (List ℕ)) → take 1 (solverMessages t s input got) ≡ join (sendY q n n (n + rhs) (beside n n rhs (part 0 input) (part 1 input)) y0 ∷ []) ∷ []
     unfolding y1
-    solver-first got = rw (sends1 got)
+    solver-sends-one got = rw (sends1 got)
 
-    pub solver-second : (a : List ℕ) → Residues q (messageSize 2 t) a → (got : List (List ℕ)) → take 2 (solverMessages t s input (a ∷ got))
+    pub solver-sends-two : (a : List ℕ) → Residues q (messageSize 2 t) a → (got : List (List ℕ)) → take 2 (solverMessages t s input (a ∷ got))
         ≡ join (sendY q n n (n + rhs) (beside n n rhs (part 0 input) (part 1 input)) y0 ∷ [])
         ∷ join (sendF q n rhs r (solverShare q n rhs (part 0 (parts (messageLayout 2 n n (n + rhs)) a)) y0 (part 1 (parts (messageLayout 2 n n (n + rhs)) a)) b0) ∷ [])
         ∷ []
     unfolding y1 share
-    solver-second a ra got = rw (sends1 (a ∷ got), sends3 a ra got)
+    solver-sends-two a ra got = rw (sends1 (a ∷ got), sends3 a ra got)
 
     -- S, W + V and c + s, by messages 2 and 4
     abbrev pub shareOf : (m2 : List ℕ) → List ℕ
     shareOf a = solverShare q n rhs (part 0 (parts (messageLayout 2 n n (n + rhs)) a)) y0 (part 1 (parts (messageLayout 2 n n (n + rhs)) a)) b0
 
-    pub solver-last : (a b : List ℕ) → Residues q (messageSize 2 t) a → Residues q (messageSize 4 t) b → (got : List (List ℕ)) → solverMessages t s input (a ∷ b ∷ got)
+    pub solver-sends-all : (a b : List ℕ) → Residues q (messageSize 2 t) a → Residues q (messageSize 4 t) b → (got : List (List ℕ)) → solverMessages t s input (a ∷ b ∷ got)
         ≡ join (sendY q n n (n + rhs) (beside n n rhs (part 0 input) (part 1 input)) y0 ∷ []) ∷ join (sendF q n rhs r (shareOf a) ∷ [])
         ∷ cond (regular q n (sumMatrix q n (part 0 (parts (messageLayout 4 n n (n + rhs)) b)) v))
         (join (solution q n (sumMatrix q n (part 0 (parts (messageLayout 4 n n (n + rhs)) b)) v) (sumVector q n rhs (part 1 (parts (messageLayout 4 n n (n + rhs)) b)) (shareOf a)) ∷ []) ∷ []) []
     unfolding y1 share sum target
-    solver-last a b ra rb got = rw (sends1 (a ∷ b ∷ got), sends3 a ra (b ∷ got), sends5 a ra b rb got)
+    solver-sends-all a b ra rb got = rw (sends1 (a ∷ b ∷ got), sends3 a ra (b ∷ got), sends5 a ra b rb got)
 
   -- ---- the blinder, with P and U0
 
@@ -242,7 +224,7 @@ module _ (session : SessionId) (tape : TapeId) (q n rhs : ℕ) (terms : Pass (te
     abbrev cut1 : List (List ℕ)
     cut1 = parts (messageLayout 1 n n (n + rhs)) a
 
-    pair : Taken-pair t input
+    pair : Pair t input
     pair = taken-pair t input taken
 
     coins-residues : Residues q (scratchSize t) coins
@@ -251,7 +233,7 @@ module _ (session : SessionId) (tape : TapeId) (q n rhs : ℕ) (terms : Pass (te
 
     coins-are : coinsOf t (wordsFor q coins) ≡ coins
     unfolding coinsOf
-    coins-are = drawn-own (modulus-below system t terms) coins-residues
+    coins-are = drawn-own (terms .small) coins-residues
 
     coins-parts : scratchParts t coins ≡ pm ∷ u0 ∷ []
     unfolding scratchParts
@@ -265,19 +247,18 @@ module _ (session : SessionId) (tape : TapeId) (q n rhs : ℕ) (terms : Pass (te
     first = blinderFirstEffect t s (part 0 input) (part 1 input) (wordsFor q coins) (messageOf 1 t cut1)
 
     step2 : blinderFirst t s (length lent) (part 0 input) (part 1 input) (wordsFor q coins) (messageOf 1 t cut1) (messageSize 2 t) ≡ done first
-    unfolding blinderFirst blinderFirstTests regularTests first
-    step2 = accepts _ _
-        ((message-pass 1 t cut1 (message-fits 1 t a ra) (unfold within both in refl) (unfold kindSort in products)
-        also holding-first blinder t _ s h terms
-        also due-pass 1 t cut1
-        also record { all = pair .matrix }
-        also record { all = pair .side }
-        also room-pass _ _ (omega (arith, lent-length))
-        also room-pass _ _ (le-refl _)
-        also record { all = drawn-enough (modulus-below system t terms) coins-residues }
-        also record { all = pair .inverse }
-        also (rw (coins-are, coins-parts) p-regular next nothing))
-        .all)
+    unfolding first
+    step2 = blinder-first t s (length lent) (part 0 input) (part 1 input) (wordsFor q coins) (messageOf 1 t cut1) (messageSize 2 t) .accepts (record {
+      first = first-fits h terms;
+      message = own-message 1 t cut1 (message-fits 1 t a ra);
+      m-fits = pair .matrix;
+      y-fits = pair .side;
+      scratch-room = omega (arith, lent-length);
+      message-room = le-refl _;
+      enough = drawn-enough (terms .small) coins-residues;
+      m-regular = pair .inverse;
+      p-regular = rw (coins-are, coins-parts) p-regular;
+    })
 
     sent2 : first .sent ≡ messageOf 2 t (sendX q n n (n + rhs) pm x0 ∷ sendR q n n (n + rhs) pm (part 0 cut1) u0 a0 ∷ [])
     unfolding first blinderFirstEffect
@@ -301,9 +282,9 @@ module _ (session : SessionId) (tape : TapeId) (q n rhs : ℕ) (terms : Pass (te
     unfolding blinderMessages hearing
     sends2 got = rw (incoming-is 1 t a ra) (then-accepted s _ _ _ step2 ∙ rw (sent2, said-message, step2, first-scratch) (unfold after2 slot2 session2 first blinderFirstEffect in refl))
 
-    pub blinder-first : (got : List (List ℕ)) → take 1 (blinderMessages t s input (a ∷ got) (wordsFor q (join (pm ∷ u0 ∷ []))))
+    pub blinder-sends-one : (got : List (List ℕ)) → take 1 (blinderMessages t s input (a ∷ got) (wordsFor q (join (pm ∷ u0 ∷ []))))
         ≡ join (sendX q n n (n + rhs) pm x0 ∷ sendR q n n (n + rhs) pm (part 0 (parts (messageLayout 1 n n (n + rhs)) a)) u0 a0 ∷ []) ∷ []
-    blinder-first got = rw (sends2 got)
+    blinder-sends-one got = rw (sends2 got)
 
     -- ---- on message 3
     module _ (b : List ℕ) (rb : Residues q (messageSize 3 t) b) where
@@ -316,14 +297,11 @@ module _ (session : SessionId) (tape : TapeId) (q n rhs : ℕ) (terms : Pass (te
 
       kept-m : keptM session2 ≡ part 0 input
       unfolding keptM session2 padded
-      kept-m = take-over (zeros 256) (input-residues q (n * n) (part 0 input) (pair .matrix))
-
-      y-fits : Residues q (sideSize t) (part 1 input)
-      y-fits = input-residues q (sideSize t) (part 1 input) (pair .side)
+      kept-m = take-over (zeros 256) (pair .matrix)
 
       kept-y : keptY session2 ≡ part 1 input
       unfolding keptY session2 padded
-      kept-y = take-over (zeros 16) y-fits
+      kept-y = take-over (zeros 16) (pair .side)
 
       scratch-parts : scratchParts t (over coins lent) ≡ pm ∷ u0 ∷ []
       unfolding scratchParts
@@ -333,15 +311,16 @@ module _ (session : SessionId) (tape : TapeId) (q n rhs : ℕ) (terms : Pass (te
       scratch-room = omega (arith, over-length coins lent (omega (arith, coins-residues .size, lent-length)), lent-length)
 
       step4 : blinderSecond session2 slot2 (over coins lent) (messageOf 3 t cut3) (messageSize 4 t) ≡ done (blinderSecondEffect session2 slot2 (over coins lent) (messageOf 3 t cut3))
-      unfolding blinderSecond blinderSecondTests session2
-      step4 = accepts _ _
-          ((message-pass 3 t cut3 (message-fits 3 t b rb) (unfold within both in refl) (unfold kindSort in terms)
-          also blinder-pass 3 session2 slot2 (over coins lent) (holding-later blinder 3 t _ slot2 held2 terms (unfold isOpen in refl)) scratch-room
-          (rw kept-m (residues-below (input-residues q (n * n) (part 0 input) (pair .matrix)))) (rw kept-y (residues-below y-fits))
-          (rw (take-over lent coins-residues) (residues-below coins-residues))
-          also due-pass 3 t cut3
-          also pass-given (isOpen 3) _ (room-pass _ _ (le-refl _)))
-          .all)
+      unfolding session2
+      step4 = blinder-second session2 slot2 (over coins lent) (messageOf 3 t cut3) (messageSize 4 t) .accepts (record {
+        later = later-fits held2 terms (omega arith);
+        message = own-message 3 t cut3 (message-fits 3 t b rb);
+        scratch-room = scratch-room;
+        m-below = rw kept-m (residues-below (pair .matrix));
+        y-below = rw kept-y (residues-below (pair .side));
+        scratch-below = rw (take-over lent coins-residues) (residues-below coins-residues);
+        write-room = le-refl _;
+      })
 
       sent4 : blinderSecondEffect session2 slot2 (over coins lent) (messageOf 3 t cut3) .sent
           ≡ messageOf 4 t (sendW q n rhs u0 (part 0 cut3) qm pm (part 0 input) g ∷ sendC q n rhs u0 pm (part 1 input) ∷ [])
@@ -352,8 +331,8 @@ module _ (session : SessionId) (tape : TapeId) (q n rhs : ℕ) (terms : Pass (te
       unfolding after2 hearing
       sends4 got = rw (incoming-is 3 t b rb) (then-accepted slot2 _ _ _ step4 ∙ rw (sent4, said-message) refl)
 
-      pub blinder-second : (got : List (List ℕ)) → blinderMessages t s input (a ∷ b ∷ got) (wordsFor q (join (pm ∷ u0 ∷ [])))
+      pub blinder-sends-all : (got : List (List ℕ)) → blinderMessages t s input (a ∷ b ∷ got) (wordsFor q (join (pm ∷ u0 ∷ [])))
           ≡ join (sendX q n n (n + rhs) pm x0 ∷ sendR q n n (n + rhs) pm (part 0 (parts (messageLayout 1 n n (n + rhs)) a)) u0 a0 ∷ [])
           ∷ join (sendW q n rhs u0 (part 0 (parts (messageLayout 3 n n (n + rhs)) b)) qm pm (part 0 input) g ∷ sendC q n rhs u0 pm (part 1 input) ∷ [])
           ∷ []
-      blinder-second got = rw (sends2 (b ∷ got), sends4 got)
+      blinder-sends-all got = rw (sends2 (b ∷ got), sends4 got)
