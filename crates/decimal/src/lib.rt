@@ -291,7 +291,8 @@ fn digit_count(n: u32) -> usize
 // How many bytes the numbers take, each with the byte that ends it.
 pub fn line_length(xs: &[u32]) -> usize
     requires { ⌜ length (now xs) ≤ 4096 ⌝ }
-    ensures { λ r. ⌜ r ≡ length (line (now (xs .entry))) ⌝ }
+    ensures bytes { λ r. ⌜ r ≡ length (line (now (xs .entry))) ⌝ }
+    ensures few { λ r. ⌜ r ≤ 11 * length (now (xs .entry)) ⌝ }
 {
     let mut n: usize = 0;
     let mut j: usize = 0;

@@ -1,0 +1,112 @@
+-- The tests in code's order are those that protocol judges.
+--   read-judged, write-judged, parse-judged   what the checks' verdict says of protocol's judgement
+--   read-refused, read-done, parse-refused, parse-done, write-refused, write-done   what follows for the entries
+--   head-stops, head-goes-on                                         the head's check, and what follows it
+-- Assumes nothing.
+use mathlib.Core.Path.{_≡_, sym, ap, _∙_}
+use mathlib.Core.List.{List, _∷_}
+use mathlib.Core.Option.{some, none}
+use Prim.Native.Nat.{ℕ, _≤_, _<_}
+use lib.Dec.{leb}
+use lib.ListN.{length, drop, getD}
+use borrow.Author.Tests.{le-leb, lt-leb, leb-true}
+use Rattle.algebra.specs.Count.{both}
+use Rattle.protocol.specs.declared.Head.{Head}
+use Rattle.protocol.specs.declared.Refusal.{Refusal}
+use Rattle.protocol.specs.declared.Refusal.the-variants.{Form, Size}
+use Rattle.protocol.specs.Judge.{Test, needs, refused, done, clear, judgeBy, judge}
+use Rattle.protocol.specs.Bounds.{within, shapeTests, termsTests, inputTests, roomTests}
+use Rattle.protocol.specs.Message.{Message, messageTests}
+use Rattle.protocol.specs.Line.{numbersOf, messageFrom, messageLine, mostSent, parseInto, readInto, writeInto, readTests, writeTests}
+use Rattle.checks.specs.InOrder.{checked, inOrder, only, sortedBy, sorted, verdict, judged}
+use Rattle.checks.specs.declared.Check.{Check}
+use Rattle.checks.specs.declared.Check.the-variants as check
+use Rattle.checks.proofs.InOrder.{judge-sorted, refused-by, accepted-by, verdict-all, stops, goes-on}
+use Rattle.message.specs.Groups.{headTests, messageSizes}
+use Rattle.line.specs.Order.{parseOrder, restTests, inSize}
+
+pub read-judged : (room : ℕ) (xs : List ℕ) → 7 ≤ length xs
+    → judged (readTests room xs) ≡ verdict (inSize (messageFrom xs .head) (drop 7 xs) (length (drop 7 xs)) room)
+unfolding messageTests termsTests shapeTests inputTests roomTests sorted sortedBy only inSize restTests headTests messageSizes inOrder
+read-judged room xs h = judge-sorted (readTests room xs) tt ∙ rw (le-leb 7 (length xs) h)
+
+pub write-judged : (room : ℕ) (a : Message) → judged (writeTests room a) ≡ verdict (inSize (a .head) (a .residues) (length (messageLine a)) room)
+unfolding messageTests termsTests shapeTests inputTests roomTests sorted sortedBy only inSize restTests headTests messageSizes inOrder
+write-judged room a = judge-sorted (writeTests room a) tt
+
+-- ---- a line with fewer than seven numbers
+
+pub read-none : (room : ℕ) (s : List ℕ) → numbersOf s ≡ none → readInto room s ≡ refused Form
+unfolding readInto
+read-none room s e = rw e
+
+pub parse-none : (room : ℕ) (s : List ℕ) → numbersOf s ≡ none → parseInto room s ≡ refused Form
+unfolding parseInto
+parse-none room s e = rw e
+
+pub read-few : (room : ℕ) (s xs : List ℕ) → numbersOf s ≡ some xs → length xs < 7 → readInto room s ≡ refused Form
+unfolding readInto judge judgeBy clear both
+read-few room s xs e h = rw (e, lt-leb 7 (length xs) h)
+
+pub parse-few : (room : ℕ) (s xs : List ℕ) → numbersOf s ≡ some xs → length xs < 7 → parseInto room s ≡ refused Form
+unfolding parseInto judge judgeBy clear both
+parse-few room s xs e h = rw (e, lt-leb 7 (length xs) h)
+
+-- ---- the other lines
+
+-- the tests of `parseInto`
+abbrev parseTests : ℕ → List ℕ → List Test
+parseTests room xs =
+    needs Form (leb 7 (length xs))
+    ∷ needs Form (within 1 5 (getD xs 0 0))
+    ∷ needs Size (leb (length (drop 7 xs)) mostSent)
+    ∷ roomTests (length (drop 7 xs)) room
+
+module _ (room : ℕ) (s xs : List ℕ) (e : numbersOf s ≡ some xs) (h : 7 ≤ length xs) where
+  pub read-refused : (r : Refusal) → verdict (inSize (messageFrom xs .head) (drop 7 xs) (length (drop 7 xs)) room) ≡ refused r → readInto room s ≡ refused r
+  unfolding readInto
+  read-refused r v = rw e (refused-by (readTests room xs) (messageFrom xs) (read-judged room xs h ∙ v))
+
+  pub read-done : verdict (inSize (messageFrom xs .head) (drop 7 xs) (length (drop 7 xs)) room) ≡ done tt → readInto room s ≡ done (messageFrom xs)
+  unfolding readInto
+  read-done v = rw e (accepted-by (readTests room xs) (messageFrom xs) (read-judged room xs h ∙ v))
+
+  parse-judged : judged (parseTests room xs) ≡ verdict (parseOrder (getD xs 0 0) (length (drop 7 xs)) room)
+  unfolding roomTests sorted sortedBy only parseOrder inOrder
+  parse-judged = judge-sorted (parseTests room xs) tt ∙ rw (le-leb 7 (length xs) h)
+
+  pub parse-refused : (r : Refusal) → verdict (parseOrder (getD xs 0 0) (length (drop 7 xs)) room) ≡ refused r → parseInto room s ≡ refused r
+  unfolding parseInto
+  parse-refused r v = rw e (refused-by (parseTests room xs) (messageFrom xs) (parse-judged ∙ v))
+
+  pub parse-done : verdict (parseOrder (getD xs 0 0) (length (drop 7 xs)) room) ≡ done tt → parseInto room s ≡ done (messageFrom xs)
+  unfolding parseInto
+  parse-done v = rw e (accepted-by (parseTests room xs) (messageFrom xs) (parse-judged ∙ v))
+
+pub parse-passed : (kind count room : ℕ) → verdict (parseOrder kind count room) ≡ done tt → (count ≤ mostSent) × (count ≤ room)
+unfolding parseOrder
+parse-passed kind count room e = let a = verdict-all _ e in (leb-true count mostSent (a .1 .0), leb-true count room (a .1 .1 .0))
+
+module _ (room : ℕ) (a : Message) where
+  pub write-refused : (r : Refusal) → verdict (inSize (a .head) (a .residues) (length (messageLine a)) room) ≡ refused r → writeInto room a ≡ refused r
+  unfolding writeInto
+  write-refused r v = refused-by (writeTests room a) (messageLine a) (write-judged room a ∙ v)
+
+  pub write-done : verdict (inSize (a .head) (a .residues) (length (messageLine a)) room) ≡ done tt → writeInto room a ≡ done (messageLine a)
+  unfolding writeInto
+  write-done v = accepted-by (writeTests room a) (messageLine a) (write-judged room a ∙ v)
+
+-- ---- the head's check, and what follows it
+
+module _ (h : Head) (rs : List ℕ) (n need room : ℕ) (c : Check) (e : checked c ≡ verdict (headTests h n)) (l : length rs ≡ n) where
+  pub head-stops : (r : Refusal) → c ≡ check.Refused r → checked c ≡ verdict (inSize h rs need room)
+  unfolding inSize
+  head-stops r k =
+      let v : verdict (headTests h (length rs)) ≡ refused r = ap (λ (m : ℕ). verdict (headTests h m)) l ∙ sym e ∙ ap checked k in
+      ap checked k ∙ sym (stops (headTests h (length rs)) (restTests (h .terms .q) rs need room) tt v)
+
+  pub head-goes-on : c ≡ check.Passed → verdict (inSize h rs need room) ≡ verdict (restTests (h .terms .q) rs need room)
+  unfolding inSize
+  head-goes-on k =
+      let v : verdict (headTests h (length rs)) ≡ done tt = ap (λ (m : ℕ). verdict (headTests h m)) l ∙ sym e ∙ ap checked k in
+      goes-on (headTests h (length rs)) (restTests (h .terms .q) rs need room) tt v

@@ -1,0 +1,92 @@
+-- The words that a line was read into.
+--   loaded-head, loaded-count, loaded-residues   the head in front, then the residues
+--   copy-start, copy-turn, copy-done             the residues copied into a lent slice
+-- Assumes nothing.
+use mathlib.Core.Path.{_≡_, refl, sym, ap, ap₂, _∙_}
+use mathlib.Core.List.{List, [], _∷_, _++_}
+use Prim.Native.Nat.{ℕ, zero, suc, _+_, _-_, _≤_, _<_}
+use mathlib.Core.Option.{Option}
+use native.Mathlib.Omega.{arith}
+use native.Mathlib.Nat.{zero-add}
+use native.Mathlib.Numerals.{add-one}
+use lib.ListN.{length, getD, set, take, drop, replicate, length-drop, length-set, length-replicate}
+use lib.Seq.{sets, sets-eq, take-at, drop-append-le, getD-set-same, getD-set-other, getD-drop, length-take-le, paste, paste-zero, paste-suc, length-paste}
+use Rattle.algebra.specs.Words.{over}
+use Rattle.protocol.specs.Line.{messageFrom, mostSent}
+use Rattle.decimal.specs.Reading.{Stored}
+
+sets-before : (l : List ℕ) (xs : List ℕ) (k j : ℕ) → j < k → getD (sets l k xs) j 0 ≡ getD l j 0
+sets-before l [] k j h = refl
+sets-before l (x ∷ xs) k j h = sets-before (set l k x) xs (suc k) j (omega arith) ∙ getD-set-other l k j x 0 (λ e. omega arith)
+
+sets-at : (l xs : List ℕ) (k i : ℕ) → i < length xs → k + i < length l → getD (sets l k xs) (k + i) 0 ≡ getD xs i 0
+sets-at l [] k i h m = absurd (omega arith)
+sets-at l (x ∷ xs) k zero h m =
+    let z : k + 0 ≡ k = omega arith in
+    let in-l : k < length l = omega arith in
+    rw z (sets-before (set l k x) xs (suc k) k (omega arith) ∙ getD-set-same l k x 0 in-l)
+sets-at l (x ∷ xs) k (suc i) h m =
+    let z : k + suc i ≡ suc k + i = omega arith in
+    let in-l : suc k + i < length (set l k x) = simp length-set (omega arith) in
+    rw z (sets-at (set l k x) xs (suc k) i (omega arith) in-l)
+
+-- the head stands in front
+head-loaded : (l xs : List ℕ) → 7 ≤ length xs → 7 ≤ length l → messageFrom (sets l 0 xs) .head ≡ messageFrom xs .head
+head-loaded l xs h m =
+    rw (
+      at 0 (omega arith),
+      at 1 (omega arith),
+      at 2 (omega arith),
+      at 3 (omega arith),
+      at 4 (omega arith),
+      at 5 (omega arith),
+      at 6 (omega arith),
+    )
+  where
+    at : (i : ℕ) → i < 7 → getD (sets l 0 xs) i 0 ≡ getD xs i 0
+    at i k = ap (λ (j : ℕ). getD (sets l 0 xs) j 0) (sym (zero-add i)) ∙ sets-at l xs 0 i (omega arith) (omega arith)
+
+-- the residues stand behind it
+residues-loaded : (l xs : List ℕ) → 7 ≤ length xs → length xs ≤ length l → take (length (drop 7 xs)) (drop 7 (sets l 0 xs)) ≡ drop 7 xs
+residues-loaded l xs h m =
+    ap (λ (w : List ℕ). take (length (drop 7 xs)) (drop 7 w)) (sets-eq xs l 0 (omega arith))
+    ∙ ap (take (length (drop 7 xs))) (drop-append-le 7 xs (drop (0 + length xs) l) h)
+    ∙ take-at (drop 7 xs) (drop (0 + length xs) l) (length (drop 7 xs)) refl
+
+module _ (o : Option (List ℕ)) (n : ℕ) (words : List ℕ) (t : Stored o n (replicate 3079 0) words) (h : 7 ≤ n) where
+  pub loaded-head : messageFrom words .head ≡ messageFrom (t .values) .head
+  loaded-head =
+      ap (λ (w : List ℕ). messageFrom w .head) (t .stores)
+      ∙ head-loaded (replicate 3079 0) (t .values) (omega (arith, t .count)) (omega (arith, length-replicate {A = ℕ} 3079 0))
+
+  pub loaded-count : length (drop 7 (t .values)) ≡ n - 7
+  loaded-count = length-drop 7 (t .values) ∙ omega (arith, t .count)
+
+  pub loaded-residues : n - 7 ≤ mostSent → take (n - 7) (drop 7 words) ≡ drop 7 (t .values)
+  loaded-residues k =
+      ap₂ (λ (m : ℕ) (w : List ℕ). take m (drop 7 w)) (sym loaded-count) (t .stores)
+      ∙ residues-loaded (replicate 3079 0) (t .values) (omega (arith, t .count)) (omega (arith, t .count, length-replicate {A = ℕ} 3079 0))
+
+-- ---- the residues copied into a lent slice
+
+module _ (words out : List ℕ) where
+  pub copy-start : out ≡ paste out 0 (drop 7 words) 0
+  copy-start = paste-zero out 0 (drop 7 words)
+
+  pub copy-turn : (j : ℕ) → j < length out → j + 7 < length words
+      → set (paste out 0 (drop 7 words) j) j (getD words (j + 7) 0) ≡ paste out 0 (drop 7 words) (j + 1)
+  copy-turn j h k =
+      let v : getD words (j + 7) 0 ≡ getD (drop 7 words) j 0 = ap (λ (i : ℕ). getD words i 0) (omega arith) ∙ sym (getD-drop 7 words j 0) in
+      let long : j < length (drop 7 words) = simp length-drop (omega arith) in
+      ap₂ (λ (i x : ℕ). set (paste out 0 (drop 7 words) j) i x) (sym (zero-add j)) v
+      ∙ paste-suc out 0 (drop 7 words) j 0 (omega arith) long
+      ∙ ap (paste out 0 (drop 7 words)) (sym (add-one j))
+
+  pub copy-same : (j : ℕ) → j ≤ length out → j + 7 ≤ length words → length (paste out 0 (drop 7 words) j) ≡ length out
+  copy-same j h k = length-paste out 0 (drop 7 words) j (omega arith) (simp length-drop (omega arith))
+
+  pub copy-done : (j : ℕ) → j + 7 ≤ length words → paste out 0 (drop 7 words) j ≡ over (take j (drop 7 words)) out
+  unfolding over
+  copy-done j h =
+      let long : j ≤ length (drop 7 words) = simp length-drop (omega arith) in
+      ap (λ (i : ℕ). take j (drop 7 words) ++ drop i out) (zero-add j ∙ sym (length-take-le j (drop 7 words) long))

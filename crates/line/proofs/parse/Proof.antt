@@ -1,0 +1,92 @@
+-- `line::parse` meets its contract: the line is loaded, its form checked, and only then stored. Assumes nothing.
+use mathlib.Core.Path.{_≡_, refl, sym, ap, _∙_, ap₂}
+use mathlib.Core.List.{List}
+use Prim.Native.Nat.{ℕ, _≤_}
+use native.Mathlib.Omega.{arith}
+use lib.ListN.{length, getD, drop, replicate}
+use borrow.Author.Needs.{needs}
+use Rattle.checks.specs.InOrder.{checked, verdict}
+use Rattle.decimal.proofs.Entry.{told, told-wrong}
+use Rattle.line.proofs.Loaded.{loaded-head, loaded-count, loaded-residues}
+use Rattle.protocol.specs.Line.{numbersOf, messageFrom}
+use Rattle.protocol.specs.declared.Head.{Head}
+use Rattle.line.specs.Entries.{receivedBy}
+use Rattle.line.specs.declared.Received.the-variants as received
+use Rattle.line.proofs.Judged.{parse-none, parse-few, parse-refused, parse-done, parse-passed}
+use Rattle.line.specs.Order.{parseOrder}
+use Rattle.algebra.specs.Words.{over}
+use Rattle.line.proofs.parse.Statement.{statement}
+use Rattle.line.proofs.parse.Tie as tie
+
+slice-aggregate-load : tie.Need-slice-aggregate-load
+slice-aggregate-load c = search needs
+
+load-requires : tie.Need-load-requires
+load-requires c κs = search needs
+
+enum-known-loaded : tie.Need-enum-known-loaded
+enum-known-loaded c = search needs
+
+enum-told : tie.Need-enum-told
+enum-told c = search needs
+
+returns : tie.Need-returns
+returns c = let s = c .before .before .before .before .before .before .before .args .s .now in let out = c .before .before .before .before .before .before .before .args .out .now in let room = length out in rw (parse-none room s (told-wrong (numbersOf s) (replicate 3079 0) (c .before .before .before .load .last .1 .0) (c .before .before .before .load .result) (c .before .before .before .load .ensures) (c .enum-told .given .1))) (refl, refl)
+
+returns-2 : tie.Need-returns-2
+returns-2 c = let s = c .before .before .before .before .before .before .before .before .before .args .s .now in let out = c .before .before .before .before .before .before .before .before .before .args .out .now in let room = length out in let t = told (numbersOf s) (replicate 3079 0) (c .before .before .before .before .before .load .last .1 .0) (c .before .before .before .before .before .load .result) _ (c .before .before .before .before .before .load .ensures) (c .before .before .loaded .given .1) in let xs = t .values in rw (parse-few room s xs (t .reads) (omega (arith, t .count, c .if1 .taken))) (refl, refl)
+
+slice-aggregate-head-of : tie.Need-slice-aggregate-head-of
+slice-aggregate-head-of c = search needs
+
+head-of-requires : tie.Need-head-of-requires
+head-of-requires c κs = search needs
+
+check-form-requires : tie.Need-check-form-requires
+check-form-requires c κs = search needs
+
+enum-told-2 : tie.Need-enum-told-2
+enum-told-2 c = search needs
+
+enum-told-3 : tie.Need-enum-told-3
+enum-told-3 c = search needs
+
+refused-requires : tie.Need-refused-requires
+refused-requires c κs = search needs
+
+returns-3 : tie.Need-returns-3
+returns-3 c = let s = c .before .before .before .before .before .before .before .before .before .before .before .before .before .before .before .args .s .now in let out = c .before .before .before .before .before .before .before .before .before .before .before .before .before .before .before .args .out .now in let room = length out in let t = told (numbersOf s) (replicate 3079 0) (c .before .before .before .before .before .before .before .before .before .before .before .load .last .1 .0) (c .before .before .before .before .before .before .before .before .before .before .before .load .result) _ (c .before .before .before .before .before .before .before .before .before .before .before .load .ensures) (c .before .before .before .before .before .before .before .before .loaded .given .1) in let xs = t .values in let seven : 7 ≤ length xs = omega (arith, t .count, c .before .before .before .before .before .before .if1 .left) in let few = c .before .before .before .before .before .before .if1 .left in let hd : c .before .before .before .before .head-of .result ≡ messageFrom xs .head = c .before .before .before .before .head-of .ensures ∙ loaded-head (numbersOf s) _ _ t few in let cn = loaded-count (numbersOf s) _ _ t few in let kd : c .before .before .before .before .head-of .result .kind ≡ getD xs 0 0 = ap (λ (h : Head). h .kind) hd in let v : checked (c .before .before .before .check-form .result) ≡ verdict (parseOrder (getD xs 0 0) (length (drop 7 xs)) room) = c .before .before .before .check-form .ensures ∙ ap₂ (λ (k n : ℕ). verdict (parseOrder k n room)) kd (sym cn) in rw (parse-refused room s xs (t .reads) seven _ (sym v ∙ ap checked (c .before .enum-told3 .given .1))) (c .refused .ensures ∙ ap receivedBy (c .before .enum-told3 .given .1), refl)
+
+slice-aggregate-put-residues : tie.Need-slice-aggregate-put-residues
+slice-aggregate-put-residues c = search needs
+
+put-residues-requires : tie.Need-put-residues-requires
+put-residues-requires c κs = let s = c .before .before .before .before .before .before .before .before .before .before .before .before .before .before .before .before .args .s .now in let out = c .before .before .before .before .before .before .before .before .before .before .before .before .before .before .before .before .args .out .now in let room = length out in let t = told (numbersOf s) (replicate 3079 0) (c .before .before .before .before .before .before .before .before .before .before .before .before .load .last .1 .0) (c .before .before .before .before .before .before .before .before .before .before .before .before .load .result) _ (c .before .before .before .before .before .before .before .before .before .before .before .before .load .ensures) (c .before .before .before .before .before .before .before .before .before .loaded .given .1) in let xs = t .values in let seven : 7 ≤ length xs = omega (arith, t .count, c .before .before .before .before .before .before .before .if1 .left) in let few = c .before .before .before .before .before .before .before .if1 .left in let hd : c .before .before .before .before .before .head-of .result ≡ messageFrom xs .head = c .before .before .before .before .before .head-of .ensures ∙ loaded-head (numbersOf s) _ _ t few in let cn = loaded-count (numbersOf s) _ _ t few in let kd : c .before .before .before .before .before .head-of .result .kind ≡ getD xs 0 0 = ap (λ (h : Head). h .kind) hd in let v : checked (c .before .before .before .before .check-form .result) ≡ verdict (parseOrder (getD xs 0 0) (length (drop 7 xs)) room) = c .before .before .before .before .check-form .ensures ∙ ap₂ (λ (k n : ℕ). verdict (parseOrder k n room)) kd (sym cn) in let p = parse-passed (getD xs 0 0) (length (drop 7 xs)) room (sym v ∙ ap checked (c .before .before .enum-told2 .given .1)) in (omega (arith, p .0, cn), omega (arith, p .1, cn))
+
+same-length : tie.Need-same-length
+same-length c = search needs
+
+returns-4 : tie.Need-returns-4
+returns-4 c = let s = c .before .before .before .before .before .before .before .before .before .before .before .before .before .before .before .before .before .before .before .args .s .now in let out = c .before .before .before .before .before .before .before .before .before .before .before .before .before .before .before .before .before .before .before .args .out .now in let room = length out in let t = told (numbersOf s) (replicate 3079 0) (c .before .before .before .before .before .before .before .before .before .before .before .before .before .before .before .load .last .1 .0) (c .before .before .before .before .before .before .before .before .before .before .before .before .before .before .before .load .result) _ (c .before .before .before .before .before .before .before .before .before .before .before .before .before .before .before .load .ensures) (c .before .before .before .before .before .before .before .before .before .before .before .before .loaded .given .1) in let xs = t .values in let seven : 7 ≤ length xs = omega (arith, t .count, c .before .before .before .before .before .before .before .before .before .before .if1 .left) in let few = c .before .before .before .before .before .before .before .before .before .before .if1 .left in let hd : c .before .before .before .before .before .before .before .before .head-of .result ≡ messageFrom xs .head = c .before .before .before .before .before .before .before .before .head-of .ensures ∙ loaded-head (numbersOf s) _ _ t few in let cn = loaded-count (numbersOf s) _ _ t few in let kd : c .before .before .before .before .before .before .before .before .head-of .result .kind ≡ getD xs 0 0 = ap (λ (h : Head). h .kind) hd in let v : checked (c .before .before .before .before .before .before .before .check-form .result) ≡ verdict (parseOrder (getD xs 0 0) (length (drop 7 xs)) room) = c .before .before .before .before .before .before .before .check-form .ensures ∙ ap₂ (λ (k n : ℕ). verdict (parseOrder k n room)) kd (sym cn) in let d = sym v ∙ ap checked (c .before .before .before .before .before .enum-told2 .given .1) in let p = parse-passed (getD xs 0 0) (length (drop 7 xs)) room d in rw (parse-done room s xs (t .reads) seven d) (ap₂ received.Message hd (sym cn), c .before .before .put-residues .ensures ∙ ap (λ (l : List ℕ). over l out) (loaded-residues (numbersOf s) _ _ t few (omega (arith, p .0, cn))))
+
+pub parse-spec : {M : Type 1} → statement M
+parse-spec =
+    tie.close
+    (tie.spec
+    slice-aggregate-load
+    load-requires
+    enum-known-loaded
+    enum-told
+    returns
+    returns-2
+    slice-aggregate-head-of
+    head-of-requires
+    check-form-requires
+    enum-told-2
+    enum-told-3
+    refused-requires
+    returns-3
+    slice-aggregate-put-residues
+    put-residues-requires
+    same-length
+    returns-4)

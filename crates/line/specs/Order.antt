@@ -1,0 +1,23 @@
+-- The tests of a line, in the order in which code makes them: the lowest refusal first.
+--   parseOrder  a message's form and the room for its residues
+--   inSize      all that a message shows by itself, where `need` words or bytes of `room` are written
+-- Assumes nothing.
+use mathlib.Core.List.{List, [], _∷_, _++_}
+use Prim.Native.Nat.{ℕ}
+use lib.Dec.{leb}
+use lib.ListN.{length}
+use Rattle.protocol.specs.declared.Head.{Head}
+use Rattle.protocol.specs.declared.Refusal.the-variants.{Form, Size, Residue}
+use Rattle.protocol.specs.Judge.{Test, needs}
+use Rattle.protocol.specs.Bounds.{within, allBelow}
+use Rattle.protocol.specs.Line.{mostSent}
+use Rattle.message.specs.Groups.{headTests}
+
+unfoldable pub parseOrder : (kind count room : ℕ) → List Test
+parseOrder kind count room = needs Form (within 1 5 kind) ∷ needs Size (leb count mostSent) ∷ needs Size (leb count room) ∷ []
+
+unfoldable pub restTests : (q : ℕ) → (residues : List ℕ) → (need room : ℕ) → List Test
+restTests q residues need room = needs Size (leb need room) ∷ needs Residue (allBelow q residues) ∷ []
+
+unfoldable pub inSize : Head → (residues : List ℕ) → (need room : ℕ) → List Test
+inSize h residues need room = headTests h (length residues) ++ restTests (h .terms .q) residues need room

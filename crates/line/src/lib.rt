@@ -1,0 +1,232 @@
+// Message lines: kind, session, tape, q, m, k, p, then the residues.
+// What a host may call with any bytes and numbers; a refusal changes nothing that was lent:
+//   parse  a line's form alone: 1, and 4 where the residues have no room
+//   read   all that a message shows by itself: 1, 2, 3, 4 and 8, the lowest that applies
+//   write  a message's line, judged as it is when read
+use checks::Check;
+use decimal::Tally;
+use protocol::Head;
+use protocol::Refusal;
+use protocol::SessionId;
+use protocol::TapeId;
+use protocol::Terms;
+ghost use mathlib.Core.Path.{_≡_};
+ghost use mathlib.Core.List.{List};
+ghost use Prim.Native.Nat.{ℕ, _+_, _≤_};
+ghost use lib.ListN.{length, take, drop};
+ghost use Rattle.algebra.specs.Words.{over};
+ghost use Rattle.protocol.specs.Message.{Message};
+ghost use Rattle.protocol.specs.Line.{messageFrom, messageLine, parseInto, readInto, writeInto, mostSent};
+ghost use Rattle.checks.specs.InOrder.{checked, verdict};
+ghost use Rattle.line.specs.Entries.{receivedOf, residuesAfter, receivedBy, writtenOf, bytesAfter, writtenBy, messageWith, headNumbers};
+ghost use Rattle.line.specs.Order.{parseOrder, restTests, inSize};
+
+// What a line is read as: a message's head and how many residues were stored, or why none.
+pub enum Received {
+    Message(Head, usize),
+    Refused(Refusal),
+}
+
+// How many bytes a message's line has, or why none was written.
+pub enum Written {
+    Bytes(usize),
+    Refused(Refusal),
+}
+
+// ---- reading
+
+// The head that a line's first seven numbers are.
+fn head_of(words: &[u32]) -> Head
+    requires { ⌜ 7 ≤ length (now words) ⌝ }
+    ensures { λ r. ⌜ r ≡ messageFrom (now (words .entry)) .head ⌝ }
+{
+    let terms = Terms {
+        session: SessionId(words[1]),
+        tape: TapeId(words[2]),
+        q: words[3],
+        m: words[4],
+        k: words[5],
+        p: words[6],
+    };
+    Head {
+        kind: words[0],
+        terms,
+    }
+}
+
+// The residues behind the head, stored.
+fn put_residues(words: &[u32], count: usize, out: &mut [u32])
+    requires { ⌜ (count + 7 ≤ length (now words)) × (count ≤ length (now out)) ⌝ }
+    ensures { λ _. ⌜ now (out .exit) ≡ over (take count (drop 7 (now (words .entry)))) (now (out .entry)) ⌝ }
+{
+    let mut j: usize = 0;
+    while j < count {
+        out[j] = words[j + 7];
+        j += 1;
+    }
+}
+
+// A refusal, handed on.
+fn refused(c: Check) -> Received
+    ensures { λ r. ⌜ r ≡ receivedBy c ⌝ }
+{
+    match c {
+        Check::Passed => Received::Refused(Refusal::Form),
+        Check::Refused(r) => Received::Refused(r),
+    }
+}
+
+// The form of a message with `count` residues, and their room.
+fn check_form(kind: u32, count: usize, room: usize) -> Check
+    ensures { λ r. ⌜ checked r ≡ verdict (parseOrder kind count room) ⌝ }
+{
+    if !message::kind_known(kind) {
+        return Check::Refused(Refusal::Form);
+    }
+    if 3072 < count {
+        return Check::Refused(Refusal::Size);
+    }
+    if room < count {
+        return Check::Refused(Refusal::Size);
+    }
+    Check::Passed
+}
+
+// The room that is needed, and the residues.
+fn check_rest(q: u32, residues: &[u32], need: usize, room: usize) -> Check
+    ensures { λ r. ⌜ checked r ≡ verdict (restTests q (now (residues .entry)) need room) ⌝ }
+{
+    if room < need {
+        return Check::Refused(Refusal::Size);
+    }
+    if !checks::all_below(q, residues) {
+        return Check::Refused(Refusal::Residue);
+    }
+    Check::Passed
+}
+
+// A message with the residues rs, `count` of them, which stand in the words behind the head where there is room for so many.
+fn check_read(h: Head, count: usize, words: &[u32], room: usize) -> Check
+    requires { ⌜ length (now words) ≡ 3079 ⌝ }
+    ensures { λ r. ⌜ ((rs : List ℕ) → length rs ≡ count → (count ≤ mostSent → take count (drop 7 (now (words .entry))) ≡ rs) → checked r ≡ verdict (inSize h rs count room)) ⌝ }
+{
+    let head = message::check_head(h, count);
+    let Check::Passed = head else {
+        return head;
+    };
+    let t = h.terms;
+    let end = count + 7;
+    check_rest(t.q, &words[7..end], count, room)
+}
+
+// Reads a message's form. The residues go into `out`.
+pub fn parse(s: &[u8], out: &mut [u32]) -> Received
+    ensures answered { λ r. ⌜ r ≡ receivedOf (parseInto (length (now (out .entry))) (now (s .entry))) ⌝ }
+    ensures contents { λ _. ⌜ now (out .exit) ≡ residuesAfter (parseInto (length (now (out .entry))) (now (s .entry))) (now (out .entry)) ⌝ }
+{
+    let mut words = [0u32; 3079];
+    let loaded = decimal::load(s, &mut words);
+    let Tally::Numbers(n) = loaded else {
+        return Received::Refused(Refusal::Form);
+    };
+    if n < 7 {
+        return Received::Refused(Refusal::Form);
+    }
+    let head = head_of(&words);
+    let count = n - 7;
+    let check = check_form(head.kind, count, out.len());
+    let Check::Passed = check else {
+        return refused(check);
+    };
+    put_residues(&words, count, out);
+    Received::Message(head, count)
+}
+
+// Reads a message. The residues go into `out`.
+pub fn read(s: &[u8], out: &mut [u32]) -> Received
+    ensures answered { λ r. ⌜ r ≡ receivedOf (readInto (length (now (out .entry))) (now (s .entry))) ⌝ }
+    ensures contents { λ _. ⌜ now (out .exit) ≡ residuesAfter (readInto (length (now (out .entry))) (now (s .entry))) (now (out .entry)) ⌝ }
+{
+    let mut words = [0u32; 3079];
+    let loaded = decimal::load(s, &mut words);
+    let Tally::Numbers(n) = loaded else {
+        return Received::Refused(Refusal::Form);
+    };
+    if n < 7 {
+        return Received::Refused(Refusal::Form);
+    }
+    let head = head_of(&words);
+    let count = n - 7;
+    let check = check_read(head, count, &words, out.len());
+    let Check::Passed = check else {
+        return refused(check);
+    };
+    put_residues(&words, count, out);
+    Received::Message(head, count)
+}
+
+// ---- writing
+
+// The numbers of a head.
+fn head_words(h: Head) -> [u32; 7]
+    ensures { λ r. ⌜ r ≡ headNumbers h ⌝ }
+{
+    let t = h.terms;
+    let session = t.session;
+    let tape = t.tape;
+    [h.kind, session.0, tape.0, t.q, t.m, t.k, t.p]
+}
+
+// How many bytes the line has.
+fn message_length(h: Head, residues: &[u32]) -> usize
+    requires { ⌜ length (now residues) ≤ mostSent ⌝ }
+    ensures { λ r. ⌜ r ≡ length (messageLine (messageWith h (now (residues .entry)))) ⌝ }
+{
+    let words = head_words(h);
+    decimal::line_length(&words) + decimal::line_length(residues)
+}
+
+fn check_write(h: Head, residues: &[u32], room: usize) -> Check
+    ensures { λ r. ⌜ checked r ≡ verdict (inSize h (now (residues .entry)) (length (messageLine (messageWith h (now (residues .entry))))) room) ⌝ }
+{
+    let head = message::check_head(h, residues.len());
+    let Check::Passed = head else {
+        return head;
+    };
+    let t = h.terms;
+    check_rest(t.q, residues, message_length(h, residues), room)
+}
+
+// The line of a message, stored.
+fn put_message(h: Head, residues: &[u32], out: &mut [u8]) -> usize
+    requires { ⌜ (length (now residues) ≤ mostSent) × (length (messageLine (messageWith h (now residues))) ≤ length (now out)) ⌝ }
+    ensures place { λ r. ⌜ r ≡ length (messageLine (messageWith h (now (residues .entry)))) ⌝ }
+    ensures contents { λ _. ⌜ now (out .exit) ≡ over (messageLine (messageWith h (now (residues .entry)))) (now (out .entry)) ⌝ }
+{
+    let words = head_words(h);
+    let at = decimal::put_numbers(&words, residues.len(), out, 0);
+    decimal::put_numbers(residues, 0, out, at)
+}
+
+// A refusal, handed on.
+fn unwritten(c: Check) -> Written
+    ensures { λ r. ⌜ r ≡ writtenBy c ⌝ }
+{
+    match c {
+        Check::Passed => Written::Refused(Refusal::Form),
+        Check::Refused(r) => Written::Refused(r),
+    }
+}
+
+// Writes a message's line into `out`.
+pub fn write(h: Head, residues: &[u32], out: &mut [u8]) -> Written
+    ensures answered { λ r. ⌜ r ≡ writtenOf (writeInto (length (now (out .entry))) (messageWith h (now (residues .entry)))) ⌝ }
+    ensures contents { λ _. ⌜ now (out .exit) ≡ bytesAfter (writeInto (length (now (out .entry))) (messageWith h (now (residues .entry)))) (now (out .entry)) ⌝ }
+{
+    let check = check_write(h, residues, out.len());
+    let Check::Passed = check else {
+        return unwritten(check);
+    };
+    let n = put_message(h, residues, out);
+    Written::Bytes(n)
+}
