@@ -128,15 +128,3 @@ number-stored out at n last p e =
     rw add-one
     (sets-then out at (high n) ((48 + n % 10) ∷ last ∷ []) p k
     ∙ ap (sets out at) (sym (append-assoc (high n) ((48 + n % 10) ∷ []) (last ∷ [])) ∙ ap (λ (l : List ℕ). l ++ (last ∷ [])) (sym (decimal-high n))))
-
--- a 32-bit number has at most ten digits
-pub few-digits : (n : ℕ) → n < 2 ^ 32 → length (decimal n) ≤ 10
-few-digits n h = at-most 9 n (omega arith)
-  where
-    at-most : (k n : ℕ) → n < 10 ^ suc k → length (decimal n) ≤ suc k
-    at-most zero n h = omega (arith, length-small n (omega arith))
-    at-most (suc k) n h = by-size (decLt n 10) (at-most k (n / 10) (omega (arith, pow-suc 10 (suc k))))
-      where
-        by-size : Dec (n < 10) → length (decimal (n / 10)) ≤ suc k → length (decimal n) ≤ suc (suc k)
-        by-size (yes l) again = omega (arith, length-small n l)
-        by-size (no l) again = omega (arith, length-large n (omega arith))

@@ -2,7 +2,7 @@
 -- definitions that the contracts of `read` and `write` cite.
 --   written-reads-back, read-was-written
 -- Assumes nothing.
-use Prim.Native.Nat.{ℕ, _*_, _≤_}
+use Prim.Native.Nat.{ℕ, _≤_}
 use mathlib.Core.Path.{_≡_, refl, sym, ap, subst, _∙_}
 use mathlib.Core.Bool.{true}
 use mathlib.Core.List.{List, [], _∷_}
@@ -17,13 +17,8 @@ use Rattle.protocol.specs.Message.{Message, messageTests}
 use Rattle.protocol.specs.Line.{decimal, endByte, line, numbersOf, messageNumbers, messageLine, messageFrom, parseMessage, readWith, readInto, writeInto, readTests, writeTests}
 use Rattle.protocol.proofs.Judge.{All, all-append, all-split, accepts, passed, refused≢done}
 use Rattle.protocol.proofs.LineRoundTrip.{Words, line-reads-back, message-was-written}
-use Rattle.decimal.proofs.Powers.{few-digits}
+use Rattle.protocol.proofs.MessageRoundTrip.{line-short}
 use Rattle.line.proofs.Fits.{message-few}
-
--- a number takes at most eleven bytes
-line-short : (xs : List ℕ) → Words xs → length (line xs) ≤ 11 * length xs
-line-short [] w = omega arith
-line-short (x ∷ xs) w = omega (arith, length-append (decimal x) (endByte (length xs) ∷ line xs), few-digits x (w .0), line-short xs (w .1))
 
 line-some : (x : ℕ) (xs : List ℕ) → 1 ≤ length (line (x ∷ xs))
 line-some x xs = omega (arith, length-append (decimal x) (endByte (length xs) ∷ line xs))

@@ -5,7 +5,7 @@ use native.Mathlib.Omega.{arith}
 use lib.ListN.{length, getD, drop}
 use borrow.Author.Needs.{needs}
 use Rattle.decimal.proofs.Stores.{line-length-step, line-none}
-use Rattle.decimal.proofs.Powers.{few-digits}
+use Rattle.protocol.proofs.MessageRoundTrip.{few-digits}
 use Rattle.protocol.specs.Line.{line}
 use Rattle.decimal.proofs.line_length.Statement.{statement}
 use Rattle.decimal.proofs.line_length.Tie as tie
