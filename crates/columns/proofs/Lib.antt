@@ -1,0 +1,2 @@
+-- Rows  a matrix with one row more, and what a turn of a loop over rows leaves
+pub mod Rows

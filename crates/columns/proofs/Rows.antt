@@ -1,0 +1,110 @@
+-- A matrix with one row more, and what a turn of a loop over rows leaves. Assumes nothing.
+--   cols-none, cols-next, beside-none, beside-next   no row, and one more
+--   row-fits                                         a row's place
+--   over-then, turn                                  a row written behind those that stand there
+use mathlib.Core.Path.{_≡_, refl, sym, ap, ap₂, _∙_}
+use mathlib.Core.Bool.{cond}
+use mathlib.Core.List.{List, [], _∷_, _++_, append-assoc}
+use Prim.Native.Nat.{ℕ, zero, suc, _+_, _-_, _*_, _/_, _%_, _≤_, _<_}
+use native.Mathlib.Nat.{mul-le-mul-right}
+use native.Mathlib.Omega.{arith}
+use lib.Arith.{digits-div, digits-mod}
+use lib.Dec.{ltb}
+use lib.ListN.{length, getD, take, drop, length-append, length-drop}
+use lib.Seq.{take-at, drop-at, drop-drop, getD-drop, take-all}
+use borrow.Author.Tests.{lt-ltb, le-ltb}
+use borrow.Rule.Slice.PartMut.{midOf, putMid}
+use Rattle.algebra.specs.Matrix.{tabulate, Entries, entry, matrix}
+use Rattle.algebra.specs.Columns.{cols, beside}
+use Rattle.algebra.specs.Words.{over, writtenAt}
+use Rattle.algebra.proofs.Lists.{length-tabulate}
+use Rattle.matrix.specs.Fill.{firstWords}
+use Rattle.matrix.proofs.Fill.{tabulate-ext}
+use Rattle.session.proofs.Slot.{part-written}
+
+tabulate-append : (m n : ℕ) (f : ℕ → ℕ) → tabulate (m + n) f ≡ tabulate m f ++ tabulate n (λ e. f (m + e))
+unfolding tabulate
+tabulate-append zero n f =
+    let z : zero + n ≡ n = omega arith in
+    ap (λ (k : ℕ). tabulate k f) z ∙ tabulate-ext n f _ (λ e h. ap f (omega arith))
+tabulate-append (suc m) n f =
+    let z : suc m + n ≡ suc (m + n) = omega arith in
+    ap (λ (k : ℕ). tabulate k f) z
+    ∙ ap (λ (l : List ℕ). f zero ∷ l)
+    (tabulate-append m n (λ i. f (suc i)) ∙ ap (λ (l : List ℕ). tabulate m (λ i. f (suc i)) ++ l) (tabulate-ext n _ _ (λ e h. ap f (omega arith))))
+
+matrix-next : (i w : ℕ) (f : Entries) → matrix (i + 1) w f ≡ matrix i w f ++ tabulate w (f i)
+matrix-next i w f =
+    let z : (i + 1) * w ≡ i * w + w = omega arith in
+    ap (λ (k : ℕ). tabulate k (λ e. f (e / w) (e % w))) z
+    ∙ (tabulate-append (i * w) w (λ e. f (e / w) (e % w))
+    ∙ ap (λ (l : List ℕ). matrix i w f ++ l) (tabulate-ext w _ _ (λ j h. ap₂ f (digits-div i h) (digits-mod i h))))
+
+-- row i of m ends before the matrix does
+pub row-fits : (i m w : ℕ) → i < m → i * w + w ≤ m * w
+row-fits i m w h = omega (arith, mul-le-mul-right {m = suc i} {n = m} w h)
+
+-- ---- columns
+
+pub cols-none : (w s p : ℕ) (a d : List ℕ) → d ≡ over (cols 0 w s p a) d
+unfolding cols over tabulate
+cols-none w s p a d = let z : 0 * p ≡ 0 = omega arith in rw z
+
+pub cols-next : (i w s p : ℕ) (a : List ℕ) → cols i w s p a ++ firstWords p (drop (i * w + s) a) ≡ cols (i + 1) w s p a
+unfolding cols firstWords
+cols-next i w s p a =
+    sym (matrix-next i p (λ x y. entry w a x (s + y))
+    ∙ ap (λ (l : List ℕ). cols i w s p a ++ l) (tabulate-ext p _ _ (λ j h. ap (λ (k : ℕ). getD a k 0) (omega arith) ∙ sym (getD-drop (i * w + s) a j 0))))
+
+-- ---- side by side
+
+pub beside-none : (p r : ℕ) (a b d : List ℕ) → d ≡ over (beside 0 p r a b) d
+unfolding beside over tabulate
+beside-none p r a b d = let z : 0 * (p + r) ≡ 0 = omega arith in rw z
+
+pub beside-length : (m p r : ℕ) (a b : List ℕ) → length (beside m p r a b) ≡ m * (p + r)
+unfolding beside
+beside-length m p r a b = length-tabulate (m * (p + r)) _
+
+pub beside-next : (i p r : ℕ) (a b : List ℕ)
+    → beside i p r a b ++ (firstWords p (drop (i * p) a) ++ firstWords r (drop (i * r) b)) ≡ beside (i + 1) p r a b
+unfolding beside firstWords
+beside-next i p r a b =
+    sym (matrix-next i (p + r) (λ x y. cond (ltb y p) (entry p a x y) (entry r b x (y - p)))
+    ∙ ap (λ (l : List ℕ). beside i p r a b ++ l)
+    (tabulate-append p r (λ y. cond (ltb y p) (entry p a i y) (entry r b i (y - p)))
+    ∙ ap₂ (λ (k l : List ℕ). k ++ l) (tabulate-ext p _ _ (λ j h. rw (lt-ltb j p h) (sym (getD-drop (i * p) a j 0)))) (tabulate-ext r _ _ second)))
+  where
+    second : (j : ℕ) → j < r → cond (ltb (p + j) p) (entry p a i (p + j)) (entry r b i (p + j - p)) ≡ getD (drop (i * r) b) j 0
+    second j h =
+        let z : p + j - p ≡ j = omega arith in
+        rw (le-ltb (p + j) p (omega arith), z) (sym (getD-drop (i * r) b j 0))
+
+-- ---- a row written behind those that stand there
+
+pub over-then : (a b d : List ℕ) (n : ℕ) → length a ≡ n → writtenAt n b (over a d) ≡ over (a ++ b) d
+unfolding writtenAt over
+over-then a b d n e =
+    ap (λ (l : List ℕ). l ++ (b ++ drop (length b) (drop n (a ++ drop (length a) d)))) (take-at a (drop (length a) d) n e)
+    ∙ ap (λ (l : List ℕ). a ++ (b ++ drop (length b) l)) (drop-at a (drop (length a) d) n e)
+    ∙ ap (λ (l : List ℕ). a ++ (b ++ l)) (drop-drop (length b) (length a) d)
+    ∙ simp (append-assoc, length-append)
+
+-- `&xs[a..]` is what follows the first a words
+pub tail-part : (a : ℕ) (xs : List ℕ) → take (length xs - a) (drop a xs) ≡ drop a xs
+tail-part a xs = take-all (length xs - a) (drop a xs) (omega (arith, length-drop a xs))
+
+pub over-count : (a d : List ℕ) → length a ≤ length d → length (over a d) ≡ length d
+unfolding over
+over-count a d h = length-append a (drop (length a) d) ∙ omega (arith, length-drop (length a) d)
+
+pub count-after : (rows d : List ℕ) {out : List ℕ} → out ≡ over rows d → length rows ≤ length d → length out ≡ length d
+count-after rows d e h = ap length e ∙ over-count rows d h
+
+pub turn : (n : ℕ) (rows row out d ys : List ℕ) → out ≡ over rows d → length rows ≡ n → n ≤ length out
+    → ys ≡ over row (midOf n (length out - n) out) → putMid n (length out - n) out ys ≡ over (rows ++ row) d
+turn n rows row out d ys inv size h e = part-written n row out ys h e ∙ rw inv (over-then rows row d n size)
+
+pub words-count : (n : ℕ) (a : List ℕ) → length (firstWords n a) ≡ n
+unfolding firstWords
+words-count n a = length-tabulate n _

@@ -1,0 +1,50 @@
+use mathlib.Core.Path.{_≡_, refl, sym, ap, _∙_}
+use mathlib.Core.List.{List, _++_}
+use Prim.Native.Nat.{ℕ, _+_, _*_, _-_, _/_, _%_, _≤_, _<_}
+use native.Mathlib.Omega.{arith}
+use lib.ListN.{length, getD, set, take, drop}
+use borrow.Author.Needs.{needs}
+use Rattle.columns.proofs.Rows.{row-fits, cols-none, cols-next, beside-none, beside-next, over-then, tail-part, turn, words-count, over-count, count-after}
+use Rattle.algebra.specs.Columns.{cols, beside}
+use Rattle.algebra.specs.Words.{over}
+use Rattle.algebra.proofs.Columns.{cols-length}
+use Rattle.matrix.specs.Fill.{firstWords}
+use Rattle.columns.proofs.write_row.Statement.{statement}
+use Rattle.columns.proofs.write_row.Tie as tie
+
+write-copy-requires : tie.Need-write-copy-requires
+write-copy-requires c κs = search needs
+
+mul-write-copy : tie.Need-mul-write-copy
+mul-write-copy c = search needs
+
+sub-write-copy : tie.Need-sub-write-copy
+sub-write-copy c = search needs
+
+part-write-copy-start : tie.Need-part-write-copy-start
+part-write-copy-start c = search needs
+
+part-write-copy-end : tie.Need-part-write-copy-end
+part-write-copy-end c = search needs
+
+write-copy-requires-2 : tie.Need-write-copy-requires-2
+write-copy-requires-2 c κs = search needs
+
+same-length : tie.Need-same-length
+same-length c = search needs
+
+returns : tie.Need-returns
+returns c = turn (c .before .before .before .before .before .before .before .before .before .before .before .args .p) (firstWords (c .before .before .before .before .before .before .before .before .before .before .before .args .p) (c .before .before .before .before .before .before .before .before .before .before .before .args .a .now)) (firstWords (c .before .before .before .before .before .before .before .before .before .before .before .args .r) (c .before .before .before .before .before .before .before .before .before .before .before .args .b .now)) _ (c .before .before .before .before .before .before .before .before .before .before .before .args .out .now) _ (c .before .before .before .before .before .before .write-copy .ensures) (words-count (c .before .before .before .before .before .before .before .before .before .before .before .args .p) (c .before .before .before .before .before .before .before .before .before .before .before .args .a .now)) (search needs) (c .before .before .write-copy2 .ensures)
+
+pub write-row-spec : {M : Type 1} → statement M
+write-row-spec =
+    tie.close
+    (tie.spec
+    write-copy-requires
+    mul-write-copy
+    sub-write-copy
+    part-write-copy-start
+    part-write-copy-end
+    write-copy-requires-2
+    same-length
+    returns)

@@ -1,0 +1,1 @@
+-- The contracts cite algebra's definitions.
