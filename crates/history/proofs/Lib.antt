@@ -1,0 +1,30 @@
+-- Demand 3's proof, in reading order.
+-- Words             words written over a list and into a slot; a tape's words
+-- Steps             what an accepted step or drop needs and leaves: all that the bookkeeping knows of steps
+-- Facts             of any log
+-- Dealt             what an accepted dealing needs and leaves
+-- Kept              the invariant, kept by every accepted call
+-- Along             the only induction over calls: what dealings and moves keep holds after every list
+-- Once              each step of a session was accepted once at most
+-- Served            each half served one session at most
+-- Lent              the scratches
+-- Replay            what an end sends depends on its half alone
+-- Known, KnownOn    what is known of a session's view, after its first step and after the later ones
+-- Views             the same for every session of the list
+-- Stands            so every view that stands for a session is secret
+-- Demand            demand 3
+pub mod Words
+pub mod Steps
+pub mod Facts
+pub mod Dealt
+pub mod Kept
+pub mod Along
+pub mod Once
+pub mod Served
+pub mod Lent
+pub mod Replay
+pub mod Known
+pub mod KnownOn
+pub mod Views
+pub mod Stands
+pub mod Demand

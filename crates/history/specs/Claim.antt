@@ -1,0 +1,161 @@
+-- DEMAND 3, in 01's words and order: what holds after every list of calls. proofs/Demand proves it.
+--   Empty                     the pools at the start
+--   Never, server, Ends       words of the claim about places, halves and sessions
+--   OnHalf, times             words of the claim about steps
+--   EntryOf                   the call behind an entry of the log
+--   Demand3, DEMAND-3         the claim
+-- Assumes nothing.
+use mathlib.Core.Path.{_≡_}
+use mathlib.Core.Logic.{_≢_, _↔_}
+use mathlib.Core.Bool.{true}
+use mathlib.Core.List.{List, [], _∷_, _++_}
+use mathlib.Core.Option.{Option, some, none}
+use Prim.Native.Nat.{ℕ, suc, _*_, _/_, _≤_, _<_}
+use native.Mathlib.Decide.{ℕ-discrete}
+use lib.ListN.{length, drop}
+use Rattle.protocol.specs.Judge.{done}
+use Rattle.protocol.specs.Deal.{Dealt, deal}
+use Rattle.protocol.specs.Tape.{isSlot, slotWords, statusOf, EMPTY, blinder}
+use Rattle.protocol.specs.View.{View}
+use Rattle.protocol.specs.Completion.{Secret}
+use Rattle.history.specs.Ends.{Session, absent, isBegun, dueIn, roleIn, First, right-first, left-only, solver-first, blinder-first, Later, right-last, solver-second, solver-last, blinder-second, blinder-last, right-drop, solver-drop, blinder-drop, Step, begins, goes-on, roleOf, runStep}
+use Rattle.history.specs.Log.{choose, both?, Party, opposite, State, Call, dealing, stepping, Dealing, Did, Entry, dealt, did, World, slotOf, run, halfRole, holds, here, place, WasDone, lentTo, Premises}
+use Rattle.history.specs.Contents.{halfWords, tenant, scratchWords}
+use Rattle.history.specs.Seen.{view, Stands}
+
+-- ---- the start
+
+-- "It starts with two pools that have mark 0 at every place, whatever their other words, and with no session"
+abbrev pub Empty : (size : Party → ℕ) (start : Party → List ℕ) → Type 0
+Empty size start = (w : Party) (i : ℕ) → isSlot (slotOf size start w i) ≡ true → statusOf (slotWords (slotOf size start w i)) ≡ EMPTY
+
+-- ---- places and halves
+
+-- no dealing was accepted at the place
+abbrev pub Never : (index : ℕ) → List Entry → Type 0
+Never i [] = Unit
+Never i (dealt d ∷ l) = (d .index ≢ i) × Never i l
+Never i (did e ∷ l) = Never i l
+
+-- the session whose first step was accepted on a party's half at the place, in this part of the log
+abbrev pub serverAfter : {P : Type 0} → Dec P → Step → ℕ → Option ℕ → Option ℕ
+serverAfter (yes _) (begins t k) n o = some n
+serverAfter (yes _) (goes-on k) n o = o
+serverAfter (no _) k n o = o
+
+abbrev pub server : List Entry → Party → (index : ℕ) → Option ℕ
+server [] w i = none
+server (dealt d ∷ l) w i = server l w i
+server (did e ∷ l) w i = serverAfter (here (e .party) (e .index) w i) (e .step) (e .name) (server l w i)
+
+-- ---- sessions
+
+-- the session as its last accepted step left it
+abbrev pub current : List Entry → (name : ℕ) → Session
+current [] n = absent
+current (dealt d ∷ l) n = current l n
+current (did e ∷ l) n = choose (ℕ-discrete (e .name) n) (e .effect .session) (current l n)
+
+-- "A session ends by its last step, by a drop or by refusal 10 for W + V"; the solver's last step covers the refusal too. "Left's one step is both"
+abbrev pub EndsFirst : First → Type 0
+EndsFirst (right-first y room) = ⊥
+EndsFirst (left-only x words a room shareRoom) = Unit
+EndsFirst (solver-first l x room) = ⊥
+EndsFirst (blinder-first mm y words a room) = ⊥
+
+abbrev pub EndsLater : Later → Type 0
+EndsLater (right-last a room) = Unit
+EndsLater (solver-second a room) = ⊥
+EndsLater (solver-last a room) = Unit
+EndsLater (blinder-second a room) = ⊥
+EndsLater (blinder-last a room) = Unit
+EndsLater right-drop = Unit
+EndsLater solver-drop = Unit
+EndsLater blinder-drop = Unit
+
+abbrev pub Ends : Step → Type 0
+Ends (begins t k) = EndsFirst k
+Ends (goes-on k) = EndsLater k
+
+-- the entry is that of the call c, which the definitions accept on the state st, with this effect
+abbrev pub EntryOf : (size : Party → ℕ) → Entry → Call → State → Type 0
+EntryOf size (dealt d) c st =
+    (c ≡ dealing (d .holder) (d .size) (d .index) (d .request))
+    × (d .on ≡ st)
+    × (x : Dealt)
+    × (deal (st .pools (d .holder)) (st .pools (opposite (d .holder))) (d .size) (d .index) (d .request) ≡ done x)
+EntryOf size (did e) c st =
+    (c ≡ stepping (e .party) (e .index) (e .scratch) (e .name) (e .step))
+    × (e .on ≡ st)
+    × (runStep (e .step) (st .sessions (e .name)) (slotOf size (st .pools) (e .party) (e .index)) (st .scratches (e .scratch)) ≡ done (e .effect))
+
+-- ---- steps
+
+-- a first step finds a half that serves no session, and a later step or a drop one that serves its own
+abbrev pub ServedBy : Did → Step → Option ℕ → Type 0
+ServedBy e (begins t k) o = o ≡ none
+ServedBy e (goes-on k) o = o ≡ some (e .name)
+
+pub record OnHalf (l : List Entry) (e : Did) : Type 0 where
+  pub dealing : Dealing
+  pub server : Option ℕ
+  pub stands : place l (e .party) (e .index) ≡ holds dealing server
+  pub role-is : halfRole (e .party) dealing ≡ roleOf (e .step)
+  pub served-by : ServedBy e (e .step) server
+
+abbrev pub AllOnHalves : List Entry → Type 0
+AllOnHalves [] = Unit
+AllOnHalves (dealt d ∷ l) = AllOnHalves l
+AllOnHalves (did e ∷ l) = OnHalf l e × AllOnHalves l
+
+-- how often session n had a step or a drop accepted while the message kind d was due; a first step counts under 0. Each kind of later step asks for
+-- one d, and a drop takes the place of the step that is due
+abbrev pub times : (name due : ℕ) → List Entry → ℕ
+times n d [] = 0
+times n d (dealt x ∷ l) = times n d l
+times n d (did e ∷ l) = choose (both? (ℕ-discrete (e .name) n) (ℕ-discrete (dueIn (e .on .sessions (e .name))) d)) (suc (times n d l)) (times n d l)
+
+-- ---- demand 3
+
+-- o: what stands after the list cs, on slots of `size` words, from the pools `start` and the scratches `lent`
+pub record Demand3 (size : Party → ℕ) (start : Party → List ℕ) (lent : ℕ → List ℕ) (cs : List Call) (o : World) : Type 0 where
+  -- 1. "After the list, a place where no dealing was accepted has its starting words ..
+  pub never : (w : Party) (i : ℕ) → isSlot (slotOf size start w i) ≡ true → Never i (o .log)
+      → slotWords (slotOf size (o .state .pools) w i) ≡ slotWords (slotOf size start w i)
+  -- .. as has what follows a pool's last whole stretch."
+  pub tails : (w : Party) → drop (length (start w) / size w * size w) (o .state .pools w) ≡ drop (length (start w) / size w * size w) (start w)
+  -- 2. "Elsewhere the last accepted dealing there counts. Until a first step is accepted on a half, its tape is what the rules above give from all that
+  -- the dealing was handed, with mark 1. From that step on it is the same with mark 2, and from its session's end on it has mark 3, zeros in all matrices
+  -- and its other words as dealt. Left's one step is both." And: "Words of the stretch past the tape are those from before the dealing." (`halfWords`)
+  pub last : (w : Party) (newer older : List Entry) (d : Dealing) → o .log ≡ newer ++ dealt d ∷ older → Never (d .index) newer
+      → isSlot (slotOf size start w (d .index)) ≡ true
+      → slotWords (slotOf size (o .state .pools) w (d .index))
+      ≡ halfWords (o .state .sessions) w d (server newer w (d .index)) (slotWords (slotOf size (d .on .pools) w (d .index)))
+  -- "A session ends by its last step, by a drop or by refusal 10 for W + V.": it is closed (0 is due) exactly from such a step on
+  pub sessions : (n : ℕ) → o .state .sessions n ≡ current (o .log) n
+  pub ends : (e : Did) → WasDone e (o .log) → (dueIn (e .effect .session) ≡ 0) ↔ Ends (e .step)
+  -- an entry of the log is a call of the list, accepted on what the calls before it left; every other call changed nothing
+  pub made-by : (newer older : List Entry) (x : Entry) → o .log ≡ newer ++ x ∷ older
+      → (later : List Call) × (c : Call) × (earlier : List Call) × (cs ≡ later ++ c ∷ earlier) × (run size start lent earlier .log ≡ older)
+      × EntryOf size x c (run size start lent earlier .state)
+  -- 3. "In the stretch lent to a blinder's session, P and then U0 stand while it is open, and zeros in their place from its end until another session
+  -- writes there; its other words are as lent."
+  pub scratches : (b : ℕ) → o .state .scratches b ≡ scratchWords lent (o .state .sessions) b (tenant (o .log) b)
+  pub open-tenant : (n : ℕ) → 0 < dueIn (o .state .sessions n) → roleIn (o .state .sessions n) ≡ blinder
+      → (e : Did) × (tenant (o .log) (lentTo (o .log) n) ≡ some e) × (e .name ≡ n)
+  -- 4. "A half serves the session whose first step was accepted on it, and no other session's step or drop is accepted on that half."
+  pub on-halves : AllOnHalves (o .log)
+  -- so each half served one session at most: a half is named by its tape's number and its role
+  pub one-session : (n n′ : ℕ) → isBegun (o .state .sessions n) ≡ true → isBegun (o .state .sessions n′) ≡ true
+      → view (o .log) n .terms .tape .0 ≡ view (o .log) n′ .terms .tape .0 → view (o .log) n .role ≡ view (o .log) n′ .role → n ≡ n′
+  -- and each step of a session was accepted once at most
+  pub once : (n d : ℕ) → times n d (o .log) ≤ 1
+  -- 5. the counts, for the view of every session of the list, and for that with another message sent, which the other end accepted:
+  -- "Views and sessions are those of the list; a session there is what one accepted first step begins, and two of them may bear the same number."
+  pub secret : (n : ℕ) → isBegun (o .state .sessions n) ≡ true → (v : View) → Stands (o .log) (view (o .log) n) v → Secret v
+
+-- "Demand 3 is a single claim about a whole list, and not one for each call. In the list stand dealings, all steps of the four ends and drops, accepted or
+-- refused as the refusal list has it, in any order, with any inputs, raw words and messages."
+abbrev pub DEMAND-3 : Type 0
+DEMAND-3 = (size : Party → ℕ) (start : Party → List ℕ) (lent : ℕ → List ℕ) → Empty size start → (cs : List Call) → Premises size (run size start lent cs .log)
+    → Demand3 size start lent cs (run size start lent cs)
