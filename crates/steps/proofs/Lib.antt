@@ -1,0 +1,2 @@
+-- Fits  what is known where these tests passed
+pub mod Fits

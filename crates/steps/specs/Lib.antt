@@ -1,0 +1,2 @@
+-- Groups  the tests of every step that takes a message
+pub mod Groups

@@ -1,0 +1,109 @@
+// What every step that takes a message checks before and beside its own inputs.
+//   check_numbers  the numbers of the session, its slot and its message: refusals 1 to 4
+//   check_words    the words of its half and of the message: refusals 6 to 8
+//   check_closed   where the session is closed
+//   no_head        the head where nothing is sent
+use checks::Check;
+use checks::all_below;
+use protocol::Head;
+use protocol::Refusal;
+use protocol::SessionId;
+use protocol::TapeId;
+use protocol::Terms;
+use session::End;
+use session::lowest::need;
+use session::lowest::worst;
+use session::numbers::check_head;
+use session::numbers::check_kind;
+use session::numbers::check_modulus;
+use session::numbers::check_same;
+use session::numbers::check_sizes;
+use session::tape::check_body;
+use session::tape::check_tape;
+ghost use mathlib.Core.Path.{_≡_};
+ghost use mathlib.Core.Bool.{true};
+ghost use Prim.Native.Nat.{_/_, _≤_};
+ghost use lib.Dec.{ltb};
+ghost use lib.ListN.{length};
+ghost use Rattle.protocol.specs.Bounds.{sidesFit};
+ghost use Rattle.protocol.specs.Tape.{tapeSize};
+ghost use Rattle.protocol.specs.Message.{noMessage};
+ghost use Rattle.checks.specs.InOrder.{checked, judged};
+ghost use Rattle.session.specs.Ends.{role, sort};
+ghost use Rattle.steps.specs.Groups.{receivedNumbers, receivedWords, closedTests};
+
+// Of the message's residues and of the pool's words it is told how many there are.
+pub fn check_numbers(
+    end: End,
+    t: Terms,
+    a: Head,
+    count: usize,
+    pool: usize,
+    size: usize,
+    index: usize,
+) -> Check
+    ensures { λ r. ⌜ checked r ≡ judged (receivedNumbers (role end) t a count pool size index) ⌝ }
+{
+    let kind = check_kind(a);
+    let modulus = check_modulus(end, t.q);
+    let head = check_head(a, count);
+    let sizes = check_sizes(end, t, pool, size, index);
+    worst(kind, worst(modulus, worst(head, sizes)))
+}
+
+// The tape's status and numbers, the message's numbers, and the residues of both.
+pub fn check_words(
+    end: End,
+    status: u32,
+    t: Terms,
+    a: Head,
+    slot: &[u32],
+    residues: &[u32],
+) -> Check
+    requires { ⌜ (sidesFit (sort end) (t .m) (t .k) (t .p) ≡ true) × (tapeSize (role end) (t .m) (t .k) (t .p) ≤ length (now slot)) ⌝ }
+    ensures { λ r. ⌜ checked r ≡ judged (receivedWords (role end) status t a (now (slot .entry)) (now (residues .entry))) ⌝ }
+{
+    let b = a.terms;
+    let tape = check_tape(end, status, t, slot);
+    let same = check_same(a, t);
+    let sent = need(Refusal::Residue, all_below(b.q, residues));
+    let body = check_body(end, t, slot);
+    worst(tape, worst(same, worst(sent, body)))
+}
+
+// The slot lies in the pool. No slot has the size 0.
+fn is_slot(pool: usize, size: usize, index: usize) -> bool
+    ensures { λ r. ⌜ r ≡ ltb index (pool / size) ⌝ }
+{
+    if size == 0 {
+        return false;
+    }
+    index < pool / size
+}
+
+// A closed session: its own numbers aren't judged, and no step is due.
+pub fn check_closed(a: Head, count: usize, pool: usize, size: usize, index: usize) -> Check
+    ensures { λ r. ⌜ checked r ≡ judged (closedTests a count pool size index) ⌝ }
+{
+    let kind = check_kind(a);
+    let head = check_head(a, count);
+    let slot = need(Refusal::Size, is_slot(pool, size, index));
+    let turn = need(Refusal::Turn, false);
+    worst(kind, worst(head, worst(slot, turn)))
+}
+
+pub fn no_head() -> Head
+    ensures { λ r. ⌜ r ≡ noMessage .head ⌝ }
+{
+    Head {
+        kind: 0,
+        terms: Terms {
+            session: SessionId(0),
+            tape: TapeId(0),
+            q: 0,
+            m: 0,
+            k: 0,
+            p: 0,
+        },
+    }
+}
