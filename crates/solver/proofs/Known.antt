@@ -1,0 +1,108 @@
+-- What is known where tests passed.
+--   Few, few                   the sides of a system in numbers
+--   FirstKnown, first-known    step 1: the numbers fit
+--   first-shape                what step 1's writer asks
+-- Assumes nothing.
+use mathlib.Core.Path.{_≡_, refl, sym, ap, _∙_}
+use mathlib.Core.Bool.{true}
+use mathlib.Core.List.{List}
+use Prim.Native.Nat.{ℕ, _+_, _-_, _*_, _≤_, _<_}
+use native.Mathlib.Nat.{mul-le-mul}
+use native.Mathlib.Omega.{arith}
+use borrow.Author.Tests.{leb-true, eqb-true}
+use Rattle.algebra.specs.Prime.{isPrime}
+use Rattle.algebra.specs.Matrix.{Residues}
+use Rattle.protocol.specs.declared.Terms.{Terms}
+use Rattle.protocol.specs.Judge.{done}
+use Rattle.protocol.specs.Bounds.{sidesFit, fieldFits, system, columns, allBelow}
+use Rattle.protocol.specs.Tape.{solver, bodySize, tapeSize, tapeTests, bodyTests}
+use Rattle.protocol.specs.System.{sideSize, keptTests}
+use Rattle.protocol.proofs.Judge.{passed}
+use Rattle.checks.specs.InOrder.{judged}
+use Rattle.checks.proofs.Sides.{Modulus, modulus}
+use Rattle.checks.proofs.Place.{slot-inside}
+use Rattle.session.specs.Groups.{modulusTests, numberTests, placeTests}
+use Rattle.session.proofs.Shape.{unknowns}
+use Rattle.solver.specs.Groups.{firstNumbers, firstWords}
+use Rattle.solver.specs.Shape.{FirstShape}
+
+-- ---- the sides
+
+pub record Few (t : Terms) : Type 0 where
+  pub some : 0 < t .m
+  pub few : t .m ≤ 16
+  pub wide : t .p ≡ t .m + 1
+  pub mm : t .m * t .m ≤ 256
+  pub mp : t .m * t .p ≤ 272
+  pub mk-is : t .m * t .k ≡ t .m * t .m
+  pub kp-is : t .k * t .p ≡ t .m * t .p
+  pub columns-is : columns (t .m) (t .p) ≡ 1
+  pub side-is : sideSize t ≡ t .m
+  pub whole : t .m + columns (t .m) (t .p) ≡ t .p
+
+pub few : (t : Terms) → sidesFit system (t .m) (t .k) (t .p) ≡ true → Few t
+unfolding columns sideSize
+few t e =
+    let u = unknowns (t .m) (t .k) (t .p) e in
+    let one : t .p - t .m ≡ 1 = omega (arith, u .wide) in
+    let p17 : t .p ≤ 17 = omega (arith, u .wide, u .few) in
+    record {
+      some = u .some;
+      few = u .few;
+      wide = u .wide;
+      mm = mul-le-mul {n₁ = t .m} {m₁ = t .m} {n₂ = 16} {m₂ = 16} (u .few) (u .few);
+      mp = mul-le-mul {n₁ = t .m} {m₁ = t .p} {n₂ = 16} {m₂ = 17} (u .few) p17;
+      mk-is = ap (λ (x : ℕ). t .m * x) (u .square);
+      kp-is = ap (λ (x : ℕ). x * t .p) (u .square);
+      columns-is = one;
+      side-is = ap (λ (x : ℕ). t .m * x) one ∙ omega arith;
+      whole = omega (arith, u .wide);
+    }
+
+pub solver-size : (m k p : ℕ) → 7 + k * p + m * p + m * k + m * k ≡ tapeSize solver m k p
+unfolding tapeSize bodySize
+solver-size m k p = omega arith
+
+-- ---- step 1
+
+pub record FirstKnown (t : Terms) (pool size index l x room : ℕ) : Type 0 where
+  pub q : Modulus (t .q)
+  pub prime : isPrime (t .q) ≡ true
+  pub sides : sidesFit system (t .m) (t .k) (t .p) ≡ true
+  pub inside : index * size + size ≤ pool
+  pub half : tapeSize solver (t .m) (t .k) (t .p) ≤ size
+  pub l-size : l ≡ t .m * t .m
+  pub x-size : x ≡ sideSize t
+  pub sent : t .k * t .p ≤ room
+
+pub first-known : (t : Terms) (pool size index l x room : ℕ) → judged (firstNumbers t pool size index l x room) ≡ done tt
+    → FirstKnown t pool size index l x room
+unfolding firstNumbers modulusTests numberTests placeTests fieldFits
+first-known t pool size index l x room e =
+    let a = passed (firstNumbers t pool size index l x room) e .0 in
+    let b = a .1 .1 .1 in
+    record {
+      q = modulus (t .q) (a .0);
+      prime = a .1 .0;
+      sides = b .0;
+      inside = slot-inside pool size index (b .1 .1 .0);
+      half = leb-true _ _ (b .1 .1 .1 .0);
+      l-size = eqb-true _ _ (b .1 .1 .1 .1 .0);
+      x-size = eqb-true _ _ (b .1 .1 .1 .1 .1 .0);
+      sent = leb-true _ _ (b .1 .1 .1 .1 .1 .1 .0);
+    }
+
+pub first-shape : (t : Terms) (pool size index l x room slot : ℕ) → FirstKnown t pool size index l x room → slot ≡ size → FirstShape t l x slot room
+first-shape t pool size index l x room slot k e = record {
+  some-q = k .q .some;
+  sides = k .sides;
+  l-size = k .l-size;
+  x-size = k .x-size;
+  half = omega (arith, k .half, e);
+  room = k .sent;
+}
+
+-- L holds residues
+pub first-below : (t : Terms) (l x slot : List ℕ) → judged (firstWords t l x slot) ≡ done tt → allBelow (t .q) l ≡ true
+unfolding firstWords tapeTests bodyTests keptTests
+first-below t l x slot e = passed (firstWords t l x slot) e .0 .1 .1 .1 .1 .1 .1 .1 .1 .0

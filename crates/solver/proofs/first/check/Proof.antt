@@ -1,0 +1,96 @@
+use mathlib.Core.Path.{_≡_, refl, sym, ap, _∙_}
+use mathlib.Core.List.{List, _++_}
+use Prim.Native.Nat.{ℕ, _+_, _*_, _-_, _/_, _%_, _≤_, _<_}
+use native.Mathlib.Omega.{arith}
+use lib.ListN.{length, getD, set, take, drop}
+use borrow.Author.Needs.{needs}
+use Rattle.session.proofs.Join.{also, hands-on, goes-past}
+use mathlib.Core.List.{[], _∷_}
+use Rattle.solver.specs.Groups.{firstNumbers, firstWords}
+use Rattle.protocol.specs.System.{keptTests, regularTests}
+use Rattle.session.proofs.Slot.{slot-part, slot-part-length, slot-written, half-body, in-use-length, spent-keeps}
+use Rattle.protocol.specs.Tape.{slotAt, solver, wordsInUse, wordsSpent}
+use Rattle.solver.proofs.Known.{few, solver-size, FirstKnown, first-known, first-shape, first-below}
+use Rattle.solver.proofs.Order.{first-phases}
+use Rattle.checks.specs.InOrder.{checked, after}
+use Rattle.protocol.proofs.Residues.{below-residues}
+use Rattle.solver.proofs.first.check.Statement.{statement}
+use Rattle.solver.proofs.first.check.Tie as tie
+
+check-numbers-requires : tie.Need-check-numbers-requires
+check-numbers-requires c κs = search needs
+
+enum-told : tie.Need-enum-told
+enum-told c = search needs
+
+enum-told-2 : tie.Need-enum-told-2
+enum-told-2 c = search needs
+
+returns : tie.Need-returns
+returns c = hands-on (c .before .before .check-numbers .result) _ (c .before .before .check-numbers .ensures) (c .enum-told2 .given .1) ∙ sym (first-phases (c .before .before .before .before .before .before .args .t) (slotAt (c .before .before .before .before .before .before .args .pool .now) (c .before .before .before .before .before .before .args .size) (c .before .before .before .before .before .before .args .index)) (c .before .before .before .before .before .before .args .l .now) (c .before .before .before .before .before .before .args .x .now) (c .before .before .before .before .before .before .args .room))
+
+mul-at : tie.Need-mul-at
+mul-at c = let k = first-known (c .before .before .before .before .before .before .args .t) _ _ _ _ _ _ (sym (c .before .before .check-numbers .ensures) ∙ ap checked (c .enum-told .given .1)) in search needs
+
+add-end : tie.Need-add-end
+add-end c = let k = first-known (c .before .before .before .before .before .before .args .t) _ _ _ _ _ _ (sym (c .before .before .check-numbers .ensures) ∙ ap checked (c .enum-told .given .1)) in search needs
+
+mul-check-words : tie.Need-mul-check-words
+mul-check-words c = let k = first-known (c .before .before .before .before .before .before .args .t) _ _ _ _ _ _ (sym (c .before .before .check-numbers .ensures) ∙ ap checked (c .enum-told .given .1)) in search needs
+
+sub-check-words : tie.Need-sub-check-words
+sub-check-words c = search needs
+
+part-check-words-start : tie.Need-part-check-words-start
+part-check-words-start c = search needs
+
+part-check-words-end : tie.Need-part-check-words-end
+part-check-words-end c = let k = first-known (c .before .before .before .before .before .before .args .t) _ _ _ _ _ _ (sym (c .before .before .check-numbers .ensures) ∙ ap checked (c .enum-told .given .1)) in search needs
+
+check-words-requires : tie.Need-check-words-requires
+check-words-requires c κs = let k = first-known (c .before .before .before .before .before .before .before .args .t) _ _ _ _ _ _ (sym (c .before .before .before .check-numbers .ensures) ∙ ap checked (c .before .enum-told .given .1)) in (k .sides, omega (arith, k .half, slot-part-length (c .before .before .before .before .before .before .before .args .pool .now) (c .before .before .before .before .before .before .before .args .size) (c .before .before .before .before .before .before .before .args .index) (k .inside)))
+
+enum-told-3 : tie.Need-enum-told-3
+enum-told-3 c = search needs
+
+enum-told-4 : tie.Need-enum-told-4
+enum-told-4 c = search needs
+
+returns-2 : tie.Need-returns-2
+returns-2 c = hands-on (c .before .before .check-words .result) _ ((rw (slot-part (c .before .before .before .before .before .before .before .before .before .before .args .pool .now) (c .before .before .before .before .before .before .before .before .before .before .args .size) (c .before .before .before .before .before .before .before .before .before .before .args .index)) at (c .before .before .check-words .ensures))) (c .enum-told4 .given .1) ∙ sym (first-phases (c .before .before .before .before .before .before .before .before .before .before .args .t) (slotAt (c .before .before .before .before .before .before .before .before .before .before .args .pool .now) (c .before .before .before .before .before .before .before .before .before .before .args .size) (c .before .before .before .before .before .before .before .before .before .before .args .index)) (c .before .before .before .before .before .before .before .before .before .before .args .l .now) (c .before .before .before .before .before .before .before .before .before .before .args .x .now) (c .before .before .before .before .before .before .before .before .before .before .args .room) ∙ goes-past (c .before .before .before .before .before .before .check-numbers .result) (c .before .before .before .before .before .before .check-numbers .ensures) (c .before .before .before .before .enum-told .given .1))
+
+cast-has-inverse : tie.Need-cast-has-inverse
+cast-has-inverse c = search needs
+
+has-inverse-requires : tie.Need-has-inverse-requires
+has-inverse-requires c κs = let k = first-known (c .before .before .before .before .before .before .before .before .before .before .before .args .t) _ _ _ _ _ _ (sym (c .before .before .before .before .before .before .before .check-numbers .ensures) ∙ ap checked (c .before .before .before .before .before .enum-told .given .1)) in (k .prime, k .q .small, few (c .before .before .before .before .before .before .before .before .before .before .before .args .t) (k .sides) .few, below-residues (k .l-size) (first-below (c .before .before .before .before .before .before .before .before .before .before .before .args .t) (c .before .before .before .before .before .before .before .before .before .before .before .args .l .now) (c .before .before .before .before .before .before .before .before .before .before .before .args .x .now) _ (sym (c .before .before .before .check-words .ensures) ∙ ap checked (c .before .enum-told3 .given .1))))
+
+need-requires : tie.Need-need-requires
+need-requires c κs = search needs
+
+returns-3 : tie.Need-returns-3
+unfolding regularTests
+returns-3 c = (rw (c .before .has-inverse .ensures) at (c .need .ensures)) ∙ sym (first-phases (c .before .before .before .before .before .before .before .before .before .before .before .before .before .args .t) (slotAt (c .before .before .before .before .before .before .before .before .before .before .before .before .before .args .pool .now) (c .before .before .before .before .before .before .before .before .before .before .before .before .before .args .size) (c .before .before .before .before .before .before .before .before .before .before .before .before .before .args .index)) (c .before .before .before .before .before .before .before .before .before .before .before .before .before .args .l .now) (c .before .before .before .before .before .before .before .before .before .before .before .before .before .args .x .now) (c .before .before .before .before .before .before .before .before .before .before .before .before .before .args .room) ∙ goes-past (c .before .before .before .before .before .before .before .before .before .check-numbers .result) (c .before .before .before .before .before .before .before .before .before .check-numbers .ensures) (c .before .before .before .before .before .before .before .enum-told .given .1) ∙ goes-past (c .before .before .before .before .before .check-words .result) ((rw (slot-part (c .before .before .before .before .before .before .before .before .before .before .before .before .before .args .pool .now) (c .before .before .before .before .before .before .before .before .before .before .before .before .before .args .size) (c .before .before .before .before .before .before .before .before .before .before .before .before .before .args .index)) at (c .before .before .before .before .before .check-words .ensures))) (c .before .before .before .enum-told3 .given .1))
+
+pub check-spec : {M : Type 1} → statement M
+check-spec =
+    tie.close
+    (tie.spec
+    check-numbers-requires
+    enum-told
+    enum-told-2
+    returns
+    mul-at
+    add-end
+    mul-check-words
+    sub-check-words
+    part-check-words-start
+    part-check-words-end
+    check-words-requires
+    enum-told-3
+    enum-told-4
+    returns-2
+    cast-has-inverse
+    has-inverse-requires
+    need-requires
+    returns-3)

@@ -1,0 +1,96 @@
+use mathlib.Core.Path.{_≡_, refl, sym, ap, _∙_}
+use mathlib.Core.List.{List, _++_}
+use Prim.Native.Nat.{ℕ, _+_, _*_, _-_, _/_, _%_, _≤_, _<_}
+use native.Mathlib.Omega.{arith}
+use lib.ListN.{length, getD, set, take, drop}
+use borrow.Author.Needs.{needs}
+use Rattle.session.proofs.Slot.{slot-part, slot-part-length, slot-written, half-body, in-use-length, spent-keeps}
+use Rattle.protocol.specs.Tape.{slotAt, solver, wordsInUse, wordsSpent}
+use Rattle.solver.proofs.Known.{few, solver-size, FirstKnown, first-known, first-shape, first-below}
+use Rattle.solver.proofs.Order.{first-phases}
+use Rattle.session.proofs.Leaving.{refused-leaves}
+use Rattle.solver.proofs.Leaving.{first-done}
+use Rattle.checks.proofs.InOrder.{after-first}
+use Rattle.protocol.specs.System.{noSolver, solverFirstEffect, solverFirst}
+use Rattle.checks.specs.InOrder.{checked, after}
+use mathlib.Core.List.{[]}
+use Rattle.algebra.specs.Matrix.{zeros, tabulate}
+use Rattle.solver.proofs.first.solver_first.Statement.{statement}
+use Rattle.solver.proofs.first.solver_first.Tie as tie
+
+check-requires : tie.Need-check-requires
+check-requires c κs = search needs
+
+enum-told : tie.Need-enum-told
+enum-told c = search needs
+
+enum-told-2 : tie.Need-enum-told-2
+enum-told-2 c = search needs
+
+no-session-requires : tie.Need-no-session-requires
+no-session-requires c κs = search needs
+
+refused-requires : tie.Need-refused-requires
+refused-requires c κs = search needs
+
+same-length : tie.Need-same-length
+same-length c = search needs
+
+returns : tie.Need-returns
+unfolding solverFirst
+returns c = rw (c .refused .ensures .0, c .refused .ensures .1, c .refused .ensures .2, c .before .no-session .ensures, c .before .before .enum-told2 .given .1) (sym (refused-leaves noSolver (slotAt (c .before .before .before .before .before .before .before .before .before .before .args .pool .now) (c .before .before .before .before .before .before .before .before .before .before .args .size) (c .before .before .before .before .before .before .before .before .before .before .args .index)) [] (c .before .before .before .before .before .before .before .before .before .before .args .out .now) [] _ (solverFirstEffect (c .before .before .before .before .before .before .before .before .before .before .args .t) (slotAt (c .before .before .before .before .before .before .before .before .before .before .args .pool .now) (c .before .before .before .before .before .before .before .before .before .before .args .size) (c .before .before .before .before .before .before .before .before .before .before .args .index)) (c .before .before .before .before .before .before .before .before .before .before .args .l .now) (c .before .before .before .before .before .before .before .before .before .before .args .x .now)) (sym (c .before .before .before .before .check .ensures) ∙ ap checked (c .before .before .enum-told2 .given .1))))
+
+mul-at : tie.Need-mul-at
+mul-at c = let k = first-known (c .before .before .before .before .before .before .before .before .args .t) _ _ _ _ _ _ (after-first _ _ (sym (first-phases (c .before .before .before .before .before .before .before .before .args .t) (slotAt (c .before .before .before .before .before .before .before .before .args .pool .now) (c .before .before .before .before .before .before .before .before .args .size) (c .before .before .before .before .before .before .before .before .args .index)) (c .before .before .before .before .before .before .before .before .args .l .now) (c .before .before .before .before .before .before .before .before .args .x .now) (length (c .before .before .before .before .before .before .before .before .args .out .now))) ∙ (sym (c .before .before .check .ensures) ∙ ap checked (c .enum-told .given .1)))) in let i = k .inside in search needs
+
+add-end : tie.Need-add-end
+add-end c = let k = first-known (c .before .before .before .before .before .before .before .before .args .t) _ _ _ _ _ _ (after-first _ _ (sym (first-phases (c .before .before .before .before .before .before .before .before .args .t) (slotAt (c .before .before .before .before .before .before .before .before .args .pool .now) (c .before .before .before .before .before .before .before .before .args .size) (c .before .before .before .before .before .before .before .before .args .index)) (c .before .before .before .before .before .before .before .before .args .l .now) (c .before .before .before .before .before .before .before .before .args .x .now) (length (c .before .before .before .before .before .before .before .before .args .out .now))) ∙ (sym (c .before .before .check .ensures) ∙ ap checked (c .enum-told .given .1)))) in let i = k .inside in search needs
+
+mul-write : tie.Need-mul-write
+mul-write c = let k = first-known (c .before .before .before .before .before .before .before .before .args .t) _ _ _ _ _ _ (after-first _ _ (sym (first-phases (c .before .before .before .before .before .before .before .before .args .t) (slotAt (c .before .before .before .before .before .before .before .before .args .pool .now) (c .before .before .before .before .before .before .before .before .args .size) (c .before .before .before .before .before .before .before .before .args .index)) (c .before .before .before .before .before .before .before .before .args .l .now) (c .before .before .before .before .before .before .before .before .args .x .now) (length (c .before .before .before .before .before .before .before .before .args .out .now))) ∙ (sym (c .before .before .check .ensures) ∙ ap checked (c .enum-told .given .1)))) in let i = k .inside in search needs
+
+sub-write : tie.Need-sub-write
+sub-write c = search needs
+
+part-write-start : tie.Need-part-write-start
+part-write-start c = search needs
+
+part-write-end : tie.Need-part-write-end
+part-write-end c = let k = first-known (c .before .before .before .before .before .before .before .before .args .t) _ _ _ _ _ _ (after-first _ _ (sym (first-phases (c .before .before .before .before .before .before .before .before .args .t) (slotAt (c .before .before .before .before .before .before .before .before .args .pool .now) (c .before .before .before .before .before .before .before .before .args .size) (c .before .before .before .before .before .before .before .before .args .index)) (c .before .before .before .before .before .before .before .before .args .l .now) (c .before .before .before .before .before .before .before .before .args .x .now) (length (c .before .before .before .before .before .before .before .before .args .out .now))) ∙ (sym (c .before .before .check .ensures) ∙ ap checked (c .enum-told .given .1)))) in let i = k .inside in search needs
+
+write-requires : tie.Need-write-requires
+write-requires c κs = let k = first-known (c .before .before .before .before .before .before .before .before .before .before .args .t) _ _ _ _ _ _ (after-first _ _ (sym (first-phases (c .before .before .before .before .before .before .before .before .before .before .args .t) (slotAt (c .before .before .before .before .before .before .before .before .before .before .args .pool .now) (c .before .before .before .before .before .before .before .before .before .before .args .size) (c .before .before .before .before .before .before .before .before .before .before .args .index)) (c .before .before .before .before .before .before .before .before .before .before .args .l .now) (c .before .before .before .before .before .before .before .before .before .before .args .x .now) (length (c .before .before .before .before .before .before .before .before .before .before .args .out .now))) ∙ (sym (c .before .before .before .before .check .ensures) ∙ ap checked (c .before .before .enum-told .given .1)))) in first-shape (c .before .before .before .before .before .before .before .before .before .before .args .t) _ _ _ _ _ _ _ k (slot-part-length (c .before .before .before .before .before .before .before .before .before .before .args .pool .now) (c .before .before .before .before .before .before .before .before .before .before .args .size) (c .before .before .before .before .before .before .before .before .before .before .args .index) (k .inside))
+
+same-length-2 : tie.Need-same-length-2
+same-length-2 c = search needs
+
+same-length-3 : tie.Need-same-length-3
+same-length-3 c = search needs
+
+returns-2 : tie.Need-returns-2
+unfolding zeros tabulate
+returns-2 c = let k = first-known (c .before .before .before .before .before .before .before .before .before .before .before .before .before .before .before .args .t) _ _ _ _ _ _ (after-first _ _ (sym (first-phases (c .before .before .before .before .before .before .before .before .before .before .before .before .before .before .before .args .t) (slotAt (c .before .before .before .before .before .before .before .before .before .before .before .before .before .before .before .args .pool .now) (c .before .before .before .before .before .before .before .before .before .before .before .before .before .before .before .args .size) (c .before .before .before .before .before .before .before .before .before .before .before .before .before .before .before .args .index)) (c .before .before .before .before .before .before .before .before .before .before .before .before .before .before .before .args .l .now) (c .before .before .before .before .before .before .before .before .before .before .before .before .before .before .before .args .x .now) (length (c .before .before .before .before .before .before .before .before .before .before .before .before .before .before .before .args .out .now))) ∙ (sym (c .before .before .before .before .before .before .before .before .before .check .ensures) ∙ ap checked (c .before .before .before .before .before .before .before .enum-told .given .1)))) in first-done (c .before .before .before .before .before .before .before .before .before .before .before .before .before .before .before .args .t) (slotAt (c .before .before .before .before .before .before .before .before .before .before .before .before .before .before .before .args .pool .now) (c .before .before .before .before .before .before .before .before .before .before .before .before .before .before .before .args .size) (c .before .before .before .before .before .before .before .before .before .before .before .before .before .before .before .args .index)) (c .before .before .before .before .before .before .before .before .before .before .before .before .before .before .before .args .l .now) (c .before .before .before .before .before .before .before .before .before .before .before .before .before .before .before .args .x .now) (c .before .before .before .before .before .before .before .before .before .before .before .before .before .before .before .args .out .now) (sym (c .before .before .before .before .before .before .before .before .before .check .ensures) ∙ ap checked (c .before .before .before .before .before .before .before .enum-told .given .1))
+    (slot-written (c .before .before .before .before .before .before .before .before .before .before .before .before .before .before .before .args .pool .now) _ (c .before .before .before .before .before .before .before .before .before .before .before .before .before .before .before .args .size) (c .before .before .before .before .before .before .before .before .before .before .before .before .before .before .before .args .index) wordsInUse (k .inside) (λ ws e. in-use-length ws (omega (arith, k .half, solver-size (c .before .before .before .before .before .before .before .before .before .before .before .before .before .before .before .args .t .m) (c .before .before .before .before .before .before .before .before .before .before .before .before .before .before .before .args .t .k) (c .before .before .before .before .before .before .before .before .before .before .before .before .before .before .before .args .t .p), e)) ∙ e) (c .before .before .before .before .write .ensures .0))
+    (rw (slot-part (c .before .before .before .before .before .before .before .before .before .before .before .before .before .before .before .args .pool .now) (c .before .before .before .before .before .before .before .before .before .before .before .before .before .before .before .args .size) (c .before .before .before .before .before .before .before .before .before .before .before .before .before .before .before .args .index)) at (c .before .before .before .before .write .ensures .1))
+
+pub solver-first-spec : {M : Type 1} → statement M
+solver-first-spec =
+    tie.close
+    (tie.spec
+    check-requires
+    enum-told
+    enum-told-2
+    no-session-requires
+    refused-requires
+    same-length
+    returns
+    mul-at
+    add-end
+    mul-write
+    sub-write
+    part-write-start
+    part-write-end
+    write-requires
+    same-length-2
+    same-length-3
+    returns-2)

@@ -1,0 +1,24 @@
+use mathlib.Core.Path.{_≡_, refl, sym, ap, _∙_}
+use mathlib.Core.List.{List, _++_}
+use Prim.Native.Nat.{ℕ, _+_, _*_, _-_, _/_, _%_, _≤_, _<_}
+use native.Mathlib.Omega.{arith}
+use lib.ListN.{length, getD, set, take, drop}
+use borrow.Author.Needs.{needs}
+use Rattle.protocol.specs.System.{sideSize}
+use Rattle.protocol.specs.Bounds.{columns}
+use Rattle.solver.proofs.side_size.Statement.{statement}
+use Rattle.solver.proofs.side_size.Tie as tie
+
+returns : tie.Need-returns
+unfolding sideSize columns
+returns c = let z : c .before .before .args .t .p - c .before .before .args .t .m ≡ 0 = omega arith in rw z (omega arith)
+
+times-requires : tie.Need-times-requires
+times-requires c κs = search needs
+
+returns-2 : tie.Need-returns-2
+unfolding sideSize columns
+returns-2 c = c .times .ensures
+
+pub side-size-spec : {M : Type 1} → statement M
+side-size-spec = tie.close (tie.spec returns times-requires returns-2)
