@@ -13,6 +13,7 @@
 -- Views             the same for every session of the list
 -- Stands            so every view that stands for a session is secret
 -- Demand            demand 3
+-- Example           a list in which every kind of call is accepted and refused
 pub mod Words
 pub mod Steps
 pub mod Facts
@@ -28,3 +29,4 @@ pub mod KnownOn
 pub mod Views
 pub mod Stands
 pub mod Demand
+pub mod Example

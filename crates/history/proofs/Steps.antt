@@ -4,7 +4,7 @@
 --   Continues, continues-sound   later steps and drops
 --   blinder-begins            a blinder's first step
 -- Assumes nothing.
-use mathlib.Core.Path.{_≡_, refl, ap, _∙_, subst}
+use mathlib.Core.Path.{_≡_, refl, sym, ap, _∙_, subst}
 use mathlib.Core.Logic.{_⊎_, inl, inr}
 use mathlib.Core.Bool.{true}
 use mathlib.Core.List.{List, []}
@@ -17,12 +17,13 @@ use Rattle.protocol.specs.Judge.{refused, done}
 use Rattle.protocol.specs.Tape.{Slot, slotWords, Role, left, right, blinder, solver, READY, wordsInUse, wordsSpent}
 use Rattle.protocol.specs.Message.{Message}
 use Rattle.protocol.specs.Step.{Effect, Outcome}
-use Rattle.protocol.specs.Product.{rightFirstEffect, leftEffect, rightLastEffect}
-use Rattle.protocol.specs.System.{scratchSize, coinsOf, solverFirstEffect, blinderFirstEffect, solverSecondEffect, blinderSecondEffect, solverLastEffect, blinderLastEffect}
+use Rattle.protocol.specs.Product.{closedRight, rightFirstEffect, leftEffect}
+use Rattle.protocol.specs.System.{closedSolver, closedBlinder, scratchSize, coinsOf, solverFirstEffect, blinderFirstEffect, solverSecondEffect, blinderSecondEffect}
 use Rattle.protocol.proofs.Judge.{refused≢done}
 use Rattle.protocol.proofs.Residues.{residues-drawn}
 use Rattle.protocol.proofs.Tests.{HalfFits, OpenFits, draw-tests}
 use Rattle.protocol.proofs.StepTests as tests
+use Rattle.protocol.proofs.Endings.{Ended, left-ends, right-ends, solver-ends, blinder-ends}
 use Rattle.history.specs.Ends.{Session, absent, leftEnd, rightEnd, solverEnd, blinderEnd, isBegun, dueIn, termsIn, roleIn, asRight, asSolver, asBlinder, First, right-first, left-only, solver-first, blinder-first, Later, right-last, solver-second, solver-last, blinder-second, blinder-last, right-drop, solver-drop, blinder-drop, roleFirst, roleLater, asAny, ofAny, runFirst, runLater}
 
 -- an accepted outcome, as that of the end's own step
@@ -63,7 +64,7 @@ begins-sound t (left-only x words m room shareRoom) s u e h =
     let a = of-any (λ (z : Unit). leftEnd t) _ h in
     let o = tests.left-step t s x words m room shareRoom .means (a .1) in
     subst (λ z. Begins t (left-only x words m room shareRoom) s z) (ap (asAny (λ (z : Unit). leftEnd t)) (o .1) ∙ a .2)
-    (record { is-begun = refl; role-is = refl; terms-are = refl; half = o .0 .first .half; wrote = refl; laid = refl })
+    (record { is-begun = refl; role-is = refl; terms-are = refl; half = o .0 .first .half; wrote = left-ends t s x words m .slot-is; laid = left-ends t s x words m .scratch-is })
 begins-sound t (solver-first l x room) s u e h =
     let a = of-any solverEnd _ h in
     let o = tests.solver-first t s l x room .means (a .1) in
@@ -127,14 +128,32 @@ is-blinder (blinderEnd x) h = refl
 carried : (k : Later) {x x′ : Session} (s : Slot) {e e′ : Effect Session} → x′ ≡ x → e′ ≡ e → Continues k x′ s e′ → Continues k x s e
 carried k {x} {x′} s {e} {e′} p q c = subst (λ (z : Effect Session). Continues k x s z) q (subst (λ (z : Session). Continues k z s e′) p c)
 
+-- what ends a session
+ended-continues : {S : Type 0} (g : S → Session) (k : Later) (x closed : S) (s : Slot) (e : Effect S) → OpenFits (roleLater k) (dueIn (g x)) (termsIn (g x)) s
+    → isBegun (g x) ≡ true → roleIn (g x) ≡ roleLater k → isBegun (g closed) ≡ true → roleIn (g closed) ≡ roleIn (g x) → termsIn (g closed) ≡ termsIn (g x) → dueIn (g closed) ≡ 0
+    → Ended closed (wordsSpent (roleIn (g x)) (termsIn (g x)) (slotWords s)) (wipeScratch 0 (roleIn (g x)) (termsIn (g x))) e → Continues k (g x) s (asAny g e)
+ended-continues {S} g k x closed s e f b r b′ r′ t d n =
+    let due : dueIn (g (e .session)) ≡ 0 = ap (λ (z : S). dueIn (g z)) (n .session-is) ∙ d in
+    record {
+      was-begun = b;
+      role-was = r;
+      session-open = f;
+      is-begun = ap (λ (z : S). isBegun (g z)) (n .session-is) ∙ b′;
+      role-is = ap (λ (z : S). roleIn (g z)) (n .session-is) ∙ r′;
+      terms-are = ap (λ (z : S). termsIn (g z)) (n .session-is) ∙ t;
+      moved = inl due;
+      wrote = n .slot-is ∙ ap (λ (d : ℕ). leaveLater d (roleIn (g x)) (termsIn (g x)) s) (sym due);
+      cleared = n .scratch-is ∙ ap (λ (d : ℕ). wipeScratch d (roleIn (g x)) (termsIn (g x))) (sym due);
+    }
+
 pub continues-sound : (k : Later) (x : Session) (s : Slot) (u : List ℕ) (e : Effect Session) → runLater k x s u ≡ done e → Continues k x s e
-unfolding runLater rightLastEffect solverSecondEffect solverLastEffect blinderSecondEffect blinderLastEffect
+unfolding runLater solverSecondEffect blinderSecondEffect
 continues-sound (right-last m room) x s u e h =
     let a = of-any rightEnd _ h in
     let o = tests.right-last (asRight x) s m room .means (a .1) in
     let f = o .0 .later .session-open in
     carried (right-last m room) s (is-right x (f .is-open)) (ap (asAny rightEnd) (o .1) ∙ a .2)
-    (record { was-begun = refl; role-was = refl; session-open = f; is-begun = refl; role-is = refl; terms-are = refl; moved = inl refl; wrote = refl; cleared = refl })
+    (ended-continues rightEnd (right-last m room) (asRight x) (closedRight (asRight x)) s _ f refl refl refl refl refl refl (right-ends (asRight x) s m))
 continues-sound (solver-second m room) x s u e h =
     let a = of-any solverEnd _ h in
     let o = tests.solver-second (asSolver x) s m room .means (a .1) in
@@ -146,7 +165,7 @@ continues-sound (solver-last m room) x s u e h =
     let o = tests.solver-last (asSolver x) s m room .means (a .1) in
     let f = o .0 .later .session-open in
     carried (solver-last m room) s (is-solver x (f .is-open)) (ap (asAny solverEnd) (o .1) ∙ a .2)
-    (record { was-begun = refl; role-was = refl; session-open = f; is-begun = refl; role-is = refl; terms-are = refl; moved = inl refl; wrote = refl; cleared = refl })
+    (ended-continues solverEnd (solver-last m room) (asSolver x) (closedSolver (asSolver x)) s _ f refl refl refl refl refl refl (solver-ends (asSolver x) s m))
 continues-sound (blinder-second m room) x s u e h =
     let a = of-any blinderEnd _ h in
     let o = tests.blinder-second (asBlinder x) s u m room .means (a .1) in
@@ -158,23 +177,23 @@ continues-sound (blinder-last m room) x s u e h =
     let o = tests.blinder-last (asBlinder x) s u m room .means (a .1) in
     let f = o .0 .later .session-open in
     carried (blinder-last m room) s (is-blinder x (f .is-open)) (ap (asAny blinderEnd) (o .1) ∙ a .2)
-    (record { was-begun = refl; role-was = refl; session-open = f; is-begun = refl; role-is = refl; terms-are = refl; moved = inl refl; wrote = refl; cleared = refl })
+    (ended-continues blinderEnd (blinder-last m room) (asBlinder x) (closedBlinder (asBlinder x)) s _ f refl refl refl refl refl refl (blinder-ends (asBlinder x) s u m))
 continues-sound right-drop x s u e h =
     let a = of-any rightEnd _ h in
     let o = tests.drop-right (asRight x) s .means (a .1) in
     carried right-drop s (is-right x (o .0 .is-open)) (ap (asAny rightEnd) (o .1) ∙ a .2)
-    (record { was-begun = refl; role-was = refl; session-open = o .0; is-begun = refl; role-is = refl; terms-are = refl; moved = inl refl; wrote = refl; cleared = refl })
+    (ended-continues rightEnd right-drop (asRight x) (closedRight (asRight x)) s _ (o .0) refl refl refl refl refl refl (record { session-is = refl; slot-is = refl; scratch-is = refl }))
 continues-sound solver-drop x s u e h =
     let a = of-any solverEnd _ h in
     let o = tests.drop-solver (asSolver x) s .means (a .1) in
     carried solver-drop s (is-solver x (o .0 .is-open)) (ap (asAny solverEnd) (o .1) ∙ a .2)
-    (record { was-begun = refl; role-was = refl; session-open = o .0; is-begun = refl; role-is = refl; terms-are = refl; moved = inl refl; wrote = refl; cleared = refl })
+    (ended-continues solverEnd solver-drop (asSolver x) (closedSolver (asSolver x)) s _ (o .0) refl refl refl refl refl refl (record { session-is = refl; slot-is = refl; scratch-is = refl }))
 continues-sound blinder-drop x s u e h =
     let a = of-any blinderEnd _ h in
     let o = tests.drop-blinder (asBlinder x) s u .means (a .1) in
     let f = o .0 .session-open in
     carried blinder-drop s (is-blinder x (f .is-open)) (ap (asAny blinderEnd) (o .1) ∙ a .2)
-    (record { was-begun = refl; role-was = refl; session-open = f; is-begun = refl; role-is = refl; terms-are = refl; moved = inl refl; wrote = refl; cleared = refl })
+    (ended-continues blinderEnd blinder-drop (asBlinder x) (closedBlinder (asBlinder x)) s _ f refl refl refl refl refl refl (record { session-is = refl; slot-is = refl; scratch-is = refl }))
 
 -- ---- a blinder's first step
 

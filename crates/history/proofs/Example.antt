@@ -1,0 +1,382 @@
+-- A list of calls in which every kind of call is both accepted and refused, computed: its premises hold, so the claim speaks of such lists. It has 01's system,
+-- the same with a singular sum, 01's product, dropped sessions, places that are dealt again, and one session number for all. Assumes nothing.
+use mathlib.Core.Path.{_≡_, refl, sym, ap, _∙_, subst}
+use mathlib.Core.Logic.{_≢_, _⊎_, inl, inr}
+use mathlib.Core.Bool.{Bool, true, false, cond}
+use mathlib.Core.List.{List, [], _∷_, _++_}
+use mathlib.Core.Option.{Option}
+use Prim.Native.Nat.{ℕ, zero, suc, _≤_, _<_}
+use native.Mathlib.Omega.{arith}
+use native.Mathlib.Decide.{ℕ-discrete}
+use lib.Dec.{eqb, ltb}
+use lib.ListN.{length}
+use borrow.Author.Tests.{ltb-true, eq-eqb}
+use Rattle.algebra.specs.Matrix.{sumTo, tabulate, zeros, addMod, subMod, matAdd, matSub, dotTo, dot, matMul}
+use Rattle.algebra.specs.Count.{both, parts, join, eqList, sumLists, count}
+use Rattle.algebra.specs.Inverse.{idMat, areInverse, hasInverse}
+use Rattle.algebra.specs.Columns.{cols, beside}
+use Rattle.algebra.specs.Prime.{noDivisor, isPrime}
+use Rattle.algebra.specs.Elimination.{inverseBy, inverse, swapAt, swapRows, scaleRow, clearColumn, pivotFrom, pivot, step, eliminateFrom, eliminate, regular, solution}
+use Rattle.algebra.specs.Product.{dealB, sendY, sendX, sendR, rightShare}
+use Rattle.algebra.specs.System.{dealV, solverShare, sendF, sendW, sendC, sumMatrix}
+use Rattle.algebra.specs.Words.{over, writtenAt}
+use Rattle.protocol.specs.declared.Terms.{Terms}
+use Rattle.protocol.specs.Judge.{Judged, refused, done, given, clear, judgeBy, judge}
+use Rattle.protocol.specs.Drawing.{isKept, residueOf, residuesOf, drawn, wordsRead, drawTests}
+use Rattle.protocol.specs.Bounds.{within, columns, allBelow, fieldFits, sidesFit, shapeTests, termsTests, inputTests, roomTests}
+use Rattle.protocol.specs.Tape.{isSlot, slotWords, poolWith, headerWords, bodySize, tapeSize, statusOf, withStatus, spent, body, matrices, wordsInUse, wordsSpent, slotTests, halfTests, tapeTests, bodyTests, Role, sortOf, left, right, blinder, solver}
+use Rattle.protocol.specs.Deal.{Request, Dealt, productRequest, systemRequest, drawSize, drawnParts, dealtB, dealtV, isFree, dealTests, dealtOver, dealtEffect, deal, dealAnswer}
+use Rattle.protocol.specs.Message.{Message, kindSort, messageLayout, messageSize, messageParts, messageTests, dueTests}
+use Rattle.protocol.specs.Step.{Outcome, answerNumber, answerAfter, firstTests, isOpen, openTests, laterTests}
+use Rattle.protocol.specs.Product.{rightFirstEffect, rightFirstTests, rightFirst, leftEffect, leftTests, leftStep, rightLastEffect, rightLastTests, rightLast}
+use Rattle.protocol.specs.System.{padded, sideSize, keptS, keptM, keptY, scratchSize, keptTests, blinderTests, solverTests, coinsOf, scratchParts, regularTests, jointSum, solverFirstEffect, solverFirstTests, solverFirst, blinderFirstEffect, blinderFirstTests, blinderFirst, solverSecondEffect, solverSecondTests, solverSecond, blinderSecondEffect, blinderSecondTests, blinderSecond, solverLastEffect, solverLastTests, solverLast, blinderLastEffect, blinderLastTests, blinderLast}
+use Rattle.protocol.specs.Drop.{dropRight, dropSolver, dropBlinder}
+use Rattle.protocol.specs.View.{View, facing, kindsSent, Finished}
+use Rattle.protocol.specs.Completion.{said, completions, Counted, solutionFor, answerSeen}
+use Rattle.history.specs.Ends.{Session, absent, isBegun, dueIn, roleIn, right-first, left-only, solver-first, blinder-first, right-last, solver-second, solver-last, blinder-second, blinder-last, right-drop, solver-drop, blinder-drop, begins, goes-on, runFirst, runLater, runStep}
+use Rattle.history.specs.Log.{Party, first, second, opposite, Call, dealing, stepping, Dealing, Entry, dealt, did, World, slotOf, advanceDealing, advanceStep, advance, run, halfRole, holds, here, WasDealt, numberOf, Distinct, Premises}
+use Rattle.history.specs.Contents.{half}
+use Rattle.history.specs.Seen.{view, as-answered}
+use Rattle.history.specs.Claim.{Demand3}
+use Rattle.history.proofs.Demand.{demand-3}
+use Rattle.history.proofs.Facts.{set-other, same-dealing}
+
+-- three slots of 13 words, and one word more
+abbrev sizes : Party → ℕ
+sizes w = 13
+
+abbrev blank : List ℕ
+blank = 0 ∷ 9 ∷ 9 ∷ 9 ∷ 9 ∷ 9 ∷ 9 ∷ 9 ∷ 9 ∷ 9 ∷ 9 ∷ 9 ∷ 9 ∷ []
+
+abbrev start : Party → List ℕ
+start w = blank ++ (blank ++ (blank ++ (9 ∷ [])))
+
+abbrev lent : ℕ → List ℕ
+lent b = 9 ∷ 9 ∷ 9 ∷ 9 ∷ []
+
+-- every session bears the number 9
+abbrev product-terms : (tape : ℕ) → Terms
+product-terms i = record { session = record { 0 = 9 }; tape = record { 0 = i }; q = 7; m = 1; k = 2; p = 1 }
+
+abbrev system-terms : (tape : ℕ) → Terms
+system-terms i = record { session = record { 0 = 9 }; tape = record { 0 = i }; q = 5; m = 1; k = 1; p = 2 }
+
+abbrev msg : ℕ → Terms → List ℕ → Message
+msg kind t residues = record { head = record { kind = kind; terms = t }; residues = residues }
+
+-- 01's tapes
+abbrev a-product : (tape : ℕ) → Request
+a-product i = productRequest (record { 0 = i }) 7 1 2 1 (1 ∷ 4 ∷ 6 ∷ 3 ∷ 2 ∷ [])
+
+abbrev a-system : (tape : ℕ) → Request
+a-system i = systemRequest (record { 0 = i }) 5 1 (1 ∷ 4 ∷ 2 ∷ 0 ∷ 3 ∷ 3 ∷ 2 ∷ 1 ∷ [])
+
+-- Each part of the list comes before those that follow it in time, newest first in each.
+-- A system whose sum is singular: its solver is session 0 of the first party, its blinder session 1 of the second, on scratch 3
+abbrev opening : List Call
+opening =
+    stepping first 0 0 0 (begins (system-terms 5) (solver-first (2 ∷ []) (3 ∷ []) 2))
+    ∷ dealing second 13 1 (a-system 5)
+    ∷ dealing second 13 3 (a-system 5)
+    ∷ []
+
+abbrev one : List Call
+one =
+    stepping second 1 3 1 (begins (system-terms 5) (blinder-first (3 ∷ []) (1 ∷ []) [] (msg 1 (system-terms 5) (3 ∷ 1 ∷ [])) 3))
+    ∷ stepping first 1 0 0 (begins (system-terms 5) (solver-first (2 ∷ []) (3 ∷ []) 2))
+    ∷ opening
+
+abbrev singular : List Call
+singular =
+    stepping second 1 3 1 (goes-on blinder-drop)
+    ∷ stepping second 0 3 1 (goes-on blinder-drop)
+    ∷ stepping first 1 0 0 (goes-on solver-drop)
+    ∷ stepping first 1 0 0 (goes-on (solver-last (msg 4 (system-terms 5) (3 ∷ 4 ∷ [])) 1))
+    ∷ stepping second 1 3 1 (goes-on (blinder-second (msg 3 (system-terms 5) (4 ∷ [])) 2))
+    ∷ stepping first 1 0 0 (goes-on (solver-second (msg 2 (system-terms 5) (3 ∷ 0 ∷ 2 ∷ [])) 1))
+    ∷ stepping second 1 3 1 (begins (system-terms 5) (blinder-first (3 ∷ []) (1 ∷ []) (2 ∷ 1 ∷ 2 ∷ []) (msg 1 (system-terms 5) (3 ∷ 1 ∷ [])) 3))
+    ∷ one
+
+-- 01's system at the same place, the halves the other way round: sessions 2 and 3, on the same scratch
+abbrev two : List Call
+two =
+    stepping second 1 0 2 (begins (system-terms 7) (solver-first (2 ∷ []) (3 ∷ []) 2))
+    ∷ dealing first 13 1 (a-system 7)
+    ∷ singular
+
+abbrev regular-run : List Call
+regular-run =
+    stepping first 1 3 3 (goes-on (blinder-last (msg 5 (system-terms 7) (1 ∷ [])) 1))
+    ∷ stepping first 1 3 3 (goes-on (blinder-last (msg 5 (system-terms 7) (1 ∷ [])) 0))
+    ∷ stepping second 1 0 2 (goes-on (solver-last (msg 4 (system-terms 7) (1 ∷ 4 ∷ [])) 1))
+    ∷ stepping second 1 0 2 (goes-on (solver-last (msg 4 (system-terms 5) (1 ∷ 4 ∷ [])) 1))
+    ∷ stepping first 1 3 3 (goes-on (blinder-second (msg 3 (system-terms 7) (4 ∷ [])) 2))
+    ∷ stepping first 1 3 3 (goes-on (blinder-second (msg 5 (system-terms 7) (4 ∷ [])) 2))
+    ∷ stepping second 1 0 2 (goes-on (solver-second (msg 2 (system-terms 7) (3 ∷ 0 ∷ 2 ∷ [])) 1))
+    ∷ stepping second 1 0 2 (goes-on (solver-second (msg 2 (system-terms 7) (5 ∷ 0 ∷ 2 ∷ [])) 1))
+    ∷ stepping first 1 3 3 (begins (system-terms 7) (blinder-first (1 ∷ []) (1 ∷ []) (2 ∷ 1 ∷ 2 ∷ []) (msg 1 (system-terms 7) (3 ∷ 1 ∷ [])) 3))
+    ∷ two
+
+-- 01's product: right is session 4 of the first party, left session 5 of the second
+abbrev with-product : List Call
+with-product =
+    stepping first 0 0 4 (goes-on right-drop)
+    ∷ stepping first 0 0 4 (goes-on (right-last (msg 2 (product-terms 4) (4 ∷ 2 ∷ 3 ∷ [])) 1))
+    ∷ stepping first 0 0 4 (goes-on (right-last (msg 2 (product-terms 4) (4 ∷ 2 ∷ 7 ∷ [])) 1))
+    ∷ stepping second 0 0 5 (begins (product-terms 4) (left-only (3 ∷ 5 ∷ []) (5 ∷ []) (msg 1 (product-terms 4) (3 ∷ 3 ∷ [])) 3 1))
+    ∷ stepping second 0 0 5 (begins (product-terms 4) (left-only (3 ∷ 5 ∷ []) (5 ∷ []) (msg 1 (product-terms 6) (3 ∷ 3 ∷ [])) 3 1))
+    ∷ stepping first 0 0 4 (begins (product-terms 4) (right-first (2 ∷ 6 ∷ []) 2))
+    ∷ stepping first 0 0 4 (begins (product-terms 4) (right-first (2 ∷ []) 2))
+    ∷ dealing second 13 0 (a-product 4)
+    ∷ regular-run
+
+-- a product at the same place, and a system at another, whose sessions 6 and 7 are dropped
+abbrev calls : List Call
+calls =
+    stepping first 2 0 7 (goes-on solver-drop)
+    ∷ stepping first 2 0 7 (begins (system-terms 8) (solver-first (2 ∷ []) (3 ∷ []) 2))
+    ∷ dealing second 13 2 (a-system 8)
+    ∷ stepping second 0 0 6 (goes-on right-drop)
+    ∷ stepping second 0 0 6 (begins (product-terms 6) (right-first (2 ∷ 6 ∷ []) 2))
+    ∷ dealing first 13 0 (a-product 6)
+    ∷ with-product
+
+abbrev end : World
+end = run sizes start lent calls
+
+-- 01's number of each call's answer, 0 where it is accepted; newest first
+abbrev answerTo : World → Call → ℕ
+answerTo o (dealing holder len i r) = answerNumber (dealAnswer (deal (o .state .pools holder) (o .state .pools (opposite holder)) len i r))
+answerTo o (stepping w i b n k) = answerNumber (answerAfter (runStep k (o .state .sessions n) (slotOf sizes (o .state .pools) w i) (o .state .scratches b)))
+
+abbrev answers : List Call → List ℕ
+answers [] = []
+answers (c ∷ cs) = answerTo (run sizes start lent cs) c ∷ answers cs
+
+pub all-answers : answers calls
+    ≡ 0 ∷ 0 ∷ 0 ∷ 0 ∷ 0 ∷ 0
+    ∷ 5 ∷ 0 ∷ 8 ∷ 0 ∷ 7 ∷ 0 ∷ 4 ∷ 0
+    ∷ 0 ∷ 4 ∷ 0 ∷ 7 ∷ 0 ∷ 5 ∷ 0 ∷ 8 ∷ 0
+    ∷ 0 ∷ 0
+    ∷ 0 ∷ 6 ∷ 5 ∷ 10 ∷ 0 ∷ 0 ∷ 0
+    ∷ 9 ∷ 0
+    ∷ 6 ∷ 0 ∷ 4
+    ∷ []
+unfolding sumTo tabulate zeros addMod subMod matAdd matSub dotTo dot matMul both parts join cols beside noDivisor isPrime inverseBy inverse swapAt swapRows scaleRow clearColumn pivotFrom pivot step eliminateFrom eliminate regular solution dealB sendY sendX sendR rightShare dealV solverShare sendF sendW sendC sumMatrix over writtenAt given clear judgeBy judge isKept residueOf residuesOf drawn wordsRead drawTests within columns allBelow fieldFits sidesFit shapeTests termsTests inputTests roomTests isSlot slotWords poolWith headerWords bodySize tapeSize statusOf withStatus spent body matrices wordsInUse wordsSpent slotTests halfTests tapeTests bodyTests drawSize drawnParts dealtB dealtV isFree dealTests dealtOver dealtEffect deal kindSort messageLayout messageSize messageParts messageTests dueTests firstTests isOpen openTests laterTests rightFirstEffect rightFirstTests rightFirst leftEffect leftTests leftStep rightLastEffect rightLastTests rightLast padded sideSize keptS keptM keptY scratchSize keptTests blinderTests solverTests coinsOf scratchParts regularTests jointSum solverFirstEffect solverFirstTests solverFirst blinderFirstEffect blinderFirstTests blinderFirst solverSecondEffect solverSecondTests solverSecond blinderSecondEffect blinderSecondTests blinderSecond solverLastEffect solverLastTests solverLast blinderLastEffect blinderLastTests blinderLast dropRight dropSolver dropBlinder said runFirst runLater here halfRole half ℕ-discrete
+all-answers = refl
+
+-- ---- what stands then
+
+-- the first party's left half of the second product, of which nothing was used; the second party's right half, spent by a drop; P's and U0's words, zeroed, with
+-- what follows them; behind each tape the words from before the dealing
+pub then-stands : (slotWords (slotOf sizes (end .state .pools) first 0) ≡ 1 ∷ 6 ∷ 0 ∷ 7 ∷ 1 ∷ 2 ∷ 1 ∷ 1 ∷ 4 ∷ 2 ∷ 9 ∷ 9 ∷ 9 ∷ [])
+    × (slotWords (slotOf sizes (end .state .pools) second 0) ≡ 3 ∷ 6 ∷ 0 ∷ 7 ∷ 1 ∷ 2 ∷ 1 ∷ 0 ∷ 0 ∷ 0 ∷ 9 ∷ 9 ∷ 9 ∷ [])
+    × (end .state .scratches 3 ≡ 0 ∷ 0 ∷ 0 ∷ 9 ∷ [])
+    × (view (end .log) 4 .half ≡ (6 ∷ 3 ∷ []) ∷ (2 ∷ []) ∷ [])
+unfolding sumTo tabulate zeros addMod subMod matAdd matSub dotTo dot matMul both parts join cols beside noDivisor isPrime inverseBy inverse swapAt swapRows scaleRow clearColumn pivotFrom pivot step eliminateFrom eliminate regular solution dealB sendY sendX sendR rightShare dealV solverShare sendF sendW sendC sumMatrix over writtenAt given clear judgeBy judge isKept residueOf residuesOf drawn wordsRead drawTests within columns allBelow fieldFits sidesFit shapeTests termsTests inputTests roomTests isSlot slotWords poolWith headerWords bodySize tapeSize statusOf withStatus spent body matrices wordsInUse wordsSpent slotTests halfTests tapeTests bodyTests drawSize drawnParts dealtB dealtV isFree dealTests dealtOver dealtEffect deal kindSort messageLayout messageSize messageParts messageTests dueTests firstTests isOpen openTests laterTests rightFirstEffect rightFirstTests rightFirst leftEffect leftTests leftStep rightLastEffect rightLastTests rightLast padded sideSize keptS keptM keptY scratchSize keptTests blinderTests solverTests coinsOf scratchParts regularTests jointSum solverFirstEffect solverFirstTests solverFirst blinderFirstEffect blinderFirstTests blinderFirst solverSecondEffect solverSecondTests solverSecond blinderSecondEffect blinderSecondTests blinderSecond solverLastEffect solverLastTests solverLast blinderLastEffect blinderLastTests blinderLast dropRight dropSolver dropBlinder said runFirst runLater here halfRole half ℕ-discrete
+then-stands = (refl, refl, refl, refl)
+
+-- ---- the premises
+
+abbrev numbers : List Entry → List ℕ
+numbers [] = []
+numbers (dealt d ∷ l) = numberOf d ∷ numbers l
+numbers (did e ∷ l) = numbers l
+
+abbrev unlike : ℕ → List ℕ → Bool
+unlike n [] = true
+unlike n (k ∷ l) = cond (eqb k n) false (unlike n l)
+
+abbrev all-unlike : List ℕ → Bool
+all-unlike [] = true
+all-unlike (n ∷ l) = cond (unlike n l) (all-unlike l) false
+
+unlike-dealt : (n : ℕ) (l : List Entry) → unlike n (numbers l) ≡ true → (d : Dealing) → WasDealt d l → numberOf d ≢ n
+unlike-dealt n [] e d w = absurd w
+unlike-dealt n (did x ∷ l) e d w = unlike-dealt n l e d w
+unlike-dealt n (dealt x ∷ l) e d w = go (eqb (numberOf x) n) refl e (λ f. unlike-dealt n l f d) w
+  where
+    go : (b : Bool) → eqb (numberOf x) n ≡ b → cond b false (unlike n (numbers l)) ≡ true → (unlike n (numbers l) ≡ true → WasDealt d l → numberOf d ≢ n)
+        → (x ≡ d) ⊎ WasDealt d l → numberOf d ≢ n
+    go true q f rec w z = let y : _≡_ {A = ℕ} 0 1 = cc in omega arith
+    go false q f rec (inl i) z = let y : _≡_ {A = Bool} true false = sym (eq-eqb (numberOf x) n (ap numberOf i ∙ z)) ∙ q in let y′ : _≡_ {A = ℕ} 0 1 = cc in omega arith
+    go false q f rec (inr i) z = rec f i z
+
+distinct : (l : List Entry) → all-unlike (numbers l) ≡ true → Distinct l
+distinct [] e = tt
+distinct (did x ∷ l) e = distinct l e
+distinct (dealt x ∷ l) e = go (unlike (numberOf x) (numbers l)) refl e (λ f. distinct l f)
+  where
+    go : (b : Bool) → unlike (numberOf x) (numbers l) ≡ b → cond b (all-unlike (numbers l)) false ≡ true → (all-unlike (numbers l) ≡ true → Distinct l)
+        → ((d : Dealing) → WasDealt d l → numberOf d ≢ numberOf x) × Distinct l
+    go true q f rec = (unlike-dealt (numberOf x) l q, rec f)
+    go false q f rec = absurd (let y : _≡_ {A = ℕ} 0 1 = cc in omega arith)
+
+own : (w : Party) (r : Role) {d₀ : Dealing} {o₀ : Option ℕ} → halfRole w d₀ ≡ r → (d : Dealing) (o : Option ℕ) → holds d₀ o₀ ≡ holds d o → halfRole w d ≡ r
+own w r h d o e = subst (λ (z : Dealing). halfRole w z ≡ r) (same-dealing e) h
+
+other-role : {A : Type 0} {a b : Role} → a ≡ b → (a ≡ b → _≡_ {A = ℕ} 0 1) → A
+other-role e f = absurd (omega (arith, f e))
+
+-- a name that no call bears has no session
+abbrev named-below : ℕ → List Call → Bool
+named-below b [] = true
+named-below b (dealing holder len i r ∷ cs) = named-below b cs
+named-below b (stepping w i u n k ∷ cs) = cond (ltb n b) (named-below b cs) false
+
+unnamed : (b : ℕ) (cs : List Call) → named-below b cs ≡ true → (n : ℕ) → b ≤ n → run sizes start lent cs .state .sessions n ≡ absent
+unnamed b [] e n h = refl
+unnamed b (dealing holder len i r ∷ cs) e n h =
+    go (deal (run sizes start lent cs .state .pools holder) (run sizes start lent cs .state .pools (opposite holder)) len i r) (unnamed b cs e n h)
+  where
+    go : (x : Judged Dealt) → run sizes start lent cs .state .sessions n ≡ absent → advanceDealing holder len i r (run sizes start lent cs) x .state .sessions n ≡ absent
+    go (refused c) z = z
+    go (done d) z = z
+unnamed b (stepping w i u k t ∷ cs) e n h = go (ltb k b) refl e (λ f. unnamed b cs f n h)
+  where
+    by : (x : Outcome Session) → (k ≡ n → ⊥) → run sizes start lent cs .state .sessions n ≡ absent → advanceStep sizes w i u k t (run sizes start lent cs) x .state .sessions n ≡ absent
+    by (refused c) a z = z
+    by (done f) a z = set-other k (f .session) (run sizes start lent cs .state .sessions) n (λ p. a (sym p)) ∙ z
+
+    go : (c : Bool) → ltb k b ≡ c → cond c (named-below b cs) false ≡ true → (named-below b cs ≡ true → run sizes start lent cs .state .sessions n ≡ absent)
+        → advance sizes (run sizes start lent cs) (stepping w i u k t) .state .sessions n ≡ absent
+    go true q f rec =
+        by (runStep t (run sizes start lent cs .state .sessions k) (slotOf sizes (run sizes start lent cs .state .pools) w i) (run sizes start lent cs .state .scratches u)) (λ p. let l : k < b = ltb-true _ _ q in omega (arith, l, p, h)) (rec f)
+    go false q f rec = absurd (let y : _≡_ {A = ℕ} 0 1 = cc in omega arith)
+
+-- no blinder's session is open when another one begins
+abbrev NoBlinder : Session → Type 0
+NoBlinder x = 0 < dueIn x → roleIn x ≡ blinder → ⊥
+
+no-session : {x : Session} → x ≡ absent → NoBlinder x
+no-session e d r = omega (arith, d, ap dueIn e)
+
+calm-one : (n : ℕ) → NoBlinder (run sizes start lent one .state .sessions n)
+unfolding sumTo tabulate zeros addMod subMod matAdd matSub dotTo dot matMul both parts join cols beside noDivisor isPrime inverseBy inverse swapAt swapRows scaleRow clearColumn pivotFrom pivot step eliminateFrom eliminate regular solution dealB sendY sendX sendR rightShare dealV solverShare sendF sendW sendC sumMatrix over writtenAt given clear judgeBy judge isKept residueOf residuesOf drawn wordsRead drawTests within columns allBelow fieldFits sidesFit shapeTests termsTests inputTests roomTests isSlot slotWords poolWith headerWords bodySize tapeSize statusOf withStatus spent body matrices wordsInUse wordsSpent slotTests halfTests tapeTests bodyTests drawSize drawnParts dealtB dealtV isFree dealTests dealtOver dealtEffect deal kindSort messageLayout messageSize messageParts messageTests dueTests firstTests isOpen openTests laterTests rightFirstEffect rightFirstTests rightFirst leftEffect leftTests leftStep rightLastEffect rightLastTests rightLast padded sideSize keptS keptM keptY scratchSize keptTests blinderTests solverTests coinsOf scratchParts regularTests jointSum solverFirstEffect solverFirstTests solverFirst blinderFirstEffect blinderFirstTests blinderFirst solverSecondEffect solverSecondTests solverSecond blinderSecondEffect blinderSecondTests blinderSecond solverLastEffect solverLastTests solverLast blinderLastEffect blinderLastTests blinderLast dropRight dropSolver dropBlinder said runFirst runLater here halfRole half ℕ-discrete
+calm-one zero d r = other-role r (λ e. cc)
+calm-one (suc zero) d r = omega (arith, d)
+calm-one (suc (suc n)) d r = no-session (unnamed 2 one refl (suc (suc n)) (omega arith)) d r
+
+calm-two : (n : ℕ) → NoBlinder (run sizes start lent two .state .sessions n)
+unfolding sumTo tabulate zeros addMod subMod matAdd matSub dotTo dot matMul both parts join cols beside noDivisor isPrime inverseBy inverse swapAt swapRows scaleRow clearColumn pivotFrom pivot step eliminateFrom eliminate regular solution dealB sendY sendX sendR rightShare dealV solverShare sendF sendW sendC sumMatrix over writtenAt given clear judgeBy judge isKept residueOf residuesOf drawn wordsRead drawTests within columns allBelow fieldFits sidesFit shapeTests termsTests inputTests roomTests isSlot slotWords poolWith headerWords bodySize tapeSize statusOf withStatus spent body matrices wordsInUse wordsSpent slotTests halfTests tapeTests bodyTests drawSize drawnParts dealtB dealtV isFree dealTests dealtOver dealtEffect deal kindSort messageLayout messageSize messageParts messageTests dueTests firstTests isOpen openTests laterTests rightFirstEffect rightFirstTests rightFirst leftEffect leftTests leftStep rightLastEffect rightLastTests rightLast padded sideSize keptS keptM keptY scratchSize keptTests blinderTests solverTests coinsOf scratchParts regularTests jointSum solverFirstEffect solverFirstTests solverFirst blinderFirstEffect blinderFirstTests blinderFirst solverSecondEffect solverSecondTests solverSecond blinderSecondEffect blinderSecondTests blinderSecond solverLastEffect solverLastTests solverLast blinderLastEffect blinderLastTests blinderLast dropRight dropSolver dropBlinder said runFirst runLater here halfRole half ℕ-discrete
+calm-two zero d r = omega (arith, d)
+calm-two (suc zero) d r = omega (arith, d)
+calm-two (suc (suc zero)) d r = other-role r (λ e. cc)
+calm-two (suc (suc (suc n))) d r = no-session (unnamed 3 two refl (suc (suc (suc n))) (omega arith)) d r
+
+premises : Premises sizes (end .log)
+unfolding sumTo tabulate zeros addMod subMod matAdd matSub dotTo dot matMul both parts join cols beside noDivisor isPrime inverseBy inverse swapAt swapRows scaleRow clearColumn pivotFrom pivot step eliminateFrom eliminate regular solution dealB sendY sendX sendR rightShare dealV solverShare sendF sendW sendC sumMatrix over writtenAt given clear judgeBy judge isKept residueOf residuesOf drawn wordsRead drawTests within columns allBelow fieldFits sidesFit shapeTests termsTests inputTests roomTests isSlot slotWords poolWith headerWords bodySize tapeSize statusOf withStatus spent body matrices wordsInUse wordsSpent slotTests halfTests tapeTests bodyTests drawSize drawnParts dealtB dealtV isFree dealTests dealtOver dealtEffect deal kindSort messageLayout messageSize messageParts messageTests dueTests firstTests isOpen openTests laterTests rightFirstEffect rightFirstTests rightFirst leftEffect leftTests leftStep rightLastEffect rightLastTests rightLast padded sideSize keptS keptM keptY scratchSize keptTests blinderTests solverTests coinsOf scratchParts regularTests jointSum solverFirstEffect solverFirstTests solverFirst blinderFirstEffect blinderFirstTests blinderFirst solverSecondEffect solverSecondTests solverSecond blinderSecondEffect blinderSecondTests blinderSecond solverLastEffect solverLastTests solverLast blinderLastEffect blinderLastTests blinderLast dropRight dropSolver dropBlinder said runFirst runLater here halfRole half ℕ-discrete
+premises = (
+  distinct (end .log) refl,
+  (
+    record { own-half = own first solver refl; own-scratch = λ e. other-role e (λ e. cc); own-name = tt },
+    (
+      record { own-half = own first solver refl; own-scratch = λ e. other-role e (λ e. cc); own-name = refl },
+      (
+        (λ w. refl),
+        (
+          record { own-half = own second right refl; own-scratch = λ e. other-role e (λ e. cc); own-name = tt },
+          (
+            record { own-half = own second right refl; own-scratch = λ e. other-role e (λ e. cc); own-name = refl },
+            (
+              (λ w. refl),
+              (
+                record { own-half = own first right refl; own-scratch = λ e. other-role e (λ e. cc); own-name = tt },
+                (
+                  record { own-half = own second left refl; own-scratch = λ e. other-role e (λ e. cc); own-name = refl },
+                  (
+                    record { own-half = own first right refl; own-scratch = λ e. other-role e (λ e. cc); own-name = refl },
+                    (
+                      (λ w. refl),
+                      (
+                        record { own-half = own first blinder refl; own-scratch = λ e. refl; own-name = tt },
+                        (
+                          record { own-half = own second solver refl; own-scratch = λ e. other-role e (λ e. cc); own-name = tt },
+                          (
+                            record { own-half = own first blinder refl; own-scratch = λ e. refl; own-name = tt },
+                            (
+                              record { own-half = own second solver refl; own-scratch = λ e. other-role e (λ e. cc); own-name = tt },
+                              (
+                                record { own-half = own first blinder refl; own-scratch = λ e n d r. absurd (calm-two n d r); own-name = refl },
+                                (
+                                  record { own-half = own second solver refl; own-scratch = λ e. other-role e (λ e. cc); own-name = refl },
+                                  (
+                                    (λ w. refl),
+                                    (
+                                      record { own-half = own second blinder refl; own-scratch = λ e. refl; own-name = tt },
+                                      (
+                                        record { own-half = own first solver refl; own-scratch = λ e. other-role e (λ e. cc); own-name = tt },
+                                        (
+                                          record { own-half = own second blinder refl; own-scratch = λ e. refl; own-name = tt },
+                                          (
+                                            record { own-half = own first solver refl; own-scratch = λ e. other-role e (λ e. cc); own-name = tt },
+                                            (
+                                              record { own-half = own second blinder refl; own-scratch = λ e n d r. absurd (calm-one n d r); own-name = refl },
+                                              (
+                                                record { own-half = own first solver refl; own-scratch = λ e. other-role e (λ e. cc); own-name = refl },
+                                                ((λ w. refl), tt),
+                                              ),
+                                            ),
+                                          ),
+                                        ),
+                                      ),
+                                    ),
+                                  ),
+                                ),
+                              ),
+                            ),
+                          ),
+                        ),
+                      ),
+                    ),
+                  ),
+                ),
+              ),
+            ),
+          ),
+        ),
+      ),
+    ),
+  ),
+)
+
+three-slots : (w : Party) (i : ℕ) → isSlot (slotOf sizes start w i) ≡ true → statusOf (slotWords (slotOf sizes start w i)) ≡ 0
+unfolding isSlot slotWords statusOf
+three-slots w zero h = refl
+three-slots w (suc zero) h = refl
+three-slots w (suc (suc zero)) h = refl
+three-slots w (suc (suc (suc i))) h = absurd (let y : suc (suc (suc i)) < 3 = ltb-true _ _ h in omega arith)
+
+-- so demand 3 speaks of this list
+pub of-this-list : Demand3 sizes start lent calls end
+of-this-list = demand-3 sizes start lent three-slots calls premises
+
+-- ---- what it says, for one
+
+-- of the blinder of the second system, and of right in the first product: the other end's inputs of 01 are counted
+blinder-counts : Counted (view (end .log) 3) ((2 ∷ []) ∷ (3 ∷ []) ∷ [])
+unfolding sumTo tabulate zeros addMod subMod matAdd matSub dotTo dot matMul both parts join cols beside noDivisor isPrime inverseBy inverse swapAt swapRows scaleRow clearColumn pivotFrom pivot step eliminateFrom eliminate regular solution dealB sendY sendX sendR rightShare dealV solverShare sendF sendW sendC sumMatrix over writtenAt given clear judgeBy judge isKept residueOf residuesOf drawn wordsRead drawTests within columns allBelow fieldFits sidesFit shapeTests termsTests inputTests roomTests isSlot slotWords poolWith headerWords bodySize tapeSize statusOf withStatus spent body matrices wordsInUse wordsSpent slotTests halfTests tapeTests bodyTests drawSize drawnParts dealtB dealtV isFree dealTests dealtOver dealtEffect deal kindSort messageLayout messageSize messageParts messageTests dueTests firstTests isOpen openTests laterTests rightFirstEffect rightFirstTests rightFirst leftEffect leftTests leftStep rightLastEffect rightLastTests rightLast padded sideSize keptS keptM keptY scratchSize keptTests blinderTests solverTests coinsOf scratchParts regularTests jointSum solverFirstEffect solverFirstTests solverFirst blinderFirstEffect blinderFirstTests blinderFirst solverSecondEffect solverSecondTests solverSecond blinderSecondEffect blinderSecondTests blinderSecond solverLastEffect solverLastTests solverLast blinderLastEffect blinderLastTests blinderLast dropRight dropSolver dropBlinder said runFirst runLater here halfRole half ℕ-discrete sumLists count eqList idMat areInverse hasInverse
+blinder-counts = record { taken = refl; sum = refl }
+
+right-counts : Counted (view (end .log) 4) ((3 ∷ 5 ∷ []) ∷ [])
+unfolding sumTo tabulate zeros addMod subMod matAdd matSub dotTo dot matMul both parts join cols beside noDivisor isPrime inverseBy inverse swapAt swapRows scaleRow clearColumn pivotFrom pivot step eliminateFrom eliminate regular solution dealB sendY sendX sendR rightShare dealV solverShare sendF sendW sendC sumMatrix over writtenAt given clear judgeBy judge isKept residueOf residuesOf drawn wordsRead drawTests within columns allBelow fieldFits sidesFit shapeTests termsTests inputTests roomTests isSlot slotWords poolWith headerWords bodySize tapeSize statusOf withStatus spent body matrices wordsInUse wordsSpent slotTests halfTests tapeTests bodyTests drawSize drawnParts dealtB dealtV isFree dealTests dealtOver dealtEffect deal kindSort messageLayout messageSize messageParts messageTests dueTests firstTests isOpen openTests laterTests rightFirstEffect rightFirstTests rightFirst leftEffect leftTests leftStep rightLastEffect rightLastTests rightLast padded sideSize keptS keptM keptY scratchSize keptTests blinderTests solverTests coinsOf scratchParts regularTests jointSum solverFirstEffect solverFirstTests solverFirst blinderFirstEffect blinderFirstTests blinderFirst solverSecondEffect solverSecondTests solverSecond blinderSecondEffect blinderSecondTests blinderSecond solverLastEffect solverLastTests solverLast blinderLastEffect blinderLastTests blinderLast dropRight dropSolver dropBlinder said runFirst runLater here halfRole half ℕ-discrete
+right-counts = record { taken = refl; sum = refl }
+
+-- both are finished, and the blinder has seen the solution
+ended : (isBegun (end .state .sessions 3) ≡ true) × (view (end .log) 3 .role ≡ blinder) × (length (view (end .log) 3 .received) ≡ 3)
+    × (answerSeen (view (end .log) 3) ≡ 3 ∷ []) × (solutionFor (view (end .log) 3) ((2 ∷ []) ∷ (3 ∷ []) ∷ []) ≡ 3 ∷ [])
+    × (isBegun (end .state .sessions 4) ≡ true) × (view (end .log) 4 .role ≡ right) × (length (view (end .log) 4 .received) ≡ 1)
+unfolding sumTo tabulate zeros addMod subMod matAdd matSub dotTo dot matMul both parts join cols beside noDivisor isPrime inverseBy inverse swapAt swapRows scaleRow clearColumn pivotFrom pivot step eliminateFrom eliminate regular solution dealB sendY sendX sendR rightShare dealV solverShare sendF sendW sendC sumMatrix over writtenAt given clear judgeBy judge isKept residueOf residuesOf drawn wordsRead drawTests within columns allBelow fieldFits sidesFit shapeTests termsTests inputTests roomTests isSlot slotWords poolWith headerWords bodySize tapeSize statusOf withStatus spent body matrices wordsInUse wordsSpent slotTests halfTests tapeTests bodyTests drawSize drawnParts dealtB dealtV isFree dealTests dealtOver dealtEffect deal kindSort messageLayout messageSize messageParts messageTests dueTests firstTests isOpen openTests laterTests rightFirstEffect rightFirstTests rightFirst leftEffect leftTests leftStep rightLastEffect rightLastTests rightLast padded sideSize keptS keptM keptY scratchSize keptTests blinderTests solverTests coinsOf scratchParts regularTests jointSum solverFirstEffect solverFirstTests solverFirst blinderFirstEffect blinderFirstTests blinderFirst solverSecondEffect solverSecondTests solverSecond blinderSecondEffect blinderSecondTests blinderSecond solverLastEffect solverLastTests solverLast blinderLastEffect blinderLastTests blinderLast dropRight dropSolver dropBlinder said runFirst runLater here halfRole half ℕ-discrete
+ended = (refl, refl, refl, refl, refl, refl, refl, refl)
+
+finished-by : (v : View) (r : Role) (n : ℕ) → v .role ≡ r → length (v .received) ≡ n → n ≡ length (kindsSent (facing r)) → Finished v
+finished-by v r n e l h = l ∙ h ∙ ap (λ (r : Role). length (kindsSent (facing r))) (sym e)
+
+-- so each of these inputs has one completion
+pub counted-once : (completions (view (end .log) 3) ((2 ∷ []) ∷ (3 ∷ []) ∷ []) ≡ 1) × (completions (view (end .log) 4) ((3 ∷ 5 ∷ []) ∷ []) ≡ 1)
+counted-once = (
+  of-this-list .secret 3 (ended .0) (view (end .log) 3) as-answered .finished-blinder (ended .1) (finished-by (view (end .log) 3) blinder 3 (ended .1) (ended .2) refl)
+      ((2 ∷ []) ∷ (3 ∷ []) ∷ []) blinder-counts (ended .4 ∙ sym (ended .3)),
+  of-this-list .secret 4 (ended .5) (view (end .log) 4) as-answered .finished-product (ap sortOf (ended .6)) (finished-by (view (end .log) 4) right 1 (ended .6) (ended .7) refl)
+      ((3 ∷ 5 ∷ []) ∷ []) right-counts,
+)
