@@ -11,4 +11,3 @@ pub mod Known
 pub mod Draws
 pub mod Halves
 pub mod Leaving
-pub mod Systems
