@@ -1,0 +1,124 @@
+-- What is known where tests passed.
+--   Placed, first-placed         the numbers of step 1
+--   last-received                the numbers of step 3
+--   first-known, left-known, last-known   a step that is accepted
+--   left-shape, last-shape       what the writers ask
+-- Assumes nothing.
+use mathlib.Core.Path.{_≡_, sym, _∙_}
+use mathlib.Core.Bool.{true}
+use mathlib.Core.List.{List, _++_}
+use Prim.Native.Nat.{ℕ, _+_, _*_, _≤_}
+use native.Mathlib.Omega.{arith}
+use lib.ListN.{length}
+use borrow.Author.Tests.{leb-true, ne-eqb}
+use Rattle.protocol.specs.declared.Terms.{Terms}
+use Rattle.protocol.specs.declared.Head.{Head}
+use Rattle.protocol.specs.declared.RightSession.{RightSession}
+use Rattle.protocol.specs.Judge.{Test, done}
+use Rattle.protocol.specs.Bounds.{sidesFit}
+use Rattle.protocol.specs.Tape.{Slot, Role, left, right, sortOf, bodySize, tapeSize}
+use Rattle.protocol.specs.Message.{Message}
+use Rattle.protocol.specs.Step.{isOpen}
+use Rattle.protocol.specs.Product.{rightFirstEffect, rightFirstTests, rightFirst, leftEffect, leftTests, leftStep, rightLastEffect, rightLastTests, rightLast}
+use Rattle.protocol.proofs.Judge.{passed, accepts, all-split}
+use Rattle.protocol.proofs.StepTests.{RightFirstFits, right-first, LeftFits, left-step, RightLastFits, right-last}
+use Rattle.checks.specs.InOrder.{judged}
+use Rattle.checks.proofs.InOrder.{accepted-by}
+use Rattle.checks.proofs.Sides.{sides}
+use Rattle.checks.proofs.Place.{slot-inside}
+use Rattle.session.specs.Groups.{modulusTests, numberTests, placeTests}
+use Rattle.steps.specs.Groups.{receivedNumbers}
+use Rattle.steps.proofs.Fits.{Received, received-fits}
+use Rattle.session.proofs.Shape.{size-1, size-2}
+use Rattle.product.specs.Groups.{firstNumbers, lastNumbers}
+use Rattle.product.specs.Shape.{LeftShape, LastShape}
+
+first-passed : (ts us : List Test) → judged (ts ++ us) ≡ done tt → judged ts ≡ done tt
+first-passed ts us e = accepts ts tt (all-split ts us (passed (ts ++ us) e .0) .0)
+
+-- the sides fit, the slot lies in its pool, and the half in the slot
+pub record Placed (role : Role) (t : Terms) (pool size index : ℕ) : Type 0 where
+  pub sides : sidesFit (sortOf role) (t .m) (t .k) (t .p) ≡ true
+  pub inside : index * size + size ≤ pool
+  pub room : tapeSize role (t .m) (t .k) (t .p) ≤ size
+
+pub first-placed : (t : Terms) (pool size index y room : ℕ) → judged (firstNumbers t pool size index y room) ≡ done tt → Placed right t pool size index
+unfolding firstNumbers modulusTests numberTests placeTests
+first-placed t pool size index y room e =
+    let s = passed (firstNumbers t pool size index y room) e .0 .1 .1 in
+    record { sides = s .1 .0; inside = slot-inside pool size index (s .1 .1 .1 .0); room = leb-true _ _ (s .1 .1 .1 .1 .0) }
+
+-- ---- with a message
+
+pub last-received : (x : RightSession) (a : Head) (count pool size index share : ℕ) → judged (lastNumbers x a count pool size index share) ≡ done tt
+    → Received right (x .terms) pool size index
+unfolding lastNumbers
+last-received x a count pool size index share e =
+    received-fits right (x .terms) a count pool size index (first-passed (receivedNumbers right (x .terms) a count pool size index) _ e)
+
+pub is-open : (due : ℕ) → (due ≡ 0 → ⊥) → isOpen due ≡ true
+unfolding isOpen
+is-open due h = rw (ne-eqb due 0 h)
+
+-- ---- a step that is accepted
+
+pub first-known : (t : Terms) (s : Slot) (y : List ℕ) (room : ℕ) → judged (rightFirstTests t s y room) ≡ done tt → RightFirstFits t s y room
+unfolding rightFirst
+first-known t s y room h = right-first t s y room .means (accepted-by (rightFirstTests t s y room) (rightFirstEffect t s y) h) .0
+
+pub left-known : (t : Terms) (s : Slot) (x words : List ℕ) (a : Message) (room share : ℕ) → judged (leftTests t s x words a room share) ≡ done tt
+    → LeftFits t s x words a room share
+unfolding leftStep
+left-known t s x words a room share h =
+    left-step t s x words a room share .means (accepted-by (leftTests t s x words a room share) (leftEffect t s x words a) h) .0
+
+pub last-known : (x : RightSession) (s : Slot) (a : Message) (share : ℕ) → judged (rightLastTests x s a share) ≡ done tt → RightLastFits x s a share
+unfolding rightLast
+last-known x s a share h = right-last x s a share .means (accepted-by (rightLastTests x s a share) (rightLastEffect x s a) h) .0
+
+-- ---- what the writers ask
+
+pub right-size : (m k p : ℕ) → 7 + k * p + m * p ≡ tapeSize right m k p
+unfolding tapeSize bodySize
+right-size m k p = omega arith
+
+pub left-size : (m k p : ℕ) → 7 + m * k + m * p ≡ tapeSize left m k p
+unfolding tapeSize bodySize
+left-size m k p = omega arith
+
+pub left-shape : (t : Terms) (s : Slot) (x words : List ℕ) (a : Message) (room share slot : ℕ) → LeftFits t s x words a room share → slot ≡ s .size
+    → LeftShape t (length x) (length (a .residues)) slot room
+left-shape t s x words a room share slot f e =
+    let b = sides (t .m) (t .k) (t .p) (f .first .terms .sides) in
+    record {
+      some-q = omega (arith, f .first .terms .big);
+      small-q = omega (arith, f .first .terms .small);
+      few-k = b .few-k;
+      some-p = b .some-p;
+      few-mk = b .few-mk;
+      few-kp = b .few-kp;
+      few-mp = b .few-mp;
+      half = omega (arith, f .first .half .room, e, left-size (t .m) (t .k) (t .p));
+      full-x = f .x-fits .size;
+      full-y = f .message .residues .size ∙ sym (size-1 t);
+      room = omega (arith, f .message-room, size-2 t);
+    }
+
+pub last-shape : (x : RightSession) (s : Slot) (a : Message) (share slot : ℕ) → RightLastFits x s a share → slot ≡ s .size
+    → LastShape (x .terms) (length (a .residues)) slot share
+last-shape x s a share slot f e =
+    let t = x .terms in
+    let open-fits = f .later .session-open in
+    let b = sides (t .m) (t .k) (t .p) (open-fits .terms .sides) in
+    record {
+      some-q = omega (arith, open-fits .terms .big);
+      small-q = omega (arith, open-fits .terms .small);
+      few-k = b .few-k;
+      some-p = b .some-p;
+      few-mk = b .few-mk;
+      few-kp = b .few-kp;
+      few-mp = b .few-mp;
+      half = omega (arith, open-fits .half .room, e, right-size (t .m) (t .k) (t .p));
+      full = f .message .residues .size ∙ sym (size-2 t);
+      room = f .share-room;
+    }

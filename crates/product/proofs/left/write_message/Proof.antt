@@ -1,0 +1,111 @@
+use mathlib.Core.Path.{refl, ap, _∙_}
+use Prim.Native.Nat.{_*_}
+use native.Mathlib.Omega.{arith}
+use lib.ListN.{length}
+use borrow.Author.Needs.{needs}
+use Rattle.protocol.specs.Tape.{left}
+use Rattle.product.proofs.Halves.{first-matrix, second-matrix, part-then, over-length}
+use Rattle.algebra.specs.Product.{sendX, sendR}
+use Rattle.algebra.proofs.Lists.{add-residues}
+use Rattle.product.proofs.left.write_message.Statement.{statement}
+use Rattle.product.proofs.left.write_message.Tie as tie
+
+times-requires : tie.Need-times-requires
+times-requires c κs = search needs
+
+add-middle : tie.Need-add-middle
+add-middle c = search needs
+
+times-requires-2 : tie.Need-times-requires-2
+times-requires-2 c κs = search needs
+
+add-end : tie.Need-add-end
+add-end c = search needs
+
+sub-write-sum : tie.Need-sub-write-sum
+sub-write-sum c = search needs
+
+part-write-sum-start : tie.Need-part-write-sum-start
+part-write-sum-start c = search needs
+
+part-write-sum-end : tie.Need-part-write-sum-end
+part-write-sum-end c = search needs
+
+write-sum-requires : tie.Need-write-sum-requires
+write-sum-requires c κs = search needs
+
+cast-write-reply : tie.Need-cast-write-reply
+cast-write-reply c = search needs
+
+cast-write-reply-2 : tie.Need-cast-write-reply-2
+cast-write-reply-2 c = search needs
+
+cast-write-reply-3 : tie.Need-cast-write-reply-3
+cast-write-reply-3 c = search needs
+
+mul-write-reply : tie.Need-mul-write-reply
+mul-write-reply c = search needs
+
+sub-write-reply : tie.Need-sub-write-reply
+sub-write-reply c = search needs
+
+part-write-reply-start : tie.Need-part-write-reply-start
+part-write-reply-start c = search needs
+
+part-write-reply-end : tie.Need-part-write-reply-end
+part-write-reply-end c = search needs
+
+mul-write-reply-2 : tie.Need-mul-write-reply-2
+mul-write-reply-2 c = search needs
+
+sub-write-reply-2 : tie.Need-sub-write-reply-2
+sub-write-reply-2 c = search needs
+
+part-write-reply-start-2 : tie.Need-part-write-reply-start-2
+part-write-reply-start-2 c = search needs
+
+part-write-reply-end-2 : tie.Need-part-write-reply-end-2
+part-write-reply-end-2 c = search needs
+
+write-reply-requires : tie.Need-write-reply-requires
+write-reply-requires c κs = search needs
+
+same-length : tie.Need-same-length
+same-length c = search needs
+
+returns : tie.Need-returns
+unfolding sendX sendR
+returns c =
+    let e1 = rw (c .before .before .before .before .before .before .before .before .before .before .before .before .before .before .times .ensures, first-matrix left (c .before .before .before .before .before .before .before .before .before .before .before .before .before .before .before .before .before .before .before .before .args .t) (c .before .before .before .before .before .before .before .before .before .before .before .before .before .before .before .before .before .before .before .before .args .slot .now) (c .before .before .before .before .before .before .before .before .before .before .before .before .before .before .before .before .before .before .before .before .args .t .m * c .before .before .before .before .before .before .before .before .before .before .before .before .before .before .before .before .before .before .before .before .args .t .k) (c .before .before .before .before .before .before .before .before .before .before .before .before .before .before .before .before .before .before .before .before .args .t .m * c .before .before .before .before .before .before .before .before .before .before .before .before .before .before .before .before .before .before .before .before .args .t .p) refl) at (c .before .before .before .before .before .before .before .before .before .before .write-sum .ensures) in
+    let e2 = rw (c .before .before .before .before .before .before .before .before .before .before .before .before .before .before .times .ensures, c .before .before .before .before .before .before .before .before .before .before .before .before .before .times2 .ensures, second-matrix left (c .before .before .before .before .before .before .before .before .before .before .before .before .before .before .before .before .before .before .before .before .args .t) (c .before .before .before .before .before .before .before .before .before .before .before .before .before .before .before .before .before .before .before .before .args .slot .now) (c .before .before .before .before .before .before .before .before .before .before .before .before .before .before .before .before .before .before .before .before .args .t .m * c .before .before .before .before .before .before .before .before .before .before .before .before .before .before .before .before .before .before .before .before .args .t .k) (c .before .before .before .before .before .before .before .before .before .before .before .before .before .before .before .before .before .before .before .before .args .t .m * c .before .before .before .before .before .before .before .before .before .before .before .before .before .before .before .before .before .before .before .before .args .t .p) refl) at (c .before .before .write-reply .ensures) in
+    let full = add-residues (c .before .before .before .before .before .before .before .before .before .before .before .before .before .before .before .before .before .before .before .before .pre .0 .some-q) (c .before .before .before .before .before .before .before .before .before .before .before .before .before .before .before .before .before .before .before .before .args .t .m * c .before .before .before .before .before .before .before .before .before .before .before .before .before .before .before .before .before .before .before .before .args .t .k) (c .before .before .before .before .before .before .before .before .before .before .before .before .before .before .before .before .before .before .before .before .args .x .now) (_) .size in
+    rw (c .before .before .before .before .before .before .before .before .before .before .before .before .before .before .times .ensures)
+    (part-then _ _ (c .before .before .before .before .before .before .before .before .before .before .before .before .before .before .before .before .before .before .before .before .args .out .now) _ _ (c .before .before .before .before .before .before .before .before .before .before .before .before .before .before .before .before .before .before .before .before .args .t .m * c .before .before .before .before .before .before .before .before .before .before .before .before .before .before .before .before .before .before .before .before .args .t .k) full
+    (omega (arith, ap length e1 ∙ over-length _ (c .before .before .before .before .before .before .before .before .before .before .before .before .before .before .before .before .before .before .before .before .args .out .now) (omega (arith, full, c .before .before .before .before .before .before .before .before .before .before .before .before .before .before .before .before .before .before .before .before .pre .0 .room)), c .before .before .before .before .before .before .before .before .before .before .before .before .before .before .before .before .before .before .before .before .pre .0 .room)) e1 e2)
+
+pub write-message-spec : {M : Type 1} → statement M
+write-message-spec =
+    tie.close
+    (tie.spec
+    times-requires
+    add-middle
+    times-requires-2
+    add-end
+    sub-write-sum
+    part-write-sum-start
+    part-write-sum-end
+    write-sum-requires
+    cast-write-reply
+    cast-write-reply-2
+    cast-write-reply-3
+    mul-write-reply
+    sub-write-reply
+    part-write-reply-start
+    part-write-reply-end
+    mul-write-reply-2
+    sub-write-reply-2
+    part-write-reply-start-2
+    part-write-reply-end-2
+    write-reply-requires
+    same-length
+    returns)

@@ -1,0 +1,28 @@
+// The steps of a product, by value: right's first, left's one, and right's last.
+//   RightAnswer, LeftAnswer   what a step answers
+//   first, left, last         the three steps: right_first, left_step, right_last
+// A step is given its pool, the size of the pool's slots and the index of its own; its terms or its session; its inputs; the message that
+// it takes, a head and residues; and last the slices that it writes.
+pub mod first;
+pub mod last;
+pub mod left;
+
+pub use first::right_first;
+pub use last::right_last;
+pub use left::left_step;
+use protocol::Answer;
+use protocol::Head;
+use protocol::RightSession;
+
+// What a step of the right end answers: besides the answer its session, and the head of the message that it sends.
+pub struct RightAnswer {
+    pub answer: Answer,
+    pub session: RightSession,
+    pub head: Head,
+}
+
+// What left's step answers. Left keeps no session.
+pub struct LeftAnswer {
+    pub answer: Answer,
+    pub head: Head,
+}
