@@ -1,4 +1,7 @@
--- Every accepted call is a dealing or a move; so what dealings and moves keep holds after every list of calls. Assumes nothing.
+-- Every accepted call is a dealing or a move; so what dealings and moves keep holds after every list of calls.
+--   begin-moves, continue-moves   an accepted step is a move
+--   along                         the induction over calls; keeps: the invariant alone
+-- Assumes nothing.
 use mathlib.Core.Path.{_≡_, refl, sym, ap, ap₂, _∙_}
 use mathlib.Core.Bool.{true}
 use mathlib.Core.List.{List, [], _∷_}
@@ -41,11 +44,11 @@ module _ (size : Party → ℕ) (start : Party → List ℕ) (empty : Empty size
       agrees = record {
         is-begun = g .is-begun;
         role-is = g .role-is ∙ sym (p .own-half d none (found .1));
-        tape-is = ap (λ (t : Terms). t .tape .0) (g .terms-are) ∙ sym (g .half .tape-is) ∙ ap (λ (z : List ℕ). getD z tapeAt 0) words ∙ tape-number _ _ _ _ _ _ _ _ _;
-        q-is = ap (λ (t : Terms). t .q) (g .terms-are) ∙ sym (g .half .q-is) ∙ ap (λ (z : List ℕ). getD z qAt 0) words ∙ tape-q _ _ _ _ _ _ _ _ _;
-        m-is = ap (λ (t : Terms). t .m) (g .terms-are) ∙ sym (g .half .m-is) ∙ ap (λ (z : List ℕ). getD z mAt 0) words ∙ tape-m _ _ _ _ _ _ _ _ _;
-        k-is = ap (λ (t : Terms). t .k) (g .terms-are) ∙ sym (g .half .k-is) ∙ ap (λ (z : List ℕ). getD z kAt 0) words ∙ tape-k _ _ _ _ _ _ _ _ _;
-        p-is = ap (λ (t : Terms). t .p) (g .terms-are) ∙ sym (g .half .p-is) ∙ ap (λ (z : List ℕ). getD z pAt 0) words ∙ tape-p _ _ _ _ _ _ _ _ _;
+        tape-is = ap (λ (t : Terms). t .tape .0) (g .terms-are) ∙ sym (g .half .tape-is) ∙ ap (λ (z : List ℕ). getD z tapeAt 0) words ∙ tape-number _ _ d _;
+        q-is = ap (λ (t : Terms). t .q) (g .terms-are) ∙ sym (g .half .q-is) ∙ ap (λ (z : List ℕ). getD z qAt 0) words ∙ tape-q _ _ d _;
+        m-is = ap (λ (t : Terms). t .m) (g .terms-are) ∙ sym (g .half .m-is) ∙ ap (λ (z : List ℕ). getD z mAt 0) words ∙ tape-m _ _ d _;
+        k-is = ap (λ (t : Terms). t .k) (g .terms-are) ∙ sym (g .half .k-is) ∙ ap (λ (z : List ℕ). getD z kAt 0) words ∙ tape-k _ _ d _;
+        p-is = ap (λ (t : Terms). t .p) (g .terms-are) ∙ sym (g .half .p-is) ∙ ap (λ (z : List ℕ). getD z pAt 0) words ∙ tape-p _ _ d _;
       };
       way = Way.fresh t k refl refl (p .own-name) g;
       acted = acts;
@@ -94,8 +97,8 @@ module _ (size : Party → ℕ) (start : Party → List ℕ) (empty : Empty size
 
         number : (due : ℕ) → slotWords (slotOf size (st .pools) w i) ≡ servedWords w (found .0) due (slotWords (slotOf size (found .0 .on .pools) w i))
             → getD (slotWords (slotOf size (st .pools) w i)) tapeAt 0 ≡ numberOf (found .0)
-        number zero e = ap (λ (z : List ℕ). getD z tapeAt 0) e ∙ tape-number _ _ _ _ _ _ _ _ _
-        number (suc _) e = ap (λ (z : List ℕ). getD z tapeAt 0) e ∙ tape-number _ _ _ _ _ _ _ _ _
+        number zero e = ap (λ (z : List ℕ). getD z tapeAt 0) e ∙ tape-number _ _ (found .0) _
+        number (suc _) e = ap (λ (z : List ℕ). getD z tapeAt 0) e ∙ tape-number _ _ (found .0) _
 
         -- .. and the session of the call is on a half with the same number and role: this one
         hm : Home l n

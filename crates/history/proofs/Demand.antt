@@ -14,7 +14,7 @@ use native.Mathlib.Omega.{arith}
 use native.Mathlib.Decide.{ℕ-discrete}
 use Rattle.protocol.specs.Judge.{Test, Judged, refused, done, judge}
 use Rattle.protocol.specs.declared.Terms.{Terms}
-use Rattle.protocol.specs.Tape.{Slot}
+use Rattle.protocol.specs.Tape.{Slot, isSlot}
 use Rattle.protocol.specs.Product.{rightFirst, rightFirstEffect, leftStep, leftEffect, rightLast, rightLastEffect}
 use Rattle.protocol.specs.System.{solverFirst, solverFirstEffect, blinderFirst, blinderFirstEffect, solverSecond, solverSecondEffect, blinderSecond, blinderSecondEffect, solverLast, solverLastEffect, blinderLast, blinderLastEffect}
 use Rattle.protocol.specs.Drop.{dropRight, dropSolver, dropBlinder}
@@ -22,13 +22,13 @@ use Rattle.protocol.proofs.Judge.{passed}
 use Rattle.protocol.specs.Deal.{Dealt, deal}
 use Rattle.protocol.specs.Step.{Effect, Outcome}
 use Rattle.history.specs.Ends.{Session, leftEnd, rightEnd, solverEnd, blinderEnd, isBegun, dueIn, termsIn, roleIn, First, right-first, left-only, solver-first, blinder-first, Later, right-last, solver-second, solver-last, blinder-second, blinder-last, right-drop, solver-drop, blinder-drop, Step, begins, goes-on, ofAny, runFirst, runLater, runStep}
-use Rattle.history.specs.Log.{choose, Party, opposite, Call, dealing, stepping, Dealing, Did, Entry, dealt, did, World, slotOf, advanceDealing, advanceStep, advance, run, untouched, holds, serving, here, placeAfter, place, WasDone, Premises}
+use Rattle.history.specs.Log.{choose, Party, opposite, Call, dealing, stepping, Dealing, Did, Entry, dealt, did, World, slotOf, advanceDealing, advanceStep, advance, run, untouched, holds, serving, here, placeAfter, place, WasDealt, WasDone, Premises}
 use Rattle.history.specs.Contents.{placeWords}
 use Rattle.history.specs.Seen.{view}
 use Rattle.history.specs.Claim.{ServedBy, OnHalf, AllOnHalves, Never, serverAfter, server, current, EndsFirst, EndsLater, Ends, EntryOf, DEMAND-3}
 use Rattle.history.proofs.Facts.{chosen-yes, chosen-no}
 use Rattle.history.proofs.Steps.{of-any}
-use Rattle.history.proofs.Kept.{Inv, slotBy, Way, fresh, onward, Move}
+use Rattle.history.proofs.Kept.{Inv, inside-then, slotBy, Way, fresh, onward, Move}
 use Rattle.history.proofs.Along.{along, keeps}
 use Rattle.history.proofs.Once.{once}
 use Rattle.history.proofs.Served.{served}
@@ -59,6 +59,11 @@ place-last (did e ∷ l) older d w n = go (here (e .party) (e .index) w (d .inde
     go (yes _) (begins t k) h = ap (serving (e .name)) h
     go (yes _) (goes-on k) h = h
     go (no _) k h = h
+
+was-dealt : (newer older : List Entry) (d : Dealing) → WasDealt d (newer ++ dealt d ∷ older)
+was-dealt [] older d = inl refl
+was-dealt (dealt d′ ∷ l) older d = inr (was-dealt l older d)
+was-dealt (did e ∷ l) older d = was-dealt l older d
 
 -- ---- entries and calls
 
@@ -176,8 +181,8 @@ pub demand-3 : DEMAND-3
 demand-3 size start lent empty cs p = record {
   never = λ w i inside n. v .shown w i inside ∙ ap (placeWords size start (o .state .sessions) w i) (place-never (o .log) w i n);
   tails = v .tails;
-  last = λ w newer older d e n inside.
-      v .shown w (d .index) inside
+  last = λ w newer older d e n.
+      v .shown w (d .index) (inside w newer older d e)
       ∙ ap (placeWords size start (o .state .sessions) w (d .index)) (ap (λ (l : List Entry). place l w (d .index)) e ∙ place-last newer older d w n);
   sessions = along size start empty lent (λ st l. (n : ℕ) → st .sessions n ≡ current l n) (λ n. refl) (λ l d x v q h o. o)
       (λ l e v q mv o n. ap (choose (ℕ-discrete (e .name) n) (e .effect .session)) (o n)) cs p .1;
@@ -199,6 +204,12 @@ demand-3 size start lent empty cs p = record {
 
     v : Inv size start (run size start lent cs .state) (run size start lent cs .log)
     v = keeps size start empty lent cs p
+
+    -- a dealing was at a place of both pools
+    inside : (w : Party) (newer older : List Entry) (d : Dealing) → run size start lent cs .log ≡ newer ++ dealt d ∷ older → isSlot (slotOf size start w (d .index)) ≡ true
+    inside w newer older d e =
+        let g = v .fine d (subst (WasDealt d) (sym e) (was-dealt newer older d)) in
+        inside-then size start (d .on .pools) w (d .index) (g .on-size w) (g .inside w)
 
     seen : (n : ℕ) → isBegun (run size start lent cs .state .sessions n) ≡ true
         → Known (roleIn (run size start lent cs .state .sessions n)) (termsIn (run size start lent cs .state .sessions n)) (view (run size start lent cs .log) n)

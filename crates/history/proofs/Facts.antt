@@ -1,4 +1,9 @@
--- Facts that hold of any log: no words and no steps here. Assumes nothing.
+-- Facts that hold of any log: no words and no steps here.
+--   chosen-yes, chosen-no, set-same, set-other     choices, and a function set at one name
+--   place-did, elsewhere, begun-here, gone-on      a place after an entry
+--   place-known                                    what a place holds was dealt there
+--   one-dealing, one-half                          a number names one dealing; with a role, one half at one place
+-- Assumes nothing.
 use mathlib.Core.Path.{_≡_, refl, sym, ap, _∙_}
 use mathlib.Core.Logic.{_≢_, _⊎_, inl, inr}
 use mathlib.Core.Bool.{true, false}

@@ -1,10 +1,15 @@
--- The invariant: the pools hold what the log says, and every open session has its half. It is kept by every accepted call. Assumes nothing.
+-- The invariant: the pools hold what the log says, and every open session has its half. It is kept by every accepted call.
+--   Agrees, Home              a session and its half
+--   Inv                       the invariant
+--   Move, move-keeps          a step on a half, whatever its kind
+--   deal-keeps                a dealing
+-- Assumes nothing.
 use mathlib.Core.Path.{_≡_, refl, sym, ap, _∙_, subst, subst₂, subst₃}
 use mathlib.Core.Logic.{_≢_, _⊎_, inl, inr}
 use mathlib.Core.Bool.{true}
 use mathlib.Core.List.{List, _∷_}
 use mathlib.Core.Option.{Option, some, none}
-use Prim.Native.Nat.{ℕ, zero, suc, _*_, _/_, _≤_, _<_}
+use Prim.Native.Nat.{ℕ, zero, suc, _+_, _*_, _/_, _≤_, _<_}
 use native.Mathlib.Omega.{arith}
 use native.Mathlib.Decide.{ℕ-discrete}
 use lib.ListN.{length, drop}
@@ -14,7 +19,7 @@ use Rattle.algebra.proofs.Lists.{length-tabulate}
 use Rattle.algebra.proofs.Parts.{fits-join}
 use Rattle.protocol.specs.declared.Terms.{Terms}
 use Rattle.protocol.specs.Judge.{done}
-use Rattle.protocol.specs.Tape.{Slot, isSlot, slotWords, poolWith, statusOf, EMPTY, READY, IN-USE, SPENT, Role, bodySize, tapeSize, wordsInUse, wordsSpent}
+use Rattle.protocol.specs.Tape.{headerSize, Slot, isSlot, slotWords, poolWith, statusOf, EMPTY, READY, IN-USE, SPENT, Role, bodySize, tapeSize, wordsInUse, wordsSpent}
 use Rattle.protocol.specs.Deal.{isFree, Dealt, deal}
 use Rattle.protocol.proofs.Slots.{slot-length}
 use Rattle.history.specs.Ends.{Session, absent, isBegun, dueIn, termsIn, roleIn, First, Later, begins, goes-on, runStep}
@@ -61,15 +66,15 @@ number≢ : {A : Type 0} (a b : ℕ) → a ≢ b → a ≡ b → A
 number≢ a b n e = absurd (n e)
 
 served-status : (w : Party) (d : Dealing) (due : ℕ) (before : List ℕ) → (statusOf (servedWords w d due before) ≡ SPENT) ⊎ (statusOf (servedWords w d due before) ≡ IN-USE)
-served-status w d zero before = inl (tape-status _ _ _ _ _ _ _ _ _)
-served-status w d (suc _) before = inr (tape-status _ _ _ _ _ _ _ _ _)
+served-status w d zero before = inl (tape-status _ _ d before)
+served-status w d (suc _) before = inr (tape-status _ _ d before)
 
 pub open-status : (w : Party) (d : Dealing) (due : ℕ) (before : List ℕ) → 0 < due → statusOf (servedWords w d due before) ≡ IN-USE
 open-status w d zero before h = absurd (omega arith)
-open-status w d (suc _) before h = tape-status _ _ _ _ _ _ _ _ _
+open-status w d (suc _) before h = tape-status _ _ d before
 
 pub used-open : (w : Party) (d : Dealing) (due : ℕ) (before : List ℕ) → statusOf (servedWords w d due before) ≡ IN-USE → 0 < due
-used-open w d zero before h = absurd (let z : SPENT ≡ IN-USE = sym (tape-status _ _ _ _ _ _ _ _ before) ∙ h in omega (arith, z))
+used-open w d zero before h = absurd (let z : SPENT ≡ IN-USE = sym (tape-status _ _ d before) ∙ h in omega (arith, z))
 used-open w d (suc _) before h = omega arith
 
 module _ (size : Party → ℕ) (start : Party → List ℕ) where
@@ -81,7 +86,7 @@ module _ (size : Party → ℕ) (start : Party → List ℕ) where
 
     pub used-place : (c : Place) → statusOf (placeWords size start sessions w i c) ≡ IN-USE → (d : Dealing) × (n : ℕ) × (c ≡ holds d (some n))
     used-place untouched h = absurd (omega (arith, empty, h))
-    used-place (holds d none) h = absurd (let z : READY ≡ IN-USE = sym (tape-status _ _ _ _ _ _ _ _ (slotWords (slotOf size (d .on .pools) w i))) ∙ h in omega (arith, z))
+    used-place (holds d none) h = absurd (let z : READY ≡ IN-USE = sym (tape-status _ _ d (slotWords (slotOf size (d .on .pools) w i))) ∙ h in omega (arith, z))
     used-place (holds d (some n)) h = (d, n, refl)
 
   -- a place that this session doesn't serve looks the same whatever becomes of the session
@@ -106,7 +111,7 @@ module _ (size : Party → ℕ) (start : Party → List ℕ) where
   unfolding isSlot
   inside-now v w i h = rw (v .sizes w) h
 
-  inside-then : (pools : Party → List ℕ) (w : Party) (i : ℕ) → length (pools w) ≡ length (start w) → isSlot (slotOf size pools w i) ≡ true → isSlot (slotOf size start w i) ≡ true
+  pub inside-then : (pools : Party → List ℕ) (w : Party) (i : ℕ) → length (pools w) ≡ length (start w) → isSlot (slotOf size pools w i) ≡ true → isSlot (slotOf size start w i) ≡ true
   unfolding isSlot
   inside-then pools w i e h = rw (← e) h
 
@@ -125,7 +130,7 @@ module _ (size : Party → ℕ) (start : Party → List ℕ) where
     unfolding bodySize
     half-length = fits-join (g .fits w) .size
 
-    room : suc (suc (suc (suc (suc (suc (suc (bodySize role (d .request .m) (d .request .k) (d .request .p)))))))) ≤ length before
+    room : headerSize + bodySize role (d .request .m) (d .request .k) (d .request .p) ≤ length before
     unfolding tapeSize
     room = omega (arith, g .room w, slot-length (slotOf size (d .on .pools) w (d .index)) (g .inside w))
 
@@ -133,11 +138,11 @@ module _ (size : Party → ℕ) (start : Party → List ℕ) where
     before-length = slot-length (slotOf size (d .on .pools) w (d .index)) (g .inside w)
 
     pub ready-length : (status : ℕ) → length (tapeOn status (join (half w d)) d before) ≡ size w
-    ready-length status = length-tape _ _ _ _ _ _ _ _ _ (omega (arith, room, half-length)) ∙ before-length
+    ready-length status = length-tape _ _ d _ (omega (arith, room, half-length)) ∙ before-length
 
     pub served-length : (due : ℕ) → length (servedWords w d due before) ≡ size w
     served-length zero =
-        length-tape _ _ _ _ _ _ _ _ _ (omega (arith, room, length-zeros)) ∙ before-length
+        length-tape _ _ d _ (omega (arith, room, length-zeros)) ∙ before-length
       where
         length-zeros : length (zeros (bodySize role (d .request .m) (d .request .k) (d .request .p))) ≡ bodySize role (d .request .m) (d .request .k) (d .request .p)
         length-zeros = unfold zeros in length-tabulate _ (λ i. 0)
@@ -149,14 +154,14 @@ module _ (size : Party → ℕ) (start : Party → List ℕ) where
     spent-is : (s : Slot) (status : ℕ) (t : Terms) → t .m ≡ d .request .m → t .k ≡ d .request .k → t .p ≡ d .request .p
         → slotWords s ≡ tapeOn status (join (half w d)) d before → wordsSpent role t (slotWords s) ≡ servedWords w d 0 before
     unfolding wordsSpent
-    spent-is s status t em ek ep e = rw (e, em, ek, ep) (tape-spent _ _ _ _ _ _ _ _ _ _ half-length)
+    spent-is s status t em ek ep e = rw (e, em, ek, ep) (tape-spent _ _ d _ _ half-length)
 
     -- what a first step leaves on a ready half, and a later one on a half in use
     pub first-leaves : (s : Slot) (t : Terms) (due : ℕ) → t .m ≡ d .request .m → t .k ≡ d .request .k → t .p ≡ d .request .p
         → slotWords s ≡ tapeOn READY (join (half w d)) d before → leaveFirst due role t s ≡ servedWords w d due before
     unfolding wordsInUse
     first-leaves s t zero em ek ep e = spent-is s READY t em ek ep e
-    first-leaves s t (suc _) em ek ep e = rw e (tape-marked _ _ _ _ _ _ _ _ _ IN-USE)
+    first-leaves s t (suc _) em ek ep e = rw e (tape-marked _ _ d _ IN-USE)
 
     pub later-leaves : (s : Slot) (t : Terms) (due : ℕ) → t .m ≡ d .request .m → t .k ≡ d .request .k → t .p ≡ d .request .p
         → slotWords s ≡ tapeOn IN-USE (join (half w d)) d before → leaveLater due role t s ≡ servedWords w d due before

@@ -1,4 +1,7 @@
--- The scratches lent to blinders: P and U0 stand there while their session is open, and zeros from its end on. Assumes nothing.
+-- The scratches lent to blinders: P and U0 stand there while their session is open, and zeros from its end on.
+--   Tenant, Lent              the last blinder's session on a scratch, and what the scratch holds
+--   move-lent, lent-scratches
+-- Assumes nothing.
 use mathlib.Core.Path.{_≡_, refl, sym, ap, ap₂, _∙_, subst, subst₂}
 use mathlib.Core.Logic.{_≢_, _⊎_, inl, inr}
 use mathlib.Core.Bool.{true}

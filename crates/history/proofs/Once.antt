@@ -1,4 +1,6 @@
--- Each step of a session was accepted once at most. Assumes nothing.
+-- Each step of a session was accepted once at most.
+--   Once, once                a turn that is past stays past
+-- Assumes nothing.
 use mathlib.Core.Path.{_≡_, refl, sym, ap, _∙_, subst, subst₂}
 use mathlib.Core.Logic.{_⊎_, inl, inr}
 use mathlib.Core.Bool.{true}

@@ -136,7 +136,7 @@ module _ (size : Party → ℕ) (start : Party → List ℕ) (lent : ℕ → Lis
       fit-first = subst₂ (λ (r : Role) (t : Terms). Fits (t .q) (layout r (t .m) (t .k) (t .p)) (half (e .party) (mv .dealing))) (g .role-is) (g .terms-are) fit
 
       mats : matrices (roleFirst k) t (slotWords (slotBy size start e)) ≡ half (e .party) (mv .dealing)
-      mats = ap (matrices (roleFirst k) t) (ready-before size start l e v (p .0) mv u) ∙ tape-matrices (roleFirst k) t _ _ _ _ _ _ _ (half (e .party) (mv .dealing)) _ fit-first
+      mats = ap (matrices (roleFirst k) t) (ready-before size start l e v (p .0) mv u) ∙ tape-matrices (roleFirst k) t _ (mv .dealing) (half (e .party) (mv .dealing)) _ fit-first
 
       mask : roleFirst k ≡ blinder → regular (t .q) (t .m) (part 2 (half (e .party) (mv .dealing))) ≡ true
       mask r =
@@ -180,7 +180,7 @@ module _ (size : Party → ℕ) (start : Party → List ℕ) (lent : ℕ → Lis
       mats-later : matrices (roleIn x₀) (termsIn x₀) (slotWords (slotBy size start e)) ≡ view l (e .name) .half
       mats-later =
           ap (matrices (roleIn x₀) (termsIn x₀)) (used-before size start l e v (p .0) mv u (g .session-open .is-open))
-          ∙ tape-matrices (roleIn x₀) (termsIn x₀) _ _ _ _ _ _ _ (half (e .party) (mv .dealing)) _ (subst₂ (λ (r : Role) (t : Terms). Fits (t .q) (layout r (t .m) (t .k) (t .p)) (half (e .party) (mv .dealing))) (g .role-is) (g .terms-are) fit)
+          ∙ tape-matrices (roleIn x₀) (termsIn x₀) _ (mv .dealing) (half (e .party) (mv .dealing)) _ (subst₂ (λ (r : Role) (t : Terms). Fits (t .q) (layout r (t .m) (t .k) (t .p)) (half (e .party) (mv .dealing))) (g .role-is) (g .terms-are) fit)
           ∙ sym was-half
 
       -- P and U0 stand in the blinder's scratch

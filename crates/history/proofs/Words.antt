@@ -1,7 +1,7 @@
 -- The laws of words written over a list and into a slot.
 --   over-over, over-nothing                        two writes over the start of a list
 --   length-pool, same-slot, other-slot, tail-stays   a slot of a pool is written
---   tapeOver, tape-status .. tape-matrices         a tape over the words that stood there
+--   tape-status .. tape-matrices                   a tape over the words that stood there
 -- Assumes nothing.
 use mathlib.Core.Path.{_≡_, refl, sym, ap, _∙_}
 use mathlib.Core.Logic.{_≢_}
@@ -16,12 +16,13 @@ use lib.Seq.{length-take-le, take-append-le, drop-drop, take-take, take-at, drop
 use borrow.Author.Tests.{ltb-true}
 use Rattle.algebra.specs.Matrix.{zeros}
 use Rattle.algebra.proofs.Lists.{length-tabulate}
-use Rattle.protocol.specs.Bounds.{Sort}
 use Rattle.algebra.specs.Words.{over, writtenAt}
-use Rattle.protocol.specs.Tape.{tapeAt, qAt, mAt, kAt, pAt, Slot, isSlot, slotWords, poolWith, headerWords, sortNumber, statusOf, withStatus, spent, SPENT, Role, layout, bodySize, body, matrices}
+use Rattle.protocol.specs.Tape.{headerSize, tapeAt, qAt, mAt, kAt, pAt, Slot, isSlot, slotWords, poolWith, headerWords, statusOf, withStatus, spent, SPENT, Role, layout, bodySize, body, matrices}
 use Rattle.algebra.specs.Count.{parts, join, total}
 use Rattle.algebra.proofs.Parts.{Fits, fits-join, parts-join}
 use Rattle.protocol.specs.declared.Terms.{Terms}
+use Rattle.history.specs.Log.{Dealing}
+use Rattle.history.specs.Contents.{tapeOn}
 use Rattle.protocol.proofs.Slots.{slot-room}
 
 pub length-over : (ws l : List ℕ) → length ws ≤ length l → length (over ws l) ≡ length l
@@ -116,54 +117,52 @@ module _ (pool : List ℕ) (size i : ℕ) (ws : List ℕ) where
 
 -- ---- a tape's words: header and matrices over what stood there
 
--- 01's tape with a mark and matrices, over the words `before`
-abbrev pub tapeOver : (status tape : ℕ) → Sort → (q m k p : ℕ) → (matrices before : List ℕ) → List ℕ
-tapeOver status tape sort q m k p ms before = over (headerWords status tape sort q m k p ++ ms) before
-
-module _ (status tape : ℕ) (sort : Sort) (q m k p : ℕ) (ms before : List ℕ) where
-  pub tape-status : statusOf (tapeOver status tape sort q m k p ms before) ≡ status
+-- the tape of a dealing with this mark and these matrices, over the words `before`
+module _ (status : ℕ) (ms : List ℕ) (d : Dealing) (before : List ℕ) where
+  pub tape-status : statusOf (tapeOn status ms d before) ≡ status
   unfolding over headerWords statusOf
   tape-status = refl
 
-  pub tape-number : getD (tapeOver status tape sort q m k p ms before) tapeAt 0 ≡ tape
+  pub tape-number : getD (tapeOn status ms d before) tapeAt 0 ≡ d .request .tape .0
   unfolding over headerWords
   tape-number = refl
 
-  pub tape-q : getD (tapeOver status tape sort q m k p ms before) qAt 0 ≡ q
+  pub tape-q : getD (tapeOn status ms d before) qAt 0 ≡ d .request .q
   unfolding over headerWords
   tape-q = refl
 
-  pub tape-m : getD (tapeOver status tape sort q m k p ms before) mAt 0 ≡ m
+  pub tape-m : getD (tapeOn status ms d before) mAt 0 ≡ d .request .m
   unfolding over headerWords
   tape-m = refl
 
-  pub tape-k : getD (tapeOver status tape sort q m k p ms before) kAt 0 ≡ k
+  pub tape-k : getD (tapeOn status ms d before) kAt 0 ≡ d .request .k
   unfolding over headerWords
   tape-k = refl
 
-  pub tape-p : getD (tapeOver status tape sort q m k p ms before) pAt 0 ≡ p
+  pub tape-p : getD (tapeOn status ms d before) pAt 0 ≡ d .request .p
   unfolding over headerWords
   tape-p = refl
 
-  pub length-tape : suc (suc (suc (suc (suc (suc (suc (length ms))))))) ≤ length before → length (tapeOver status tape sort q m k p ms before) ≡ length before
+  pub length-tape : headerSize + length ms ≤ length before → length (tapeOn status ms d before) ≡ length before
   unfolding headerWords
-  length-tape h = length-over _ before h
+  length-tape h = length-over _ before (omega (arith, h))
 
-  pub tape-marked : (status′ : ℕ) → withStatus status′ (tapeOver status tape sort q m k p ms before) ≡ tapeOver status′ tape sort q m k p ms before
+  pub tape-marked : (status′ : ℕ) → withStatus status′ (tapeOn status ms d before) ≡ tapeOn status′ ms d before
   unfolding over headerWords withStatus writtenAt
   tape-marked status′ = refl
 
-  pub tape-spent : (n : ℕ) → length ms ≡ n → spent n (tapeOver status tape sort q m k p ms before) ≡ tapeOver SPENT tape sort q m k p (zeros n) before
+  pub tape-spent : (n : ℕ) → length ms ≡ n → spent n (tapeOn status ms d before) ≡ tapeOn SPENT (zeros n) d before
   unfolding over headerWords spent withStatus writtenAt zeros
   tape-spent n e =
+      let r = d .request in
       let same : length ms ≡ length (zeros n) = e ∙ sym (length-tabulate n (λ i. 0)) in
-      ap (λ (z : List ℕ). SPENT ∷ tape ∷ sortNumber sort ∷ q ∷ m ∷ k ∷ p ∷ (zeros n ++ z))
+      ap (λ (z : List ℕ). headerWords SPENT (r .tape .0) (r .sort) (r .q) (r .m) (r .k) (r .p) ++ (zeros n ++ z))
       (drop-at ms (drop (suc (suc (suc (suc (suc (suc (suc (length ms)))))))) before) (length (zeros n)) same
       ∙ ap (λ (c : ℕ). drop (suc (suc (suc (suc (suc (suc (suc c))))))) before) same)
 
 -- the matrices of a half that stands in a slot
-pub tape-matrices : (role : Role) (t : Terms) (status tape : ℕ) (sort : Sort) (q m k p : ℕ) (ls : List (List ℕ)) (before : List ℕ)
-    → Fits (t .q) (layout role (t .m) (t .k) (t .p)) ls → matrices role t (tapeOver status tape sort q m k p (join ls) before) ≡ ls
+pub tape-matrices : (role : Role) (t : Terms) (status : ℕ) (d : Dealing) (ls : List (List ℕ)) (before : List ℕ)
+    → Fits (t .q) (layout role (t .m) (t .k) (t .p)) ls → matrices role t (tapeOn status (join ls) d before) ≡ ls
 unfolding matrices body over headerWords bodySize
-tape-matrices role t status tape sort q m k p ls before f =
+tape-matrices role t status d ls before f =
     ap (parts (layout role (t .m) (t .k) (t .p))) (take-at (join ls) _ (total (layout role (t .m) (t .k) (t .p))) (fits-join f .size)) ∙ parts-join f

@@ -128,7 +128,6 @@ pub record Demand3 (size : Party → ℕ) (start : Party → List ℕ) (lent : �
   -- the dealing was handed, with mark 1. From that step on it is the same with mark 2, and from its session's end on it has mark 3, zeros in all matrices
   -- and its other words as dealt. Left's one step is both." And: "Words of the stretch past the tape are those from before the dealing." (`halfWords`)
   pub last : (w : Party) (newer older : List Entry) (d : Dealing) → o .log ≡ newer ++ dealt d ∷ older → Never (d .index) newer
-      → isSlot (slotOf size start w (d .index)) ≡ true
       → slotWords (slotOf size (o .state .pools) w (d .index))
       ≡ halfWords (o .state .sessions) w d (server newer w (d .index)) (slotWords (slotOf size (d .on .pools) w (d .index)))
   -- "A session ends by its last step, by a drop or by refusal 10 for W + V.": it is closed (0 is due) exactly from such a step on
