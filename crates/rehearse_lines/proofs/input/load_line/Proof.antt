@@ -1,0 +1,49 @@
+use mathlib.Core.Path.{_≡_, refl, sym, ap, _∙_}
+use mathlib.Core.List.{List, _++_}
+use Prim.Native.Nat.{ℕ, _+_, _*_, _-_, _/_, _%_, _≤_, _<_}
+use native.Mathlib.Omega.{arith}
+use lib.ListN.{length, getD, set, take, drop}
+use borrow.Author.Needs.{needs}
+use Rattle.rehearse_lines.proofs.Split.{first-fits, line-part}
+use Rattle.protocol.specs.Rehearsal.{lineAt}
+use Rattle.protocol.specs.Line.{numbersOf}
+use Rattle.decimal.proofs.Entry.{tallied-as}
+use Rattle.rehearse_lines.proofs.input.load_line.Statement.{statement}
+use Rattle.rehearse_lines.proofs.input.load_line.Tie as tie
+
+line-start-requires : tie.Need-line-start-requires
+line-start-requires c κs = search needs
+
+line-end-requires : tie.Need-line-end-requires
+line-end-requires c κs = search needs
+
+sub-load : tie.Need-sub-load
+sub-load c = search needs
+
+part-load-start : tie.Need-part-load-start
+part-load-start c = search needs
+
+part-load-end : tie.Need-part-load-end
+part-load-end c = omega (arith, c .line-end .ensures, first-fits (c .before .before .before .before .args .s .now) (c .before .line-start .result) (c .before .line-start .ensures .0))
+
+load-requires : tie.Need-load-requires
+load-requires c κs = search needs
+
+same-length : tie.Need-same-length
+same-length c = search needs
+
+returns : tie.Need-returns
+returns c = tallied-as _ _ (c .before .before .before .before .before .before .before .before .before .args .out .now) (c .before .before .load .last .1 .0) (c .before .before .load .result) (ap numbersOf (sym (line-part (c .before .before .before .before .before .before .before .before .before .args .s .now) (c .before .before .before .before .before .before .before .before .before .args .n) (c .before .before .before .before .before .before .line-start .result) (c .before .before .before .before .before .line-end .result) (c .before .before .before .before .before .before .line-start .ensures .1) (c .before .before .before .before .before .line-end .ensures)))) (c .before .before .load .ensures)
+
+pub load-line-spec : {M : Type 1} → statement M
+load-line-spec =
+    tie.close
+    (tie.spec
+    line-start-requires
+    line-end-requires
+    sub-load
+    part-load-start
+    part-load-end
+    load-requires
+    same-length
+    returns)

@@ -1,0 +1,62 @@
+use mathlib.Core.Path.{_≡_, refl, sym, ap, _∙_}
+use mathlib.Core.List.{List, _++_}
+use Prim.Native.Nat.{ℕ, _+_, _*_, _-_, _/_, _%_, _≤_, _<_}
+use native.Mathlib.Omega.{arith}
+use lib.ListN.{length, getD, set, take, drop}
+use borrow.Author.Needs.{needs}
+use Rattle.rehearse_lines.proofs.Split.{said}
+use Rattle.rehearse_lines.proofs.input.read.Statement.{statement}
+use Rattle.rehearse_lines.proofs.input.read.Tie as tie
+
+load-line-requires : tie.Need-load-line-requires
+load-line-requires c κs = search needs
+
+load-line-requires-2 : tie.Need-load-line-requires-2
+load-line-requires-2 c κs = search needs
+
+load-line-requires-3 : tie.Need-load-line-requires-3
+load-line-requires-3 c κs = search needs
+
+load-line-requires-4 : tie.Need-load-line-requires-4
+load-line-requires-4 c κs = search needs
+
+load-line-requires-5 : tie.Need-load-line-requires-5
+load-line-requires-5 c κs = search needs
+
+counts-requires : tie.Need-counts-requires
+counts-requires c κs = search needs
+
+same-length : tie.Need-same-length
+same-length c = search needs
+
+same-length-2 : tie.Need-same-length-2
+same-length-2 c = search needs
+
+same-length-3 : tie.Need-same-length-3
+same-length-3 c = search needs
+
+same-length-4 : tie.Need-same-length-4
+same-length-4 c = search needs
+
+same-length-5 : tie.Need-same-length-5
+same-length-5 c = search needs
+
+returns : tie.Need-returns
+returns c = let a = c .before .before .before .before .before .before .before .before .before .before .before .before .before .before .before .before .before .before .before .before .before .before .before .before .before .before .before .args in rw (c .counts .ensures) (said (a .s .now) (a .first .now) _ (a .x .now) _ (a .y .now) _ (a .dealer .now) _ (a .left .now) _ (c .before .before .before .before .before .before .before .before .before .before .before .before .before .before .before .before .before .before .before .load-line .result) (c .before .before .before .before .before .before .before .before .before .before .before .before .before .before .before .load-line2 .result) (c .before .before .before .before .before .before .before .before .before .before .before .load-line3 .result) (c .before .before .before .before .before .before .before .load-line4 .result) (c .before .before .before .load-line5 .result) (c .before .before .before .before .before .before .before .before .before .before .before .before .before .before .before .before .before .before .before .before .before .before .before .before .before .before .before .pre) (c .before .before .before .before .before .before .before .before .before .before .before .before .before .before .before .before .before .before .before .load-line .ensures) (c .before .before .before .before .before .before .before .before .before .before .before .before .before .before .before .load-line2 .ensures) (c .before .before .before .before .before .before .before .before .before .before .before .load-line3 .ensures) (c .before .before .before .before .before .before .before .load-line4 .ensures) (c .before .before .before .load-line5 .ensures))
+
+pub read-spec : {M : Type 1} → statement M
+read-spec =
+    tie.close
+    (tie.spec
+    load-line-requires
+    load-line-requires-2
+    load-line-requires-3
+    load-line-requires-4
+    load-line-requires-5
+    counts-requires
+    same-length
+    same-length-2
+    same-length-3
+    same-length-4
+    same-length-5
+    returns)

@@ -1,0 +1,38 @@
+use mathlib.Core.Path.{_≡_, refl, sym, ap, _∙_}
+use mathlib.Core.List.{List, _++_}
+use Prim.Native.Nat.{ℕ, _+_, _*_, _-_, _/_, _%_, _≤_, _<_}
+use native.Mathlib.Omega.{arith}
+use lib.ListN.{length, getD, set, take, drop}
+use borrow.Author.Needs.{needs}
+use Rattle.rehearse_lines.proofs.Stores.{named-bytes, named-stored, refusal-stored, result-stored}
+use Rattle.rehearse_lines.proofs.print.refusal.Statement.{statement}
+use Rattle.rehearse_lines.proofs.print.refusal.Tie as tie
+
+number-requires : tie.Need-number-requires
+number-requires c κs = search needs
+
+slice-aggregate-put-named : tie.Need-slice-aggregate-put-named
+slice-aggregate-put-named c = search needs
+
+slice-aggregate-put-named-2 : tie.Need-slice-aggregate-put-named-2
+slice-aggregate-put-named-2 c = search needs
+
+put-named-requires : tie.Need-put-named-requires
+put-named-requires c κs = search needs
+
+same-length : tie.Need-same-length
+same-length c = search needs
+
+returns : tie.Need-returns
+returns c = refusal-stored (c .before .before .before .before .before .before .before .before .args .r) (c .before .before .before .before .before .before .before .before .args .out .now) (c .before .before .before .before .before .before .number .result) (c .before .before .put-named .result) _ (c .before .before .before .before .before .before .number .ensures) (c .before .before .put-named .ensures .0) (omega (arith, c .before .before .put-named .ensures .1 .0, c .before .before .before .before .before .before .before .before .pre)) (c .before .before .put-named .ensures .1 .1)
+
+pub refusal-spec : {M : Type 1} → statement M
+refusal-spec =
+    tie.close
+    (tie.spec
+    number-requires
+    slice-aggregate-put-named
+    slice-aggregate-put-named-2
+    put-named-requires
+    same-length
+    returns)

@@ -1,0 +1,113 @@
+// The lines that a rehearsal prints: both messages and both shares, or a refusal.
+//   refusal, result  what is printed, over the start of the bytes that are lent
+use protocol::Head;
+use protocol::Refusal;
+ghost use mathlib.Core.Path.{_≡_};
+ghost use mathlib.Core.List.{[], _∷_, _++_};
+ghost use Prim.Native.Nat.{_+_, _*_, _≤_};
+ghost use lib.ListN.{length};
+ghost use lib.Seq.{sets};
+ghost use Rattle.algebra.specs.Words.{over};
+ghost use Rattle.protocol.specs.Judge.{refusalNumber, refused, done};
+ghost use Rattle.protocol.specs.Line.{line, messageLine, mostSent};
+ghost use Rattle.protocol.specs.Rehearsal.{printed};
+ghost use Rattle.decimal.specs.Writing.{lineBefore};
+ghost use Rattle.rehearse_lines.specs.Prints.{MOST, messageWith, runOf};
+
+// The bytes of a text, and the position behind them.
+fn put_text(text: &[u8], out: &mut [u8], at: usize) -> usize
+    requires { ⌜ at + length (now text) ≤ length (now out) ⌝ }
+    ensures place { λ r. ⌜ r ≡ at + length (now (text .entry)) ⌝ }
+    ensures contents { λ _. ⌜ now (out .exit) ≡ sets (now (out .entry)) at (now (text .entry)) ⌝ }
+{
+    let mut j = 0;
+    while j < text.len() {
+        out[at + j] = text[j];
+        j += 1;
+    }
+    at + j
+}
+
+// Numbers of a line behind which `more` numbers are to stand: each takes at most 11 bytes.
+fn put_run(xs: &[u32], more: usize, out: &mut [u8], at: usize) -> usize
+    requires { ⌜ (at + 11 * length (now xs) ≤ length (now out)) × (more ≤ mostSent) ⌝ }
+    ensures place { λ r. ⌜ r ≡ at + length (lineBefore more (now (xs .entry))) ⌝ }
+    ensures few { λ r. ⌜ r ≤ at + 11 * length (now (xs .entry)) ⌝ }
+    ensures contents { λ _. ⌜ now (out .exit) ≡ sets (now (out .entry)) at (lineBefore more (now (xs .entry))) ⌝ }
+{
+    decimal::put_numbers(xs, more, out, at)
+}
+
+// The line of a message, and the position behind it.
+fn put_message(h: Head, residues: &[u32], out: &mut [u8], at: usize) -> usize
+    requires { ⌜ (at + 11 * (7 + length (now residues)) ≤ length (now out)) × (length (now residues) ≤ mostSent) ⌝ }
+    ensures place { λ r. ⌜ r ≡ at + length (messageLine (messageWith h (now (residues .entry)))) ⌝ }
+    ensures few { λ r. ⌜ r ≤ at + 11 * (7 + length (now (residues .entry))) ⌝ }
+    ensures contents { λ _. ⌜ now (out .exit) ≡ sets (now (out .entry)) at (messageLine (messageWith h (now (residues .entry)))) ⌝ }
+{
+    let t = h.terms;
+    let session = t.session;
+    let tape = t.tape;
+    let words = [h.kind, session.0, tape.0, t.q, t.m, t.k, t.p];
+    let behind = put_run(&words, residues.len(), out, at);
+    put_run(residues, 0, out, behind)
+}
+
+// A text, and a line of numbers behind it.
+fn put_named(name: &[u8], xs: &[u32], out: &mut [u8], at: usize) -> usize
+    requires { ⌜ at + length (now name) + 11 * length (now xs) ≤ length (now out) ⌝ }
+    ensures place { λ r. ⌜ r ≡ at + length (now (name .entry) ++ line (now (xs .entry))) ⌝ }
+    ensures few { λ r. ⌜ r ≤ at + length (now (name .entry)) + 11 * length (now (xs .entry)) ⌝ }
+    ensures contents { λ _. ⌜ now (out .exit) ≡ sets (now (out .entry)) at (now (name .entry) ++ line (now (xs .entry))) ⌝ }
+{
+    let behind = put_text(name, out, at);
+    put_run(xs, 0, out, behind)
+}
+
+// 01's number of a refusal.
+fn number(r: Refusal) -> u32
+    ensures { λ n. ⌜ n ≡ refusalNumber r ⌝ }
+{
+    match r {
+        Refusal::Form => 1,
+        Refusal::Modulus => 2,
+        Refusal::Composite => 3,
+        Refusal::Size => 4,
+        Refusal::Turn => 5,
+        Refusal::Mark => 6,
+        Refusal::Stranger => 7,
+        Refusal::Residue => 8,
+        Refusal::Dry => 9,
+        Refusal::Singular => 10,
+    }
+}
+
+// 01: "nothing but `refused,` and the lowest number that applies"
+pub fn refusal(r: Refusal, out: &mut [u8]) -> usize
+    requires { ⌜ MOST ≤ length (now out) ⌝ }
+    ensures place { λ n. ⌜ n ≡ length (printed (refused r)) ⌝ }
+    ensures contents { λ _. ⌜ now (out .exit) ≡ over (printed (refused r)) (now (out .entry)) ⌝ }
+{
+    let words = [number(r)];
+    put_named(b"refused,", &words, out, 0)
+}
+
+// 01: "the two messages, then each share after its end's name"
+pub fn result(
+    one: Head,
+    y1: &[u32],
+    two: Head,
+    x1r1: &[u32],
+    left: &[u32],
+    right: &[u32],
+    out: &mut [u8],
+) -> usize
+    requires { ⌜ (MOST ≤ length (now out)) × (length (now y1) ≤ 2048) × (length (now x1r1) ≤ 3072) × (length (now left) ≤ 1024) × (length (now right) ≤ 1024) ⌝ }
+    ensures place { λ n. ⌜ n ≡ length (printed (done (runOf one (now (y1 .entry)) two (now (x1r1 .entry)) (now (left .entry)) (now (right .entry))))) ⌝ }
+    ensures contents { λ _. ⌜ now (out .exit) ≡ over (printed (done (runOf one (now (y1 .entry)) two (now (x1r1 .entry)) (now (left .entry)) (now (right .entry))))) (now (out .entry)) ⌝ }
+{
+    let a = put_message(one, y1, out, 0);
+    let b = put_message(two, x1r1, out, a);
+    let c = put_named(b"left,", left, out, b);
+    put_named(b"right,", right, out, c)
+}
