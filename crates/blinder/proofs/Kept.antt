@@ -1,0 +1,60 @@
+-- Arrays that hold a vector or a matrix at their start, and the sizes that a system's sides bound.
+--   zero-array, kept-array   an array of zeros, and one that a list was copied into
+--   side-bound, scratch-bound, scratch-sum
+-- Assumes nothing.
+use mathlib.Core.Path.{_≡_, refl, sym, ap, _∙_}
+use mathlib.Core.Bool.{true}
+use mathlib.Core.List.{List, [], _∷_}
+use Prim.Native.Nat.{ℕ, zero, suc, _+_, _-_, _*_, _≤_}
+use native.Mathlib.Nat.{mul-le-mul}
+use native.Mathlib.Omega.{arith}
+use lib.ListN.{length, getD, replicate}
+use Rattle.algebra.specs.Matrix.{tabulate, zeros}
+use Rattle.algebra.specs.Words.{over}
+use Rattle.protocol.specs.declared.Terms.{Terms}
+use Rattle.protocol.specs.Bounds.{sidesFit, system, columns}
+use Rattle.protocol.specs.System.{padded, sideSize, scratchSize}
+use Rattle.matrix.specs.Fill.{firstWords}
+use Rattle.session.proofs.Shape.{unknowns}
+
+pub zero-array : (n : ℕ) → replicate n 0 ≡ zeros n
+unfolding zeros tabulate
+zero-array zero = refl
+zero-array (suc n) = ap {B = List ℕ} (λ r. 0 ∷ r) (zero-array n)
+
+whole-list : (l : List ℕ) → tabulate (length l) (λ e. getD l e 0) ≡ l
+unfolding tabulate
+whole-list [] = refl
+whole-list (x ∷ l) = ap {B = List ℕ} (λ r. x ∷ r) (whole-list l)
+
+pub kept-array : (n : ℕ) (l kept : List ℕ) → kept ≡ over (firstWords (length l) l) (replicate n 0) → kept ≡ padded n l
+unfolding padded firstWords
+kept-array n l kept e = e ∙ rw (whole-list l, zero-array n)
+
+module _ (t : Terms) (fits : sidesFit system (t .m) (t .k) (t .p) ≡ true) where
+  pub side-is : t .m * (t .p - t .m) ≡ sideSize t
+  unfolding sideSize columns
+  side-is = refl
+
+  pub side-bound : sideSize t ≤ 16
+  unfolding sideSize columns
+  side-bound =
+      let u = unknowns (t .m) (t .k) (t .p) fits in
+      let one : t .p - t .m ≤ 1 = omega (arith, u .wide) in
+      mul-le-mul {n₁ = t .m} {m₁ = t .p - t .m} {n₂ = 16} {m₂ = 1} (u .few) one
+
+  pub square-bound : t .m * t .m ≤ 256
+  square-bound = let u = unknowns (t .m) (t .k) (t .p) fits in mul-le-mul {n₁ = t .m} {m₁ = t .m} {n₂ = 16} {m₂ = 16} (u .few) (u .few)
+
+  pub wide-bound : t .m * t .p ≤ 272
+  wide-bound =
+      let u = unknowns (t .m) (t .k) (t .p) fits in
+      let p : t .p ≤ 17 = omega (arith, u .wide, u .few) in
+      mul-le-mul {n₁ = t .m} {m₁ = t .p} {n₂ = 16} {m₂ = 17} (u .few) p
+
+  pub wide-enough : t .m ≤ t .p
+  wide-enough = let u = unknowns (t .m) (t .k) (t .p) fits in omega (arith, u .wide)
+
+pub scratch-sum : (t : Terms) → t .m * t .m + t .m * t .p ≡ scratchSize t
+unfolding scratchSize
+scratch-sum t = refl

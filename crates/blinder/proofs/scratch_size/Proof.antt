@@ -1,0 +1,24 @@
+use mathlib.Core.Path.{_≡_, refl, sym, ap, _∙_}
+use mathlib.Core.List.{List, _++_}
+use Prim.Native.Nat.{ℕ, _+_, _*_, _-_, _/_, _%_, _≤_, _<_}
+use native.Mathlib.Omega.{arith}
+use lib.ListN.{length, getD, set, take, drop}
+use borrow.Author.Needs.{needs}
+use Rattle.blinder.proofs.Kept.{zero-array, kept-array, side-is, side-bound, square-bound, wide-bound, wide-enough, scratch-sum}
+use Rattle.blinder.proofs.scratch_size.Statement.{statement}
+use Rattle.blinder.proofs.scratch_size.Tie as tie
+
+times-requires : tie.Need-times-requires
+times-requires c κs = search needs
+
+times-requires-2 : tie.Need-times-requires-2
+times-requires-2 c κs = search needs
+
+add-result : tie.Need-add-result
+add-result c = omega (arith, c .before .times .ensures, c .times2 .ensures, square-bound (c .before .before .args .t) (c .before .before .pre), wide-bound (c .before .before .args .t) (c .before .before .pre))
+
+returns : tie.Need-returns
+returns c = omega (arith, c .before .times .ensures, c .times2 .ensures, scratch-sum (c .before .before .args .t))
+
+pub scratch-size-spec : {M : Type 1} → statement M
+scratch-size-spec = tie.close (tie.spec times-requires times-requires-2 add-result returns)

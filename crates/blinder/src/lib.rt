@@ -1,0 +1,89 @@
+// What the blinder's three steps share.
+//   BlinderAnswer               what each of them answers
+//   opened, closed              its sessions, which keep M and y
+//   side_size, scratch_size     how many residues y has, and P with U0
+use checks::times;
+use matrix::write_copy;
+use protocol::Answer;
+use protocol::BlinderSession;
+use protocol::Head;
+use protocol::Terms;
+ghost use mathlib.Core.Path.{_≡_};
+ghost use mathlib.Core.Bool.{true};
+ghost use Prim.Native.Nat.{_≤_};
+ghost use lib.ListN.{length};
+ghost use Rattle.algebra.specs.Matrix.{zeros};
+ghost use Rattle.protocol.specs.Bounds.{sidesFit, system};
+ghost use Rattle.protocol.specs.System.{padded, sideSize, scratchSize};
+
+// The session is as handed over where the step is refused; `head` is that of the message it sends.
+pub struct BlinderAnswer {
+    pub answer: Answer,
+    pub session: BlinderSession,
+    pub head: Head,
+}
+
+// M at the start of its array.
+fn keep_matrix(mm: &[u32]) -> [u32; 256]
+    requires { ⌜ length (now mm) ≤ 256 ⌝ }
+    ensures { λ r. ⌜ r ≡ padded 256 (now (mm .entry)) ⌝ }
+{
+    let mut kept = [0u32; 256];
+    write_copy(mm.len(), mm, &mut kept);
+    kept
+}
+
+// y at the start of its array.
+fn keep_vector(y: &[u32]) -> [u32; 16]
+    requires { ⌜ length (now y) ≤ 16 ⌝ }
+    ensures { λ r. ⌜ r ≡ padded 16 (now (y .entry)) ⌝ }
+{
+    let mut kept = [0u32; 16];
+    write_copy(y.len(), y, &mut kept);
+    kept
+}
+
+// The session after the first step.
+pub fn opened(t: Terms, mm: &[u32], y: &[u32]) -> BlinderSession
+    requires { ⌜ (length (now mm) ≤ 256) × (length (now y) ≤ 16) ⌝ }
+    ensures { λ r. ⌜ r ≡ record { terms = t; due = 3; mm = padded 256 (now (mm .entry)); y = padded 16 (now (y .entry)) } ⌝ }
+{
+    let matrix = keep_matrix(mm);
+    let vector = keep_vector(y);
+    BlinderSession {
+        terms: t,
+        due: 3,
+        mm: matrix,
+        y: vector,
+    }
+}
+
+// A session that is not open, with these terms; it keeps zeros.
+pub fn closed(t: Terms) -> BlinderSession
+    ensures { λ r. ⌜ r ≡ record { terms = t; due = 0; mm = zeros 256; y = zeros 16 } ⌝ }
+{
+    let matrix = [0u32; 256];
+    let vector = [0u32; 16];
+    BlinderSession {
+        terms: t,
+        due: 0,
+        mm: matrix,
+        y: vector,
+    }
+}
+
+// How many residues y has.
+pub fn side_size(t: Terms) -> usize
+    requires { ⌜ sidesFit system (t .m) (t .k) (t .p) ≡ true ⌝ }
+    ensures { λ r. ⌜ r ≡ sideSize t ⌝ }
+{
+    times(t.m, t.p - t.m)
+}
+
+// How many residues P and U0 have.
+pub fn scratch_size(t: Terms) -> usize
+    requires { ⌜ sidesFit system (t .m) (t .k) (t .p) ≡ true ⌝ }
+    ensures { λ r. ⌜ r ≡ scratchSize t ⌝ }
+{
+    times(t.m, t.m) + times(t.m, t.p)
+}

@@ -1,0 +1,105 @@
+use mathlib.Core.Path.{_≡_, refl, sym, ap, _∙_}
+use mathlib.Core.List.{List, _++_}
+use Prim.Native.Nat.{ℕ, _+_, _*_, _-_, _/_, _%_, _≤_, _<_}
+use native.Mathlib.Omega.{arith}
+use lib.ListN.{length, getD, set, take, drop}
+use borrow.Author.Needs.{needs}
+use Rattle.session.proofs.Join.{also, hands-on, goes-past}
+use mathlib.Core.List.{[], _∷_}
+use Rattle.blinder_first.specs.Groups.{firstLengths, firstWords, firstRegular}
+use Rattle.protocol.specs.System.{keptTests, regularTests}
+use Rattle.session.proofs.Shape.{few, unknowns}
+use Rattle.session.proofs.Slot.{slot-part, slot-part-length, slot-written, half-body, in-use-length}
+use Rattle.protocol.specs.Tape.{slotAt, blinder, wordsInUse}
+use Rattle.protocol.specs.Bounds.{system}
+use Rattle.steps.proofs.Fits.{received-fits}
+use Rattle.blinder_first.proofs.Known.{eliminable, p-drawn, p-residues, first-known, first-shape}
+use Rattle.checks.specs.InOrder.{checked, after}
+use Rattle.blinder_first.proofs.Order.{first-phases}
+use Rattle.blinder_first.proofs.check.Statement.{statement}
+use Rattle.blinder_first.proofs.check.Tie as tie
+
+check-numbers-requires : tie.Need-check-numbers-requires
+check-numbers-requires c κs = search needs
+
+enum-told : tie.Need-enum-told
+enum-told c = search needs
+
+enum-told-2 : tie.Need-enum-told-2
+enum-told-2 c = search needs
+
+returns : tie.Need-returns
+returns c = hands-on (c .before .before .check-numbers .result) _ (c .before .before .check-numbers .ensures) (c .enum-told2 .given .1) ∙ sym (first-phases (c .before .before .before .before .before .before .before .before .args .t) (slotAt (c .before .before .before .before .before .before .before .before .args .pool .now) (c .before .before .before .before .before .before .before .before .args .size) (c .before .before .before .before .before .before .before .before .args .index)) (c .before .before .before .before .before .before .before .before .args .scratch) (c .before .before .before .before .before .before .before .before .args .mm .now) (c .before .before .before .before .before .before .before .before .args .y .now) (c .before .before .before .before .before .before .before .before .args .words .now) (c .before .before .before .before .before .before .before .before .args .a) (c .before .before .before .before .before .before .before .before .args .residues .now) (c .before .before .before .before .before .before .before .before .args .room))
+
+check-lengths-requires : tie.Need-check-lengths-requires
+check-lengths-requires c κs = let k = received-fits blinder (c .before .before .before .before .before .before .before .before .args .t) (c .before .before .before .before .before .before .before .before .args .a) _ _ _ _ (sym (c .before .before .check-numbers .ensures) ∙ ap checked (c .enum-told .given .1)) in k .sides-fit
+
+enum-told-3 : tie.Need-enum-told-3
+enum-told-3 c = search needs
+
+enum-told-4 : tie.Need-enum-told-4
+enum-told-4 c = search needs
+
+returns-2 : tie.Need-returns-2
+returns-2 c = hands-on (c .before .before .check-lengths .result) _ (c .before .before .check-lengths .ensures) (c .enum-told4 .given .1) ∙ sym (first-phases (c .before .before .before .before .before .before .before .before .before .before .before .args .t) (slotAt (c .before .before .before .before .before .before .before .before .before .before .before .args .pool .now) (c .before .before .before .before .before .before .before .before .before .before .before .args .size) (c .before .before .before .before .before .before .before .before .before .before .before .args .index)) (c .before .before .before .before .before .before .before .before .before .before .before .args .scratch) (c .before .before .before .before .before .before .before .before .before .before .before .args .mm .now) (c .before .before .before .before .before .before .before .before .before .before .before .args .y .now) (c .before .before .before .before .before .before .before .before .before .before .before .args .words .now) (c .before .before .before .before .before .before .before .before .before .before .before .args .a) (c .before .before .before .before .before .before .before .before .before .before .before .args .residues .now) (c .before .before .before .before .before .before .before .before .before .before .before .args .room) ∙ goes-past (c .before .before .before .before .before .check-numbers .result) (c .before .before .before .before .before .check-numbers .ensures) (c .before .before .before .enum-told .given .1))
+
+mul-at : tie.Need-mul-at
+mul-at c = let k = received-fits blinder (c .before .before .before .before .before .before .before .before .before .before .before .args .t) (c .before .before .before .before .before .before .before .before .before .before .before .args .a) _ _ _ _ (sym (c .before .before .before .before .before .check-numbers .ensures) ∙ ap checked (c .before .before .before .enum-told .given .1)) .inside in search needs
+
+add-end : tie.Need-add-end
+add-end c = let k = received-fits blinder (c .before .before .before .before .before .before .before .before .before .before .before .args .t) (c .before .before .before .before .before .before .before .before .before .before .before .args .a) _ _ _ _ (sym (c .before .before .before .before .before .check-numbers .ensures) ∙ ap checked (c .before .before .before .enum-told .given .1)) .inside in search needs
+
+mul-check-words : tie.Need-mul-check-words
+mul-check-words c = let k = received-fits blinder (c .before .before .before .before .before .before .before .before .before .before .before .args .t) (c .before .before .before .before .before .before .before .before .before .before .before .args .a) _ _ _ _ (sym (c .before .before .before .before .before .check-numbers .ensures) ∙ ap checked (c .before .before .before .enum-told .given .1)) .inside in search needs
+
+sub-check-words : tie.Need-sub-check-words
+sub-check-words c = search needs
+
+part-check-words-start : tie.Need-part-check-words-start
+part-check-words-start c = search needs
+
+part-check-words-end : tie.Need-part-check-words-end
+part-check-words-end c = let k = received-fits blinder (c .before .before .before .before .before .before .before .before .before .before .before .args .t) (c .before .before .before .before .before .before .before .before .before .before .before .args .a) _ _ _ _ (sym (c .before .before .before .before .before .check-numbers .ensures) ∙ ap checked (c .before .before .before .enum-told .given .1)) .inside in search needs
+
+check-words-requires : tie.Need-check-words-requires
+check-words-requires c κs = let k = received-fits blinder (c .before .before .before .before .before .before .before .before .before .before .before .before .args .t) (c .before .before .before .before .before .before .before .before .before .before .before .before .args .a) _ _ _ _ (sym (c .before .before .before .before .before .before .check-numbers .ensures) ∙ ap checked (c .before .before .before .before .enum-told .given .1)) in (k .sides-fit, omega (arith, k .half, slot-part-length (c .before .before .before .before .before .before .before .before .before .before .before .before .args .pool .now) (c .before .before .before .before .before .before .before .before .before .before .before .before .args .size) (c .before .before .before .before .before .before .before .before .before .before .before .before .args .index) (k .inside)))
+
+enum-told-5 : tie.Need-enum-told-5
+enum-told-5 c = search needs
+
+enum-told-6 : tie.Need-enum-told-6
+enum-told-6 c = search needs
+
+returns-3 : tie.Need-returns-3
+returns-3 c = hands-on (c .before .before .check-words .result) _ ((rw (slot-part (c .before .before .before .before .before .before .before .before .before .before .before .before .before .before .before .args .pool .now) (c .before .before .before .before .before .before .before .before .before .before .before .before .before .before .before .args .size) (c .before .before .before .before .before .before .before .before .before .before .before .before .before .before .before .args .index)) at (c .before .before .check-words .ensures))) (c .enum-told6 .given .1) ∙ sym (first-phases (c .before .before .before .before .before .before .before .before .before .before .before .before .before .before .before .args .t) (slotAt (c .before .before .before .before .before .before .before .before .before .before .before .before .before .before .before .args .pool .now) (c .before .before .before .before .before .before .before .before .before .before .before .before .before .before .before .args .size) (c .before .before .before .before .before .before .before .before .before .before .before .before .before .before .before .args .index)) (c .before .before .before .before .before .before .before .before .before .before .before .before .before .before .before .args .scratch) (c .before .before .before .before .before .before .before .before .before .before .before .before .before .before .before .args .mm .now) (c .before .before .before .before .before .before .before .before .before .before .before .before .before .before .before .args .y .now) (c .before .before .before .before .before .before .before .before .before .before .before .before .before .before .before .args .words .now) (c .before .before .before .before .before .before .before .before .before .before .before .before .before .before .before .args .a) (c .before .before .before .before .before .before .before .before .before .before .before .before .before .before .before .args .residues .now) (c .before .before .before .before .before .before .before .before .before .before .before .before .before .before .before .args .room) ∙ goes-past (c .before .before .before .before .before .before .before .before .before .check-numbers .result) (c .before .before .before .before .before .before .before .before .before .check-numbers .ensures) (c .before .before .before .before .before .before .before .enum-told .given .1) ∙ goes-past (c .before .before .before .before .before .before .check-lengths .result) (c .before .before .before .before .before .before .check-lengths .ensures) (c .before .before .before .before .enum-told3 .given .1))
+
+check-drawn-requires : tie.Need-check-drawn-requires
+check-drawn-requires c κs = let k = received-fits blinder (c .before .before .before .before .before .before .before .before .before .before .before .before .before .before .before .args .t) (c .before .before .before .before .before .before .before .before .before .before .before .before .before .before .before .args .a) _ _ _ _ (sym (c .before .before .before .before .before .before .before .before .before .check-numbers .ensures) ∙ ap checked (c .before .before .before .before .before .before .before .enum-told .given .1)) in eliminable (c .before .before .before .before .before .before .before .before .before .before .before .before .before .before .before .args .t) (c .before .before .before .before .before .before .before .before .before .before .before .before .before .before .before .args .a) _ (c .before .before .before .before .before .before .before .before .before .before .before .before .before .before .before .args .residues .now) (c .before .before .before .before .before .before .before .before .before .before .before .before .before .before .before .args .mm .now) (c .before .before .before .before .before .before .before .before .before .before .before .before .before .before .before .args .y .now) _ _ _ _ k (sym (c .before .before .before .before .before .before .check-lengths .ensures) ∙ ap checked (c .before .before .before .before .enum-told3 .given .1)) (sym (c .before .before .check-words .ensures) ∙ ap checked (c .enum-told5 .given .1))
+
+returns-4 : tie.Need-returns-4
+returns-4 c = c .check-drawn .ensures ∙ sym (first-phases (c .before .before .before .before .before .before .before .before .before .before .before .before .before .before .before .before .args .t) (slotAt (c .before .before .before .before .before .before .before .before .before .before .before .before .before .before .before .before .args .pool .now) (c .before .before .before .before .before .before .before .before .before .before .before .before .before .before .before .before .args .size) (c .before .before .before .before .before .before .before .before .before .before .before .before .before .before .before .before .args .index)) (c .before .before .before .before .before .before .before .before .before .before .before .before .before .before .before .before .args .scratch) (c .before .before .before .before .before .before .before .before .before .before .before .before .before .before .before .before .args .mm .now) (c .before .before .before .before .before .before .before .before .before .before .before .before .before .before .before .before .args .y .now) (c .before .before .before .before .before .before .before .before .before .before .before .before .before .before .before .before .args .words .now) (c .before .before .before .before .before .before .before .before .before .before .before .before .before .before .before .before .args .a) (c .before .before .before .before .before .before .before .before .before .before .before .before .before .before .before .before .args .residues .now) (c .before .before .before .before .before .before .before .before .before .before .before .before .before .before .before .before .args .room) ∙ goes-past (c .before .before .before .before .before .before .before .before .before .before .check-numbers .result) (c .before .before .before .before .before .before .before .before .before .before .check-numbers .ensures) (c .before .before .before .before .before .before .before .before .enum-told .given .1) ∙ goes-past (c .before .before .before .before .before .before .before .check-lengths .result) (c .before .before .before .before .before .before .before .check-lengths .ensures) (c .before .before .before .before .before .enum-told3 .given .1) ∙ goes-past (c .before .before .before .check-words .result) ((rw (slot-part (c .before .before .before .before .before .before .before .before .before .before .before .before .before .before .before .before .args .pool .now) (c .before .before .before .before .before .before .before .before .before .before .before .before .before .before .before .before .args .size) (c .before .before .before .before .before .before .before .before .before .before .before .before .before .before .before .before .args .index)) at (c .before .before .before .check-words .ensures))) (c .before .enum-told5 .given .1))
+
+pub check-spec : {M : Type 1} → statement M
+check-spec =
+    tie.close
+    (tie.spec
+    check-numbers-requires
+    enum-told
+    enum-told-2
+    returns
+    check-lengths-requires
+    enum-told-3
+    enum-told-4
+    returns-2
+    mul-at
+    add-end
+    mul-check-words
+    sub-check-words
+    part-check-words-start
+    part-check-words-end
+    check-words-requires
+    enum-told-5
+    enum-told-6
+    returns-3
+    check-drawn-requires
+    returns-4)

@@ -1,0 +1,84 @@
+use mathlib.Core.Path.{_≡_, refl, sym, ap, _∙_}
+use mathlib.Core.List.{List, _++_}
+use Prim.Native.Nat.{ℕ, _+_, _*_, _-_, _/_, _%_, _≤_, _<_}
+use native.Mathlib.Omega.{arith}
+use lib.ListN.{length, getD, set, take, drop}
+use borrow.Author.Needs.{needs}
+use Rattle.session.proofs.Join.{also, hands-on, goes-past}
+use mathlib.Core.List.{[], _∷_}
+use Rattle.blinder_first.specs.Groups.{firstLengths, firstWords, firstRegular}
+use Rattle.protocol.specs.System.{keptTests, regularTests}
+use Rattle.session.proofs.Shape.{few, unknowns}
+use Rattle.session.proofs.Slot.{slot-part, slot-part-length, slot-written, half-body, in-use-length}
+use Rattle.protocol.specs.Tape.{slotAt, blinder, wordsInUse}
+use Rattle.protocol.specs.Bounds.{system}
+use Rattle.steps.proofs.Fits.{received-fits}
+use Rattle.blinder_first.proofs.Known.{eliminable, p-drawn, p-residues, first-known, first-shape}
+use Rattle.blinder_first.proofs.Coins.{dry-refused, dry-passed, enough, coins-part, part-then, sum-length}
+use Rattle.protocol.specs.Drawing.{residuesOf}
+use Rattle.drawing.proofs.Then.{drawn-count}
+use Rattle.blinder.proofs.Kept.{side-bound, square-bound, scratch-sum}
+use lib.ListN.{length-replicate}
+use Rattle.blinder_first.proofs.check_regular.Statement.{statement}
+use Rattle.blinder_first.proofs.check_regular.Tie as tie
+
+cast-n : tie.Need-cast-n
+cast-n c = search needs
+
+times-requires : tie.Need-times-requires
+times-requires c κs = search needs
+
+slice-aggregate-draw : tie.Need-slice-aggregate-draw
+slice-aggregate-draw c = search needs
+
+draw-requires : tie.Need-draw-requires
+draw-requires c κs = let few : c .before .times .result ≤ length (residuesOf (c .before .before .before .before .before .args .t .q) (c .before .before .before .before .before .args .words .now)) = omega (arith, c .before .times .ensures, scratch-sum (c .before .before .before .before .before .args .t), c .before .before .before .before .before .pre .1) in
+    (c .before .before .before .before .before .pre .0 .some-q, few, omega (arith, c .before .times .ensures, square-bound (c .before .before .before .before .before .args .t) (c .before .before .before .before .before .pre .0 .sides), length-replicate {A = ℕ} 256 0))
+
+has-inverse-requires : tie.Need-has-inverse-requires
+has-inverse-requires c κs = (c .before .before .before .before .before .before .before .pre .0 .prime, c .before .before .before .before .before .before .before .pre .0 .small-q, unknowns (c .before .before .before .before .before .before .before .args .t .m) (c .before .before .before .before .before .before .before .args .t .k) (c .before .before .before .before .before .before .before .args .t .p) (c .before .before .before .before .before .before .before .pre .0 .sides) .few, c .before .before .before .before .before .before .before .pre .0 .residues)
+
+need-requires : tie.Need-need-requires
+need-requires c κs = search needs
+
+array-share-prefix-pm : tie.Need-array-share-prefix-pm
+array-share-prefix-pm c = omega (arith, c .before .before .before .before .before .times .ensures, square-bound (c .before .before .before .before .before .before .before .before .before .args .t) (c .before .before .before .before .before .before .before .before .before .pre .0 .sides))
+
+slice-aggregate-has-inverse : tie.Need-slice-aggregate-has-inverse
+slice-aggregate-has-inverse c = let few : c .before .before .before .before .before .before .times .result ≤ length (residuesOf (c .before .before .before .before .before .before .before .before .before .before .args .t .q) (c .before .before .before .before .before .before .before .before .before .before .args .words .now)) = omega (arith, c .before .before .before .before .before .before .times .ensures, scratch-sum (c .before .before .before .before .before .before .before .before .before .before .args .t), c .before .before .before .before .before .before .before .before .before .before .pre .1) in
+    let u = coins-part _ _ (c .before .before .before .before .before .before .before .before .before .before .args .words .now) _ _ few (c .before .before .before .before .draw .ensures .1) in
+    sym (ap length u ∙ drawn-count _ _ _ few)
+
+has-inverse-requires-2 : tie.Need-has-inverse-requires-2
+has-inverse-requires-2 c κs = let few : c .before .before .before .before .before .before .times .result ≤ length (residuesOf (c .before .before .before .before .before .before .before .before .before .before .args .t .q) (c .before .before .before .before .before .before .before .before .before .before .args .words .now)) = omega (arith, c .before .before .before .before .before .before .times .ensures, scratch-sum (c .before .before .before .before .before .before .before .before .before .before .args .t), c .before .before .before .before .before .before .before .before .before .before .pre .1) in
+    let u = coins-part _ _ (c .before .before .before .before .before .before .before .before .before .before .args .words .now) _ _ few (c .before .before .before .before .draw .ensures .1) in
+    (c .before .before .before .before .before .before .before .before .before .before .pre .0 .prime, c .before .before .before .before .before .before .before .before .before .before .pre .0 .small-q, unknowns (c .before .before .before .before .before .before .before .before .before .before .args .t .m) (c .before .before .before .before .before .before .before .before .before .before .args .t .k) (c .before .before .before .before .before .before .before .before .before .before .args .t .p) (c .before .before .before .before .before .before .before .before .before .before .pre .0 .sides) .few, rw (u, c .before .before .before .before .before .before .times .ensures) (p-residues (c .before .before .before .before .before .before .before .before .before .before .args .t .q) (c .before .before .before .before .before .before .before .before .before .before .args .t .m * c .before .before .before .before .before .before .before .before .before .before .args .t .m) (c .before .before .before .before .before .before .before .before .before .before .args .words .now) (c .before .before .before .before .before .before .before .before .before .before .pre .0 .some-q) (omega (arith, scratch-sum (c .before .before .before .before .before .before .before .before .before .before .args .t), c .before .before .before .before .before .before .before .before .before .before .pre .1))))
+
+need-requires-2 : tie.Need-need-requires-2
+need-requires-2 c κs = search needs
+
+worst-requires : tie.Need-worst-requires
+worst-requires c κs = search needs
+
+returns : tie.Need-returns
+unfolding firstRegular regularTests
+returns c = let few : c .before .before .before .before .before .before .before .before .before .times .result ≤ length (residuesOf (c .before .before .before .before .before .before .before .before .before .before .before .before .before .args .t .q) (c .before .before .before .before .before .before .before .before .before .before .before .before .before .args .words .now)) = omega (arith, c .before .before .before .before .before .before .before .before .before .times .ensures, scratch-sum (c .before .before .before .before .before .before .before .before .before .before .before .before .before .args .t), c .before .before .before .before .before .before .before .before .before .before .before .before .before .pre .1) in
+    let u = coins-part _ _ (c .before .before .before .before .before .before .before .before .before .before .before .before .before .args .words .now) _ _ few (c .before .before .before .before .before .before .before .draw .ensures .1) in
+    also (_ ∷ []) _ (c .worst .ensures) (rw (c .before .before .before .before .before .has-inverse .ensures) at (c .before .before .before .before .need .ensures)) (rw (c .before .before .has-inverse2 .ensures, u, c .before .before .before .before .before .before .before .before .before .times .ensures, p-drawn (c .before .before .before .before .before .before .before .before .before .before .before .before .before .args .t) (c .before .before .before .before .before .before .before .before .before .before .before .before .before .args .words .now)) at (c .before .need2 .ensures))
+
+pub check-regular-spec : {M : Type 1} → statement M
+check-regular-spec =
+    tie.close
+    (tie.spec
+    cast-n
+    times-requires
+    slice-aggregate-draw
+    draw-requires
+    has-inverse-requires
+    need-requires
+    array-share-prefix-pm
+    slice-aggregate-has-inverse
+    has-inverse-requires-2
+    need-requires-2
+    worst-requires
+    returns)

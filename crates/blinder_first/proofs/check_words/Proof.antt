@@ -1,0 +1,55 @@
+use mathlib.Core.Path.{_≡_, refl, sym, ap, _∙_}
+use mathlib.Core.List.{List, _++_}
+use Prim.Native.Nat.{ℕ, _+_, _*_, _-_, _/_, _%_, _≤_, _<_}
+use native.Mathlib.Omega.{arith}
+use lib.ListN.{length, getD, set, take, drop}
+use borrow.Author.Needs.{needs}
+use Rattle.session.proofs.Join.{also, hands-on, goes-past}
+use mathlib.Core.List.{[], _∷_}
+use Rattle.blinder_first.specs.Groups.{firstLengths, firstWords, firstRegular}
+use Rattle.protocol.specs.System.{keptTests, regularTests}
+use Rattle.session.proofs.Shape.{few, unknowns}
+use Rattle.session.proofs.Slot.{slot-part, slot-part-length, slot-written, half-body, in-use-length}
+use Rattle.protocol.specs.Tape.{slotAt, blinder, wordsInUse}
+use Rattle.protocol.specs.Bounds.{system}
+use Rattle.steps.proofs.Fits.{received-fits}
+use Rattle.blinder_first.proofs.check_words.Statement.{statement}
+use Rattle.blinder_first.proofs.check_words.Tie as tie
+
+check-words-requires : tie.Need-check-words-requires
+check-words-requires c κs = search needs
+
+all-below-requires : tie.Need-all-below-requires
+all-below-requires c κs = search needs
+
+need-requires : tie.Need-need-requires
+need-requires c κs = search needs
+
+all-below-requires-2 : tie.Need-all-below-requires-2
+all-below-requires-2 c κs = search needs
+
+need-requires-2 : tie.Need-need-requires-2
+need-requires-2 c κs = search needs
+
+worst-requires : tie.Need-worst-requires
+worst-requires c κs = search needs
+
+worst-requires-2 : tie.Need-worst-requires-2
+worst-requires-2 c κs = search needs
+
+returns : tie.Need-returns
+unfolding firstWords keptTests
+returns c = also _ _ (c .worst2 .ensures) (c .before .before .before .before .before .before .check-words .ensures) (also (_ ∷ []) _ (c .before .worst .ensures) (rw (c .before .before .before .before .before .all-below .ensures) at (c .before .before .before .before .need .ensures)) (rw (c .before .before .before .all-below2 .ensures) at (c .before .before .need2 .ensures)))
+
+pub check-words-spec : {M : Type 1} → statement M
+check-words-spec =
+    tie.close
+    (tie.spec
+    check-words-requires
+    all-below-requires
+    need-requires
+    all-below-requires-2
+    need-requires-2
+    worst-requires
+    worst-requires-2
+    returns)

@@ -1,0 +1,78 @@
+use mathlib.Core.Path.{_≡_, refl, sym, ap, _∙_}
+use mathlib.Core.List.{List, _++_}
+use Prim.Native.Nat.{ℕ, _+_, _*_, _-_, _/_, _%_, _≤_, _<_}
+use native.Mathlib.Omega.{arith}
+use lib.ListN.{length, getD, set, take, drop}
+use borrow.Author.Needs.{needs}
+use Rattle.session.proofs.Shape.{few, unknowns}
+use Rattle.session.proofs.Slot.{slot-part, slot-part-length, slot-written, half-body, in-use-length}
+use Rattle.protocol.specs.Tape.{slotAt, blinder, wordsInUse}
+use Rattle.protocol.specs.Bounds.{system}
+use Rattle.steps.proofs.Fits.{received-fits}
+use Rattle.blinder_first.proofs.Coins.{dry-refused, dry-passed, enough, coins-part, part-then, sum-length}
+use Rattle.protocol.specs.Drawing.{residuesOf}
+use Rattle.drawing.proofs.Then.{drawn-count}
+use Rattle.blinder.proofs.Kept.{side-bound, square-bound, scratch-sum}
+use Rattle.protocol.specs.System.{coinsOf}
+use Rattle.blinder_first.proofs.write.Statement.{statement}
+use Rattle.blinder_first.proofs.write.Tie as tie
+
+scratch-size-requires : tie.Need-scratch-size-requires
+scratch-size-requires c κs = search needs
+
+draw-requires : tie.Need-draw-requires
+draw-requires c κs = search needs
+
+cast-write-message : tie.Need-cast-write-message
+cast-write-message c = search needs
+
+cast-write-message-2 : tie.Need-cast-write-message-2
+cast-write-message-2 c = search needs
+
+slice-reshare-prefix-write-message : tie.Need-slice-reshare-prefix-write-message
+slice-reshare-prefix-write-message c = search needs
+
+slice-aggregate-write-message : tie.Need-slice-aggregate-write-message
+slice-aggregate-write-message c = let few : c .before .before .before .before .before .before .before .before .scratch-size .result ≤ length (residuesOf (c .before .before .before .before .before .before .before .before .before .before .before .before .before .before .args .t .q) (c .before .before .before .before .before .before .before .before .before .before .before .before .before .before .args .words .now)) = omega (arith, c .before .before .before .before .before .before .before .before .scratch-size .ensures, c .before .before .before .before .before .before .before .before .before .before .before .before .before .before .pre .2) in
+    let u = coins-part _ _ (c .before .before .before .before .before .before .before .before .before .before .before .before .before .before .args .words .now) _ _ few (c .before .before .before .before .before .before .draw .ensures .1) in
+    sym (ap length u ∙ drawn-count _ _ _ few)
+
+write-message-requires : tie.Need-write-message-requires
+write-message-requires c κs = let few : c .before .before .before .before .before .before .before .before .before .scratch-size .result ≤ length (residuesOf (c .before .before .before .before .before .before .before .before .before .before .before .before .before .before .before .args .t .q) (c .before .before .before .before .before .before .before .before .before .before .before .before .before .before .before .args .words .now)) = omega (arith, c .before .before .before .before .before .before .before .before .before .scratch-size .ensures, c .before .before .before .before .before .before .before .before .before .before .before .before .before .before .before .pre .2) in
+    let u = coins-part _ _ (c .before .before .before .before .before .before .before .before .before .before .before .before .before .before .before .args .words .now) _ _ few (c .before .before .before .before .before .before .before .draw .ensures .1) in
+    (c .before .before .before .before .before .before .before .before .before .before .before .before .before .before .before .pre .0, ap length u ∙ (drawn-count _ _ _ few ∙ (c .before .before .before .before .before .before .before .before .before .scratch-size .ensures ∙ sym (scratch-sum (c .before .before .before .before .before .before .before .before .before .before .before .before .before .before .before .args .t)))))
+
+take-up-requires : tie.Need-take-up-requires
+take-up-requires c κs = search needs
+
+same-length : tie.Need-same-length
+same-length c = search needs
+
+same-length-2 : tie.Need-same-length-2
+same-length-2 c = search needs
+
+same-length-3 : tie.Need-same-length-3
+same-length-3 c = search needs
+
+returns : tie.Need-returns
+unfolding coinsOf
+returns c = let few : c .before .before .before .before .before .before .before .before .before .before .before .before .before .before .before .before .scratch-size .result ≤ length (residuesOf (c .before .before .before .before .before .before .before .before .before .before .before .before .before .before .before .before .before .before .before .before .before .before .args .t .q) (c .before .before .before .before .before .before .before .before .before .before .before .before .before .before .before .before .before .before .before .before .before .before .args .words .now)) = omega (arith, c .before .before .before .before .before .before .before .before .before .before .before .before .before .before .before .before .scratch-size .ensures, c .before .before .before .before .before .before .before .before .before .before .before .before .before .before .before .before .before .before .before .before .before .before .pre .2) in
+    let u = coins-part _ _ (c .before .before .before .before .before .before .before .before .before .before .before .before .before .before .before .before .before .before .before .before .before .before .args .words .now) _ _ few (c .before .before .before .before .before .before .before .before .before .before .before .before .before .before .draw .ensures .1) in
+    (rw (c .before .before .before .before .before .before .before .before .before .before .before .before .before .before .before .before .scratch-size .ensures) at (c .before .before .before .before .before .before .before .before .before .before .before .before .before .before .draw .ensures .0), (c .before .before .take-up .ensures, (rw (c .before .before .before .before .before .before .before .before .before .before .before .before .before .before .before .before .scratch-size .ensures) at (c .before .before .before .before .before .before .before .before .before .before .before .before .before .before .draw .ensures .1), rw (u, c .before .before .before .before .before .before .before .before .before .before .before .before .before .before .before .before .scratch-size .ensures) at (c .before .before .before .before .before .before .write-message .ensures))))
+
+pub write-spec : {M : Type 1} → statement M
+write-spec =
+    tie.close
+    (tie.spec
+    scratch-size-requires
+    draw-requires
+    cast-write-message
+    cast-write-message-2
+    slice-reshare-prefix-write-message
+    slice-aggregate-write-message
+    write-message-requires
+    take-up-requires
+    same-length
+    same-length-2
+    same-length-3
+    returns)

@@ -1,0 +1,156 @@
+use mathlib.Core.Path.{_≡_, refl, sym, ap, _∙_}
+use mathlib.Core.List.{List, _++_}
+use Prim.Native.Nat.{ℕ, _+_, _*_, _-_, _/_, _%_, _≤_, _<_}
+use native.Mathlib.Omega.{arith}
+use lib.ListN.{length, getD, set, take, drop}
+use borrow.Author.Needs.{needs}
+use Rattle.session.proofs.Shape.{few, unknowns}
+use Rattle.session.proofs.Slot.{slot-part, slot-part-length, slot-written, half-body, in-use-length}
+use Rattle.protocol.specs.Tape.{slotAt, blinder, wordsInUse}
+use Rattle.protocol.specs.Bounds.{system}
+use Rattle.steps.proofs.Fits.{received-fits}
+use Rattle.blinder_first.proofs.Coins.{dry-refused, dry-passed, enough, coins-part, part-then, sum-length}
+use Rattle.protocol.specs.Drawing.{residuesOf}
+use Rattle.drawing.proofs.Then.{drawn-count}
+use lib.ListN.{length-take, length-drop}
+use lib.Seq.{length-take-le}
+use Rattle.algebra.specs.Product.{sendX, sendR}
+use Rattle.algebra.specs.Matrix.{matAdd}
+use Rattle.algebra.proofs.Lists.{add-residues}
+use Rattle.protocol.proofs.Residues.{over-length}
+use Rattle.blinder_first.specs.Shape.{firstSent}
+use Rattle.blinder_first.proofs.write_message.Statement.{statement}
+use Rattle.blinder_first.proofs.write_message.Tie as tie
+
+mul-square : tie.Need-mul-square
+mul-square c = search needs
+
+mul-wide : tie.Need-mul-wide
+mul-wide c = search needs
+
+add-both : tie.Need-add-both
+add-both c = search needs
+
+add-middle : tie.Need-add-middle
+add-middle c = search needs
+
+add-end : tie.Need-add-end
+add-end c = search needs
+
+slice-aggregate-write-sum : tie.Need-slice-aggregate-write-sum
+slice-aggregate-write-sum c = sym (length-take-le (c .before .before .before .before .before .args .n * c .before .before .before .before .before .args .n) (c .before .before .before .before .before .args .coins .now) (omega (arith, c .before .before .before .before .before .pre .1)))
+
+sub-write-sum : tie.Need-sub-write-sum
+sub-write-sum c = search needs
+
+part-write-sum-start : tie.Need-part-write-sum-start
+part-write-sum-start c = search needs
+
+part-write-sum-end : tie.Need-part-write-sum-end
+part-write-sum-end c = search needs
+
+write-sum-requires : tie.Need-write-sum-requires
+write-sum-requires c κs = (c .before .before .before .before .before .before .before .pre .0 .some-q, simp length-take (omega (arith, c .before .before .before .before .before .before .before .pre .1)), simp (length-take, length-drop) (omega (arith, c .before .before .before .before .before .before .before .pre .0 .half)), omega (arith, c .before .before .before .before .before .before .before .pre .0 .room))
+
+slice-aggregate-write-reply : tie.Need-slice-aggregate-write-reply
+slice-aggregate-write-reply c = sym (length-take-le (c .before .before .before .before .before .before .before .before .before .before .before .args .n * c .before .before .before .before .before .before .before .before .before .before .before .args .n) (c .before .before .before .before .before .before .before .before .before .before .before .args .coins .now) (omega (arith, c .before .before .before .before .before .before .before .before .before .before .before .pre .1)))
+
+mul-write-reply : tie.Need-mul-write-reply
+mul-write-reply c = search needs
+
+sub-write-reply : tie.Need-sub-write-reply
+sub-write-reply c = search needs
+
+part-write-reply-start : tie.Need-part-write-reply-start
+part-write-reply-start c = search needs
+
+part-write-reply-end : tie.Need-part-write-reply-end
+part-write-reply-end c = search needs
+
+mul-write-reply-2 : tie.Need-mul-write-reply-2
+mul-write-reply-2 c = search needs
+
+sub-write-reply-2 : tie.Need-sub-write-reply-2
+sub-write-reply-2 c = search needs
+
+part-write-reply-start-2 : tie.Need-part-write-reply-start-2
+part-write-reply-start-2 c = search needs
+
+part-write-reply-end-2 : tie.Need-part-write-reply-end-2
+part-write-reply-end-2 c = search needs
+
+mul-write-reply-3 : tie.Need-mul-write-reply-3
+mul-write-reply-3 c = search needs
+
+sub-write-reply-3 : tie.Need-sub-write-reply-3
+sub-write-reply-3 c = search needs
+
+part-write-reply-start-3 : tie.Need-part-write-reply-start-3
+part-write-reply-start-3 c = search needs
+
+part-write-reply-end-3 : tie.Need-part-write-reply-end-3
+part-write-reply-end-3 c = search needs
+
+write-reply-requires : tie.Need-write-reply-requires
+write-reply-requires c κs =
+    let p = c .before .before .before .before .before .before .before .before .before .before .before .before .before .before .pre .0 in
+    let long = sum-length (c .before .before .before .before .before .before .before .before .before .before .before .before .before .before .args .q) (c .before .before .before .before .before .before .before .before .before .before .before .before .before .before .args .n * c .before .before .before .before .before .before .before .before .before .before .before .before .before .before .args .n) _ _ (c .before .before .before .before .before .before .before .before .before .before .before .before .before .before .args .out .now) _ (p .some-q) (omega (arith, p .room)) (c .before .before .before .before .before .before .write-sum .ensures) in (
+      record {
+        some-q = p .some-q;
+        small-q = p .small-q;
+        some-p = p .some-p;
+        few-k = omega (arith, p .few-n);
+        few-y = omega (arith, p .wide);
+        full-x = simp length-take (omega (arith, c .before .before .before .before .before .before .before .before .before .before .before .before .before .before .pre .1));
+        full-y = omega (arith, p .full-y);
+        room = simp (length-take, length-drop) (omega (arith, long, p .room));
+      },
+      simp (length-take, length-drop) (omega (arith, c .before .before .before .before .before .before .before .before .before .before .before .before .before .before .pre .1)),
+      simp (length-take, length-drop) (omega (arith, p .half)),
+    )
+
+same-length : tie.Need-same-length
+same-length c = search needs
+
+returns : tie.Need-returns
+unfolding firstSent sendX sendR
+returns c =
+    let a : 7 + (c .before .before .before .before .before .before .before .before .before .before .before .before .before .before .before .before .before .args .n * c .before .before .before .before .before .before .before .before .before .before .before .before .before .before .before .before .before .args .n) - 7 ≡ (c .before .before .before .before .before .before .before .before .before .before .before .before .before .before .before .before .before .args .n * c .before .before .before .before .before .before .before .before .before .before .before .before .before .before .before .before .before .args .n) = omega arith in
+    let b : 7 + (c .before .before .before .before .before .before .before .before .before .before .before .before .before .before .before .before .before .args .n * c .before .before .before .before .before .before .before .before .before .before .before .before .before .before .before .before .before .args .n) + (c .before .before .before .before .before .before .before .before .before .before .before .before .before .before .before .before .before .args .n * c .before .before .before .before .before .before .before .before .before .before .before .before .before .before .before .before .before .args .p) - (7 + (c .before .before .before .before .before .before .before .before .before .before .before .before .before .before .before .before .before .args .n * c .before .before .before .before .before .before .before .before .before .before .before .before .before .before .before .before .before .args .n)) ≡ (c .before .before .before .before .before .before .before .before .before .before .before .before .before .before .before .before .before .args .n * c .before .before .before .before .before .before .before .before .before .before .before .before .before .before .before .before .before .args .p) = omega arith in
+    let d : (c .before .before .before .before .before .before .before .before .before .before .before .before .before .before .before .before .before .args .n * c .before .before .before .before .before .before .before .before .before .before .before .before .before .before .before .before .before .args .n) + (c .before .before .before .before .before .before .before .before .before .before .before .before .before .before .before .before .before .args .n * c .before .before .before .before .before .before .before .before .before .before .before .before .before .before .before .before .before .args .p) - (c .before .before .before .before .before .before .before .before .before .before .before .before .before .before .before .before .before .args .n * c .before .before .before .before .before .before .before .before .before .before .before .before .before .before .before .before .before .args .n) ≡ (c .before .before .before .before .before .before .before .before .before .before .before .before .before .before .before .before .before .args .n * c .before .before .before .before .before .before .before .before .before .before .before .before .before .before .before .before .before .args .p) = omega arith in
+    let e1 = rw a at (c .before .before .before .before .before .before .before .before .before .write-sum .ensures) in
+    let e2 = rw (b, d) at (c .before .before .write-reply .ensures) in
+    let full = add-residues (c .before .before .before .before .before .before .before .before .before .before .before .before .before .before .before .before .before .pre .0 .some-q) (c .before .before .before .before .before .before .before .before .before .before .before .before .before .before .before .before .before .args .n * c .before .before .before .before .before .before .before .before .before .before .before .before .before .before .before .before .before .args .n) (_) (_) .size in
+    part-then _ _ (c .before .before .before .before .before .before .before .before .before .before .before .before .before .before .before .before .before .args .out .now) _ _ (c .before .before .before .before .before .before .before .before .before .before .before .before .before .before .before .before .before .args .n * c .before .before .before .before .before .before .before .before .before .before .before .before .before .before .before .before .before .args .n) full
+    (omega (arith, ap length e1 ∙ over-length _ (c .before .before .before .before .before .before .before .before .before .before .before .before .before .before .before .before .before .args .out .now) (omega (arith, full, c .before .before .before .before .before .before .before .before .before .before .before .before .before .before .before .before .before .pre .0 .room)), c .before .before .before .before .before .before .before .before .before .before .before .before .before .before .before .before .before .pre .0 .room)) e1 e2
+
+pub write-message-spec : {M : Type 1} → statement M
+write-message-spec =
+    tie.close
+    (tie.spec
+    mul-square
+    mul-wide
+    add-both
+    add-middle
+    add-end
+    slice-aggregate-write-sum
+    sub-write-sum
+    part-write-sum-start
+    part-write-sum-end
+    write-sum-requires
+    slice-aggregate-write-reply
+    mul-write-reply
+    sub-write-reply
+    part-write-reply-start
+    part-write-reply-end
+    mul-write-reply-2
+    sub-write-reply-2
+    part-write-reply-start-2
+    part-write-reply-end-2
+    mul-write-reply-3
+    sub-write-reply-3
+    part-write-reply-start-3
+    part-write-reply-end-3
+    write-reply-requires
+    same-length
+    returns)
