@@ -19,7 +19,7 @@ use Rattle.drawing.specs.declared.Reading.{Reading}
 use Rattle.drawing.specs.declared.Reading.the-variants.{Enough, Dry}
 use Rattle.drawing.specs.Extent.{readFor}
 
-residues-after : (q a : ℕ) (ws : List ℕ) → a ≤ length (residuesOf q ws) → residuesOf q (drop (wordsRead q a ws) ws) ≡ drop a (residuesOf q ws)
+pub residues-after : (q a : ℕ) (ws : List ℕ) → a ≤ length (residuesOf q ws) → residuesOf q (drop (wordsRead q a ws) ws) ≡ drop a (residuesOf q ws)
 unfolding residuesOf wordsRead
 residues-after q zero [] h = refl
 residues-after q zero (w ∷ ws) h = refl

@@ -1,6 +1,6 @@
 -- Matrices drawn one after the other, each straight to its place.
 -- drawn-parts   what is drawn at once, cut into parts, is what is drawn part by part
--- masks-first, masks-second   X0, Y0 and A0 in their halves
+-- three-first, three-second   three matrices in their places
 -- Assumes nothing.
 use mathlib.Core.Path.{_≡_, refl, sym, ap, ap₂, _∙_}
 use mathlib.Core.List.{List, [], _∷_, _++_}
@@ -32,20 +32,20 @@ pub drawn-parts : (r : Request) → drawnParts r ≡ parts (drawLayout (r .sort)
 unfolding drawnParts drawn drawSize
 drawn-parts r = parts-take (drawLayout (r .sort) (r .m) (r .k) (r .p)) (residuesOf (r .q) (r .words))
 
-module _ (q mk kp mp : ℕ) (words : List ℕ) (enough : mk + (kp + mp) ≤ length (residuesOf q words)) where
-  pub masks-first : (first one : List ℕ) {two : List ℕ} (i : ℕ) → i ≡ wordsRead q (mk + kp) words → 7 ≤ length first
-      → one ≡ writtenAt 7 (drawn q mk words) first → two ≡ writtenAt (7 + mk) (drawn q mp (drop i words)) one
-      → two ≡ writtenAt 7 (part 0 (parts (mk ∷ kp ∷ mp ∷ []) (residuesOf q words)) ++ part 2 (parts (mk ∷ kp ∷ mp ∷ []) (residuesOf q words))) first
+module _ (q a b c : ℕ) (words : List ℕ) (enough : a + (b + c) ≤ length (residuesOf q words)) where
+  pub three-first : (at : ℕ) (first one : List ℕ) {two : List ℕ} (i : ℕ) → i ≡ wordsRead q (a + b) words → at ≤ length first
+      → one ≡ writtenAt at (drawn q a words) first → two ≡ writtenAt (at + a) (drawn q c (drop i words)) one
+      → two ≡ writtenAt at (part 0 (parts (a ∷ b ∷ c ∷ []) (residuesOf q words)) ++ part 2 (parts (a ∷ b ∷ c ∷ []) (residuesOf q words))) first
   unfolding parts drawn
-  masks-first first one i at h e f =
-      let few : mk + kp ≤ length (residuesOf q words) = omega arith in
+  three-first at first one i here h e f =
+      let few : a + b ≤ length (residuesOf q words) = omega arith in
       f
-      ∙ (ap₂ (λ (a d : List ℕ). writtenAt (7 + mk) a d) (next-drawn q (mk + kp) words i at mp few ∙ ap (take mp) (sym (drop-drop kp mk (residuesOf q words)))) e
-      ∙ written-then 7 mk (take mk (residuesOf q words)) (take mp (drop kp (drop mk (residuesOf q words)))) first (length-take-le mk (residuesOf q words) (omega arith)) h)
+      ∙ (ap₂ (λ (l d : List ℕ). writtenAt (at + a) l d) (next-drawn q (a + b) words i here c few ∙ ap (take c) (sym (drop-drop b a (residuesOf q words)))) e
+      ∙ written-then at a (take a (residuesOf q words)) (take c (drop b (drop a (residuesOf q words)))) first (length-take-le a (residuesOf q words) (omega arith)) h)
 
-  pub masks-second : (second : List ℕ) {one : List ℕ} (i : ℕ) → i ≡ wordsRead q mk words → one ≡ writtenAt 7 (drawn q kp (drop i words)) second
-      → one ≡ writtenAt 7 (part 1 (parts (mk ∷ kp ∷ mp ∷ []) (residuesOf q words))) second
+  pub three-second : (at : ℕ) (second : List ℕ) {one : List ℕ} (i : ℕ) → i ≡ wordsRead q a words → one ≡ writtenAt at (drawn q b (drop i words)) second
+      → one ≡ writtenAt at (part 1 (parts (a ∷ b ∷ c ∷ []) (residuesOf q words))) second
   unfolding parts
-  masks-second second i at e =
-      let few : mk ≤ length (residuesOf q words) = omega arith in
-      e ∙ ap (λ (a : List ℕ). writtenAt 7 a second) (next-drawn q mk words i at kp few)
+  three-second at second i here e =
+      let few : a ≤ length (residuesOf q words) = omega arith in
+      e ∙ ap (λ (l : List ℕ). writtenAt at l second) (next-drawn q a words i here b few)

@@ -1,6 +1,7 @@
 -- What the writers leave are the halves that the definition of dealing says.
 -- b-after   B0 stands after Y0
--- product-first, product-second   the halves of a product's tape
+-- masks-first, masks-second        the beginning of each half, for both sorts
+-- product-first, product-second   a product's halves
 -- Assumes nothing.
 use mathlib.Core.Path.{_≡_, refl, sym, ap, ap₂, _∙_}
 use mathlib.Core.List.{List, [], _∷_, _++_, append-nil, append-assoc}
@@ -19,7 +20,7 @@ use Rattle.protocol.specs.Drawing.{residuesOf}
 use Rattle.protocol.specs.Tape.{headerWords, READY}
 use Rattle.protocol.specs.Deal.{productRequest, drawnParts, dealtB}
 use Rattle.matrix.specs.Fill.{firstWords}
-use Rattle.tape.specs.Dealt.{firstHalfWords, secondHalfWords}
+use Rattle.tape.specs.Dealt.{masksOf, firstMasks, secondMasks, firstHalfWords, secondHalfWords}
 use Rattle.tape.proofs.Words.{over-then, over-slice, over-last, part-written, copied}
 use Rattle.tape.proofs.Draws.{drawn-parts}
 
@@ -62,23 +63,15 @@ b-written q m k p first second d buffer ys room h e f =
     let whole = buffered (m * p) _ d buffer (deal-count q m k p (take (m * k) (drop 7 first)) (take (k * p) (drop 7 second)) (take (m * p) (drop (7 + m * k) first))) room (rw (x, y, a) at e) in
     part-written (7 + k * p) _ second ys h (rw whole at f)
 
--- ---- a product
+-- ---- the masks
 
-module _ (tape : TapeId) (q m k p : ℕ) (words : List ℕ) (enough : m * k + (k * p + m * p) ≤ length (residuesOf q words)) where
+module _ (tape sort q m k p : ℕ) (words : List ℕ) (enough : m * k + (k * p + m * p) ≤ length (residuesOf q words)) where
   -- the header, and X0, Y0 and A0
   abbrev H : List ℕ
-  H = READY ∷ tape .0 ∷ 0 ∷ q ∷ m ∷ k ∷ p ∷ []
+  H = READY ∷ tape ∷ sort ∷ q ∷ m ∷ k ∷ p ∷ []
 
   abbrev D : List (List ℕ)
-  D = parts (m * k ∷ k * p ∷ m * p ∷ []) (residuesOf q words)
-
-  first-is : firstHalfWords (productRequest tape q m k p words) ≡ H ++ (part 0 D ++ part 2 D)
-  unfolding firstHalfWords headerWords join
-  first-is = rw (drawn-parts (productRequest tape q m k p words)) (simp append-nil)
-
-  second-is : secondHalfWords (productRequest tape q m k p words) ≡ H ++ (part 1 D ++ dealB q m k p (part 0 D) (part 1 D) (part 2 D))
-  unfolding secondHalfWords headerWords join dealtB
-  second-is = rw (drawn-parts (productRequest tape q m k p words)) (simp append-nil)
+  D = masksOf q m k p words
 
   x0-count : length (part 0 D) ≡ m * k
   unfolding parts
@@ -94,29 +87,41 @@ module _ (tape : TapeId) (q m k p : ℕ) (words : List ℕ) (enough : m * k + (k
       length-take-le (m * p) (drop (k * p) (drop (m * k) (residuesOf q words)))
       (omega (arith, length-drop (k * p) (drop (m * k) (residuesOf q words)), length-drop (m * k) (residuesOf q words)))
 
-  pub product-first : (first one : List ℕ) {two : List ℕ} → one ≡ over H first → two ≡ writtenAt 7 (part 0 D ++ part 2 D) one
-      → two ≡ over (firstHalfWords (productRequest tape q m k p words)) first
-  product-first first one e f =
-      f ∙ (ap (writtenAt 7 (part 0 D ++ part 2 D)) e ∙ (over-then H (part 0 D ++ part 2 D) first 7 refl ∙ ap (λ (l : List ℕ). over l first) (sym first-is)))
+  pub masks-first : (first one : List ℕ) {two : List ℕ} → one ≡ over H first → two ≡ writtenAt 7 (part 0 D ++ part 2 D) one
+      → two ≡ over (firstMasks tape sort q m k p words) first
+  unfolding firstMasks
+  masks-first first one e f = f ∙ (ap (writtenAt 7 (part 0 D ++ part 2 D)) e ∙ over-then H (part 0 D ++ part 2 D) first 7 refl)
 
-  pub product-second : (first second one one′ two two′ : List ℕ) {three : List ℕ}
+  pub masks-second : (first second one one′ two two′ : List ℕ) {three : List ℕ}
       → one ≡ over H first → two ≡ writtenAt 7 (part 0 D ++ part 2 D) one
       → one′ ≡ over H second → two′ ≡ writtenAt 7 (part 1 D) one′
       → three ≡ writtenAt (7 + k * p) (dealB q m k p (take (m * k) (drop 7 two)) (take (k * p) (drop 7 two′)) (take (m * p) (drop (7 + m * k) two))) two′
-      → three ≡ over (secondHalfWords (productRequest tape q m k p words)) second
-  product-second first second one one′ two two′ e f e′ f′ g =
+      → three ≡ over (secondMasks tape sort q m k p words) second
+  unfolding secondMasks
+  masks-second first second one one′ two two′ e f e′ f′ g =
       b-after q m k p H (part 0 D) (part 1 D) (part 2 D) refl x0-count y0-count a0-count first second two two′
       (f ∙ (ap (writtenAt 7 (part 0 D ++ part 2 D)) e ∙ over-then H (part 0 D ++ part 2 D) first 7 refl))
       (f′ ∙ (ap (writtenAt 7 (part 1 D)) e′ ∙ over-then H (part 1 D) second 7 refl))
       g
-      ∙ ap (λ (l : List ℕ). over l second) (sym second-is)
 
-  -- how long the halves are
-  pub first-count : length (firstHalfWords (productRequest tape q m k p words)) ≡ 7 + m * k + m * p
-  first-count = ap length first-is ∙ omega (arith, length-append H (part 0 D ++ part 2 D), length-append (part 0 D) (part 2 D), x0-count, a0-count)
+  -- how long they are
+  pub first-count : length (firstMasks tape sort q m k p words) ≡ 7 + m * k + m * p
+  unfolding firstMasks
+  first-count = omega (arith, length-append H (part 0 D ++ part 2 D), length-append (part 0 D) (part 2 D), x0-count, a0-count)
 
-  pub second-count : length (secondHalfWords (productRequest tape q m k p words)) ≡ 7 + k * p + m * p
+  pub second-count : length (secondMasks tape sort q m k p words) ≡ 7 + k * p + m * p
+  unfolding secondMasks
   second-count =
       let b : List ℕ = dealB q m k p (part 0 D) (part 1 D) (part 2 D) in
-      ap length second-is
-      ∙ omega (arith, length-append H (part 1 D ++ b), length-append (part 1 D) b, y0-count, deal-count q m k p (part 0 D) (part 1 D) (part 2 D))
+      omega (arith, length-append H (part 1 D ++ b), length-append (part 1 D) b, y0-count, deal-count q m k p (part 0 D) (part 1 D) (part 2 D))
+
+-- ---- a product's halves are these
+
+module _ (tape : TapeId) (q m k p : ℕ) (words : List ℕ) where
+  pub product-first : firstMasks (tape .0) 0 q m k p words ≡ firstHalfWords (productRequest tape q m k p words)
+  unfolding firstMasks firstHalfWords headerWords join
+  product-first = rw (drawn-parts (productRequest tape q m k p words)) (simp append-nil)
+
+  pub product-second : secondMasks (tape .0) 0 q m k p words ≡ secondHalfWords (productRequest tape q m k p words)
+  unfolding secondMasks secondHalfWords headerWords join dealtB
+  product-second = rw (drawn-parts (productRequest tape q m k p words)) (simp append-nil)

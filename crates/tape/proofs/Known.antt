@@ -10,20 +10,22 @@ use native.Mathlib.Omega.{arith}
 use lib.Dec.{leb}
 use lib.ListN.{length}
 use borrow.Author.Tests.{leb-true}
-use Rattle.algebra.specs.Count.{total}
+use native.Mathlib.Nat.{mul-le-mul}
+use Rattle.algebra.specs.Count.{both, total}
+use Rattle.algebra.proofs.Count.{and-left, and-right}
 use Rattle.protocol.specs.declared.TapeId.{TapeId}
 use Rattle.protocol.specs.Judge.{Judged, done}
-use Rattle.protocol.specs.Bounds.{Sort, product, sidesFit, shapeTests}
+use Rattle.protocol.specs.Bounds.{Sort, product, system, within, fieldFits, sidesFit, shapeTests}
 use Rattle.protocol.specs.Drawing.{residuesOf}
-use Rattle.protocol.specs.Tape.{left, right, tapeSize, bodySize, slotAt, slotWords, statusOf, headerWords, READY}
-use Rattle.protocol.specs.Deal.{Request, productRequest, firstRole, secondRole, drawSize, dealTests, maskFits, drawnParts}
+use Rattle.protocol.specs.Tape.{left, right, blinder, solver, tapeSize, bodySize, slotAt, slotWords, statusOf, headerWords, READY}
+use Rattle.protocol.specs.Deal.{Request, productRequest, systemRequest, firstRole, secondRole, drawSize, dealTests, maskFits, drawnParts}
 use Rattle.checks.specs.InOrder.{verdict, judged, after, inGroups, concat}
 use Rattle.checks.specs.Groups.{placeTests}
 use Rattle.checks.proofs.InOrder.{in-groups, verdict-all, after-first, after-second}
 use Rattle.checks.proofs.Sides.{Sides, sides, Modulus, modulus}
 use Rattle.checks.proofs.Place.{slot-inside}
 use Rattle.tape.specs.Groups.{dealNumbers, markTests, drawnTests, dealWords}
-use Rattle.tape.specs.Shape.{Masks}
+use Rattle.tape.specs.Shape.{Masks, Mask}
 use Rattle.tape.proofs.Sorted.{Numbers, OnWords, deal-judged}
 
 pub record Placed (half pool size index : ℕ) : Type 0 where
@@ -51,6 +53,21 @@ shape-masks tape q m k p e =
       few-mk = s .few-mk;
       few-kp = s .few-kp;
       few-mp = s .few-mp;
+    }
+
+-- the modulus and the unknowns of a system
+pub shape-mask : (tape q n : ℕ) → verdict (shapeTests system tape q n n (n + 1)) ≡ done tt → Mask q n
+unfolding shapeTests fieldFits sidesFit within
+shape-mask tape q n e =
+    let a = verdict-all _ e in
+    let s = modulus q (a .0) in
+    let w : both (leb 1 n) (leb n 16) ≡ true = and-left _ _ (a .1 .1 .0) in
+    record {
+      prime = a .1 .0;
+      some-q = s .some;
+      small-q = s .small;
+      some-n = leb-true 1 n (and-left _ _ w);
+      few-n = leb-true n 16 (and-right _ _ w);
     }
 
 -- the numbers' three groups
@@ -101,3 +118,34 @@ right-count m k p = omega arith
 pub product-count : (tape : TapeId) (q m k p : ℕ) (words : List ℕ) → m * k + (k * p + m * p) ≡ drawSize (productRequest tape q m k p words)
 unfolding drawSize
 product-count tape q m k p words = refl
+
+pub blinder-count : (n : ℕ) → 7 + n * n + n * (n + 1) + n * n + n * n ≡ tapeSize blinder n n (n + 1)
+unfolding tapeSize bodySize
+blinder-count n = omega arith
+
+pub solver-count : (n : ℕ) → 7 + n * (n + 1) + n * (n + 1) + n * n + n * n ≡ tapeSize solver n n (n + 1)
+unfolding tapeSize bodySize
+solver-count n = omega arith
+
+pub system-count : (tape : TapeId) (q n : ℕ) (words : List ℕ)
+    → n * n + (n * (n + 1) + n * (n + 1)) + (n * n + (n * n + n * n)) ≡ drawSize (systemRequest tape q n words)
+unfolding drawSize
+system-count tape q n words = omega arith
+
+pub square-few : (n : ℕ) → n ≤ 16 → n * n ≤ 256
+square-few n h = mul-le-mul {n₁ = n} {m₁ = n} {n₂ = 16} {m₂ = 16} h h
+
+pub side-few : (n : ℕ) → n ≤ 16 → n * (n + 1) ≤ 272
+side-few n h = mul-le-mul {n₁ = n} {m₁ = n + 1} {n₂ = 16} {m₂ = 17} h (omega arith)
+
+-- the sides of a system's masks
+pub system-masks : (q n : ℕ) → Mask q n → Masks q n n (n + 1)
+system-masks q n h = record {
+  some-q = h .some-q;
+  small-q = h .small-q;
+  some-p = omega arith;
+  few-k = omega (arith, h .few-n);
+  few-mk = omega (arith, square-few n (h .few-n));
+  few-kp = omega (arith, side-few n (h .few-n));
+  few-mp = omega (arith, side-few n (h .few-n));
+}

@@ -11,3 +11,4 @@ pub mod Known
 pub mod Draws
 pub mod Halves
 pub mod Leaving
+pub mod Systems

@@ -1,9 +1,11 @@
 -- Everything that a dealing leaves, as one term, and the words that it writes over a slot's start. Assumes nothing.
-use mathlib.Core.List.{List, _++_}
-use Prim.Native.Nat.{ℕ}
-use Rattle.algebra.specs.Count.{join}
+use mathlib.Core.List.{List, [], _∷_, _++_}
+use Prim.Native.Nat.{ℕ, _*_}
+use Rattle.algebra.specs.Count.{part, parts, join}
+use Rattle.algebra.specs.Product.{dealB}
 use Rattle.protocol.specs.declared.Answer.{Answer}
 use Rattle.protocol.specs.Judge.{Judged}
+use Rattle.protocol.specs.Drawing.{residuesOf}
 use Rattle.protocol.specs.Tape.{headerWords, READY}
 use Rattle.protocol.specs.Deal.{Request, firstHalf, secondHalf, drawnParts, dealtB, dealtV, Dealt, dealAnswer, firstAfter, secondAfter}
 
@@ -15,6 +17,20 @@ pub record Pools : Type 0 where
 -- from the pools as they were
 abbrev pub pools : (first second : List ℕ) → Judged Dealt → Pools
 pools first second d = record { answer = dealAnswer d; first = firstAfter first d; second = secondAfter second d }
+
+-- X0, Y0 and A0
+abbrev pub masksOf : (q m k p : ℕ) → List ℕ → List (List ℕ)
+masksOf q m k p words = parts (m * k ∷ k * p ∷ m * p ∷ []) (residuesOf q words)
+
+-- the beginning of each half, for both sorts: the header, and then X0 and A0, or Y0 and B0
+unfoldable pub firstMasks : (tape sort q m k p : ℕ) → List ℕ → List ℕ
+firstMasks tape sort q m k p words =
+    (READY ∷ tape ∷ sort ∷ q ∷ m ∷ k ∷ p ∷ []) ++ (part 0 (masksOf q m k p words) ++ part 2 (masksOf q m k p words))
+
+unfoldable pub secondMasks : (tape sort q m k p : ℕ) → List ℕ → List ℕ
+secondMasks tape sort q m k p words =
+    let d : List (List ℕ) = masksOf q m k p words in
+    (READY ∷ tape ∷ sort ∷ q ∷ m ∷ k ∷ p ∷ []) ++ (part 1 d ++ dealB q m k p (part 0 d) (part 1 d) (part 2 d))
 
 -- a request's header, ready
 abbrev pub headerOf : Request → List ℕ

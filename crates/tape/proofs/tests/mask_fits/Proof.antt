@@ -1,0 +1,62 @@
+-- `tape::tests/mask_fits` meets its contract: the buffer holds the mask. Assumes nothing.
+use mathlib.Core.Path.{ap, _∙_}
+use Prim.Native.Nat.{_*_}
+use native.Mathlib.Omega.{arith}
+use lib.ListN.{drop}
+use borrow.Author.Needs.{needs}
+use lib.ListN.{length-take}
+use Rattle.algebra.specs.Elimination.{regular}
+use Rattle.tape.proofs.Known.{square-few}
+use Rattle.tape.proofs.Words.{tail-part}
+use Rattle.tape.proofs.Systems.{mask-buffer, mask-residues}
+use Rattle.tape.proofs.tests.mask_fits.Statement.{statement}
+use Rattle.tape.proofs.tests.mask_fits.Tie as tie
+
+times-requires : tie.Need-times-requires
+times-requires c κs = search needs
+
+mul-draw : tie.Need-mul-draw
+mul-draw c = search needs
+
+sub-draw : tie.Need-sub-draw
+sub-draw c = search needs
+
+part-draw-start : tie.Need-part-draw-start
+part-draw-start c = search needs
+
+part-draw-end : tie.Need-part-draw-end
+part-draw-end c = search needs
+
+slice-aggregate-draw : tie.Need-slice-aggregate-draw
+slice-aggregate-draw c = search needs
+
+draw-requires : tie.Need-draw-requires
+draw-requires c κs = (c .before .before .before .before .pre .0 .some-q, rw (tail-part (c .before .before .before .before .args .at) (c .before .before .before .before .args .words .now), c .before .before .times .ensures) (c .before .before .before .before .pre .2), omega (arith, c .before .before .times .ensures, square-few (c .before .before .before .before .args .n) (c .before .before .before .before .pre .0 .few-n)))
+
+array-share-prefix-mask : tie.Need-array-share-prefix-mask
+array-share-prefix-mask c = omega (arith, c .before .before .before .before .times .ensures, square-few (c .before .before .before .before .before .before .args .n) (c .before .before .before .before .before .before .pre .0 .few-n))
+
+slice-aggregate-has-inverse : tie.Need-slice-aggregate-has-inverse
+slice-aggregate-has-inverse c = simp length-take (omega (arith, c .before .before .before .before .before .times .ensures, square-few (c .before .before .before .before .before .before .before .args .n) (c .before .before .before .before .before .before .before .pre .0 .few-n)))
+
+has-inverse-requires : tie.Need-has-inverse-requires
+has-inverse-requires c κs = (c .before .before .before .before .before .before .before .pre .0 .prime, c .before .before .before .before .before .before .before .pre .0 .small-q, c .before .before .before .before .before .before .before .pre .0 .few-n, rw (c .before .before .before .before .before .times .ensures, mask-buffer (c .before .before .before .before .before .before .before .args .q) (c .before .before .before .before .before .before .before .args .n * c .before .before .before .before .before .before .before .args .n) (drop (c .before .before .before .before .before .before .before .args .at) (c .before .before .before .before .before .before .before .args .words .now)) _ _ (c .before .before .before .before .before .before .before .pre .2) (rw (tail-part (c .before .before .before .before .before .before .before .args .at) (c .before .before .before .before .before .before .before .args .words .now), c .before .before .before .before .before .times .ensures) at (c .before .before .draw .ensures .1))) (mask-residues (c .before .before .before .before .before .before .before .args .q) (c .before .before .before .before .before .before .before .args .n * c .before .before .before .before .before .before .before .args .n) (drop (c .before .before .before .before .before .before .before .args .at) (c .before .before .before .before .before .before .before .args .words .now)) (c .before .before .before .before .before .before .before .pre .0 .some-q) (c .before .before .before .before .before .before .before .pre .2)))
+
+returns : tie.Need-returns
+returns c = c .has-inverse .ensures ∙ ap (regular (c .before .before .before .before .before .before .before .before .args .q) (c .before .before .before .before .before .before .before .before .args .n)) (rw (c .before .before .before .before .before .before .times .ensures) (mask-buffer (c .before .before .before .before .before .before .before .before .args .q) (c .before .before .before .before .before .before .before .before .args .n * c .before .before .before .before .before .before .before .before .args .n) (drop (c .before .before .before .before .before .before .before .before .args .at) (c .before .before .before .before .before .before .before .before .args .words .now)) _ _ (c .before .before .before .before .before .before .before .before .pre .2) (rw (tail-part (c .before .before .before .before .before .before .before .before .args .at) (c .before .before .before .before .before .before .before .before .args .words .now), c .before .before .before .before .before .before .times .ensures) at (c .before .before .before .draw .ensures .1))))
+
+pub mask-fits-spec : {M : Type 1} → statement M
+mask-fits-spec =
+    tie.close
+    (tie.spec
+    times-requires
+    mul-draw
+    sub-draw
+    part-draw-start
+    part-draw-end
+    slice-aggregate-draw
+    draw-requires
+    array-share-prefix-mask
+    slice-aggregate-has-inverse
+    has-inverse-requires
+    returns)

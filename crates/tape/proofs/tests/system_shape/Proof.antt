@@ -1,0 +1,50 @@
+-- `tape::tests/system_shape` meets its contract: each return is the first of the tests that fails. Assumes nothing.
+use borrow.Author.Needs.{needs}
+use Rattle.checks.specs.InOrder.{inOrder}
+use Rattle.checks.proofs.Flags.{fails, holds}
+use borrow.Author.Tests.{lt-leb, le-leb}
+use Rattle.protocol.specs.Bounds.{fieldFits, shapeTests}
+use Rattle.tape.proofs.tests.system_shape.Statement.{statement}
+use Rattle.tape.proofs.tests.system_shape.Tie as tie
+
+modulus-fits-requires : tie.Need-modulus-fits-requires
+modulus-fits-requires c κs = search needs
+
+returns : tie.Need-returns
+unfolding inOrder shapeTests fieldFits
+returns c = simp (fails (c .before .modulus-fits .ensures) (c .if1 .taken))
+
+is-prime-requires : tie.Need-is-prime-requires
+is-prime-requires c κs = search needs
+
+returns-2 : tie.Need-returns-2
+unfolding inOrder shapeTests fieldFits
+returns-2 c = simp (holds (c .before .before .before .modulus-fits .ensures) (c .before .before .if1 .left), fails (c .before .is-prime .ensures) (c .if2 .taken))
+
+unknowns-fit-requires : tie.Need-unknowns-fit-requires
+unknowns-fit-requires c κs = search needs
+
+returns-3 : tie.Need-returns-3
+unfolding inOrder shapeTests fieldFits
+returns-3 c = simp (holds (c .before .before .before .before .before .modulus-fits .ensures) (c .before .before .before .before .if1 .left), holds (c .before .before .before .is-prime .ensures) (c .before .before .if2 .left), fails (c .before .unknowns-fit .ensures) (c .if3 .taken))
+
+returns-4 : tie.Need-returns-4
+unfolding inOrder shapeTests fieldFits
+returns-4 c = simp (holds (c .before .before .before .before .before .before .modulus-fits .ensures) (c .before .before .before .before .before .if1 .left), holds (c .before .before .before .before .is-prime .ensures) (c .before .before .before .if2 .left), holds (c .before .before .unknowns-fit .ensures) (c .before .if3 .left), lt-leb _ _ (c .if4 .taken))
+
+returns-5 : tie.Need-returns-5
+unfolding inOrder shapeTests fieldFits
+returns-5 c = simp (holds (c .before .before .before .before .before .before .modulus-fits .ensures) (c .before .before .before .before .before .if1 .left), holds (c .before .before .before .before .is-prime .ensures) (c .before .before .before .if2 .left), holds (c .before .before .unknowns-fit .ensures) (c .before .if3 .left), le-leb _ _ (c .if4 .left))
+
+pub system-shape-spec : {M : Type 1} → statement M
+system-shape-spec =
+    tie.close
+    (tie.spec
+    modulus-fits-requires
+    returns
+    is-prime-requires
+    returns-2
+    unknowns-fit-requires
+    returns-3
+    returns-4
+    returns-5)
