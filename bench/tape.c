@@ -1,0 +1,89 @@
+// Dealing beside the same work in C with FLINT: the raw words drawn by the same rule, nmod_mat_mul, the entries copied into both pools.
+// packages: libflint-dev
+// link: -lflint -lgmp -lm
+#include "timing.h"
+#include <flint/flint.h>
+#include <flint/nmod_mat.h>
+#include <flint/ulong_extras.h>
+#include <string.h>
+
+#define POOL 8192
+#define WORDS 6000
+
+size_t bench_deal_product(uint32_t *first, size_t n_first, uint32_t *second, size_t n_second, size_t size, size_t index, uint32_t tape, uint32_t q,
+                          uint32_t m, uint32_t k, uint32_t p, const uint32_t *words, size_t n_words);
+
+static uint32_t first[POOL], second[POOL], words[WORDS], q;
+static size_t m, k, p, size;
+static nmod_mat_t x0, y0, a0, b0;
+
+// Fills a from the words at *at on; 0 where they are too few.
+static int draw(nmod_mat_t a, size_t *at) {
+    uint64_t below = q * (4294967296 / q);
+    nmod_t mod = a->mod;
+    for (slong i = 0; i < a->r; i++)
+        for (slong j = 0; j < a->c;) {
+            if (*at == WORDS) return 0;
+            mp_limb_t w = words[(*at)++];
+            if (w >= below) continue;
+            mp_limb_t residue;
+            NMOD_RED(residue, w, mod);
+            nmod_mat_entry(a, i, j++) = residue;
+        }
+    return 1;
+}
+
+static uint32_t *store(uint32_t *to, const nmod_mat_t a) {
+    for (slong i = 0; i < a->r; i++)
+        for (slong j = 0; j < a->c; j++) *to++ = nmod_mat_entry(a, i, j);
+    return to;
+}
+
+static uint32_t *header(uint32_t *to, uint32_t tape, uint32_t sort) {
+    uint32_t head[] = {1, tape, sort, q, m, k, p};
+    memcpy(to, head, sizeof head);
+    return to + 7;
+}
+
+static int is_free(uint32_t mark) { return mark == 0 || mark == 3; }
+
+static size_t deal_product(size_t index, uint32_t tape) {
+    size_t at = 0, slot = index * size;
+    if (!is_free(first[slot]) || !is_free(second[slot])) return 0;
+    if (!draw(x0, &at) || !draw(y0, &at) || !draw(a0, &at)) return 0;
+    nmod_mat_mul(b0, x0, y0);
+    nmod_mat_sub(b0, b0, a0);
+    store(store(header(first + slot, tape, 0), x0), a0);
+    store(store(header(second + slot, tape, 0), y0), b0);
+    return at;
+}
+
+// Some of the words written, and the slots free again.
+static uint64_t looked_at(size_t read, uint32_t i) {
+    size_t slot = size * 1;
+    uint64_t sum = read * 31 + first[slot + 7 + i % (m * k)] + 3 * (uint64_t)second[slot + 7 + i % (k * p)] + 5 * (uint64_t)second[slot + 7 + k * p + i % (m * p)];
+    first[slot] = second[slot] = 3;
+    return sum;
+}
+
+static uint64_t our_product(uint32_t i) { return looked_at(bench_deal_product(first, POOL, second, POOL, size, 1, i + 1, q, m, k, p, words, WORDS), i); }
+static uint64_t flint_product(uint32_t i) { return looked_at(deal_product(1, i + 1), i); }
+
+static void product(uint32_t modulo, size_t rows, size_t sides, size_t columns) {
+    char name[64];
+    q = modulo, m = rows, k = sides, p = columns;
+    size = 7 + (m > p ? m * k : k * p) + m * p;
+    memset(first, 0, sizeof first), memset(second, 0, sizeof second);
+    nmod_mat_init(x0, m, k, q), nmod_mat_init(y0, k, p, q), nmod_mat_init(a0, m, p, q), nmod_mat_init(b0, m, p, q);
+    snprintf(name, sizeof name, "%zu x %zu x %zu, q %u: FLINT", m, k, p, q);
+    row(name, our_product, flint_product, 200, 1.50);
+    nmod_mat_clear(x0), nmod_mat_clear(y0), nmod_mat_clear(a0), nmod_mat_clear(b0);
+}
+
+int main(void) {
+    static const uint32_t moduli[] = {7, 65537, 2147483647};
+    for (size_t i = 0; i < WORDS; i++) words[i] = random32();
+    heading("dealing a product beside");
+    for (int i = 0; i < 3; i++) product(moduli[i], 1, 2048, 1), product(moduli[i], 32, 64, 32);
+    return 0;
+}

@@ -1,0 +1,26 @@
+// What bench/tape.c times: dealing. Each answers the words read, or 0 where the dealing is refused.
+use protocol::Answer;
+use protocol::TapeId;
+
+fn read_in(answer: Answer) -> usize {
+    match answer {
+        Answer::Accepted(read) => read,
+        Answer::Refused(_) => 0,
+    }
+}
+
+#[no_mangle]
+pub extern "C" fn bench_deal_product(
+    first: &mut [u32],
+    second: &mut [u32],
+    size: usize,
+    index: usize,
+    tape: u32,
+    q: u32,
+    m: u32,
+    k: u32,
+    p: u32,
+    words: &[u32],
+) -> usize {
+    read_in(tape::deal_product(first, second, size, index, TapeId(tape), q, m, k, p, words))
+}
