@@ -1,0 +1,97 @@
+use mathlib.Core.Path.{_≡_, refl, sym, ap, _∙_}
+use mathlib.Core.List.{List, _++_}
+use Prim.Native.Nat.{ℕ, _+_, _*_, _-_, _/_, _%_, _≤_, _<_}
+use native.Mathlib.Omega.{arith}
+use lib.ListN.{length, getD, set, take, drop}
+use borrow.Author.Needs.{needs}
+use Rattle.session.proofs.Join.{also, hands-on, goes-past}
+use mathlib.Core.List.{[], _∷_}
+use Rattle.blinder_later.specs.Groups.{writtenSize, laterTurn, laterWords, laterStep}
+use Rattle.protocol.specs.System.{keptTests, keptM, keptY, sideSize}
+use Rattle.session.proofs.Shape.{few, unknowns}
+use Rattle.session.proofs.Slot.{slot-part, slot-part-length, slot-written, half-body, spent-keeps}
+use Rattle.protocol.specs.Tape.{slotAt, blinder, wordsSpent}
+use Rattle.protocol.specs.Bounds.{system}
+use Rattle.steps.proofs.Fits.{received-fits}
+use Rattle.blinder_later.proofs.Known.{scratch-lent, last-tests, last-known, last-shape}
+use Rattle.checks.specs.InOrder.{checked, after}
+use Rattle.blinder_later.proofs.Order.{is-open, open-phases, closed-judged}
+use Rattle.blinder_later.proofs.check.check.Statement.{statement}
+use Rattle.blinder_later.proofs.check.check.Tie as tie
+
+check-closed-requires : tie.Need-check-closed-requires
+check-closed-requires c κs = search needs
+
+returns : tie.Need-returns
+returns c = c .check-closed .ensures ∙ sym (closed-judged (c .before .before .before .before .before .before .before .args .step) (c .before .before .before .before .before .before .before .args .s) (slotAt (c .before .before .before .before .before .before .before .args .pool .now) (c .before .before .before .before .before .before .before .args .size) (c .before .before .before .before .before .before .before .args .index)) (c .before .before .before .before .before .before .before .args .scratch .now) (c .before .before .before .before .before .before .before .args .a) (c .before .before .before .before .before .before .before .args .residues .now) (c .before .before .before .before .before .before .before .args .room) (c .before .if1 .taken) (λ (e : 0 ≡ c .before .before .before .before .before .before .before .args .step). omega (arith, e, c .before .before .before .before .before .before .before .pre)))
+
+check-numbers-requires : tie.Need-check-numbers-requires
+check-numbers-requires c κs = search needs
+
+enum-told : tie.Need-enum-told
+enum-told c = search needs
+
+enum-told-2 : tie.Need-enum-told-2
+enum-told-2 c = search needs
+
+returns-2 : tie.Need-returns-2
+returns-2 c = hands-on (c .before .before .check-numbers .result) _ (c .before .before .check-numbers .ensures) (c .enum-told2 .given .1) ∙ sym (open-phases (c .before .before .before .before .before .before .before .before .before .args .step) (c .before .before .before .before .before .before .before .before .before .args .s) (slotAt (c .before .before .before .before .before .before .before .before .before .args .pool .now) (c .before .before .before .before .before .before .before .before .before .args .size) (c .before .before .before .before .before .before .before .before .before .args .index)) (c .before .before .before .before .before .before .before .before .before .args .scratch .now) (c .before .before .before .before .before .before .before .before .before .args .a) (c .before .before .before .before .before .before .before .before .before .args .residues .now) (c .before .before .before .before .before .before .before .before .before .args .room) (is-open (c .before .before .before .before .before .before .before .before .before .args .s .due) (c .before .before .before .if1 .left)))
+
+check-turn-requires : tie.Need-check-turn-requires
+check-turn-requires c κs = let k = received-fits blinder (c .before .before .before .before .before .before .before .before .before .args .s .terms) (c .before .before .before .before .before .before .before .before .before .args .a) _ _ _ _ (sym (c .before .before .check-numbers .ensures) ∙ ap checked (c .enum-told .given .1)) in k .sides-fit
+
+enum-told-3 : tie.Need-enum-told-3
+enum-told-3 c = search needs
+
+enum-told-4 : tie.Need-enum-told-4
+enum-told-4 c = search needs
+
+returns-3 : tie.Need-returns-3
+returns-3 c = hands-on (c .before .before .check-turn .result) _ (c .before .before .check-turn .ensures) (c .enum-told4 .given .1) ∙ sym (open-phases (c .before .before .before .before .before .before .before .before .before .before .before .before .args .step) (c .before .before .before .before .before .before .before .before .before .before .before .before .args .s) (slotAt (c .before .before .before .before .before .before .before .before .before .before .before .before .args .pool .now) (c .before .before .before .before .before .before .before .before .before .before .before .before .args .size) (c .before .before .before .before .before .before .before .before .before .before .before .before .args .index)) (c .before .before .before .before .before .before .before .before .before .before .before .before .args .scratch .now) (c .before .before .before .before .before .before .before .before .before .before .before .before .args .a) (c .before .before .before .before .before .before .before .before .before .before .before .before .args .residues .now) (c .before .before .before .before .before .before .before .before .before .before .before .before .args .room) (is-open (c .before .before .before .before .before .before .before .before .before .before .before .before .args .s .due) (c .before .before .before .before .before .before .if1 .left)) ∙ goes-past (c .before .before .before .before .before .check-numbers .result) (c .before .before .before .before .before .check-numbers .ensures) (c .before .before .before .enum-told .given .1))
+
+mul-at : tie.Need-mul-at
+mul-at c = let k = received-fits blinder (c .before .before .before .before .before .before .before .before .before .before .before .before .args .s .terms) (c .before .before .before .before .before .before .before .before .before .before .before .before .args .a) _ _ _ _ (sym (c .before .before .before .before .before .check-numbers .ensures) ∙ ap checked (c .before .before .before .enum-told .given .1)) .inside in search needs
+
+add-end : tie.Need-add-end
+add-end c = let k = received-fits blinder (c .before .before .before .before .before .before .before .before .before .before .before .before .args .s .terms) (c .before .before .before .before .before .before .before .before .before .before .before .before .args .a) _ _ _ _ (sym (c .before .before .before .before .before .check-numbers .ensures) ∙ ap checked (c .before .before .before .enum-told .given .1)) .inside in search needs
+
+mul-check-words : tie.Need-mul-check-words
+mul-check-words c = let k = received-fits blinder (c .before .before .before .before .before .before .before .before .before .before .before .before .args .s .terms) (c .before .before .before .before .before .before .before .before .before .before .before .before .args .a) _ _ _ _ (sym (c .before .before .before .before .before .check-numbers .ensures) ∙ ap checked (c .before .before .before .enum-told .given .1)) .inside in search needs
+
+sub-check-words : tie.Need-sub-check-words
+sub-check-words c = search needs
+
+part-check-words-start : tie.Need-part-check-words-start
+part-check-words-start c = search needs
+
+part-check-words-end : tie.Need-part-check-words-end
+part-check-words-end c = let k = received-fits blinder (c .before .before .before .before .before .before .before .before .before .before .before .before .args .s .terms) (c .before .before .before .before .before .before .before .before .before .before .before .before .args .a) _ _ _ _ (sym (c .before .before .before .before .before .check-numbers .ensures) ∙ ap checked (c .before .before .before .enum-told .given .1)) .inside in search needs
+
+check-words-requires : tie.Need-check-words-requires
+check-words-requires c κs = let k = received-fits blinder (c .before .before .before .before .before .before .before .before .before .before .before .before .before .args .s .terms) (c .before .before .before .before .before .before .before .before .before .before .before .before .before .args .a) _ _ _ _ (sym (c .before .before .before .before .before .before .check-numbers .ensures) ∙ ap checked (c .before .before .before .before .enum-told .given .1)) in (k .sides-fit, omega (arith, k .half, slot-part-length (c .before .before .before .before .before .before .before .before .before .before .before .before .before .args .pool .now) (c .before .before .before .before .before .before .before .before .before .before .before .before .before .args .size) (c .before .before .before .before .before .before .before .before .before .before .before .before .before .args .index) (k .inside)), scratch-lent (c .before .before .before .before .before .before .before .before .before .before .before .before .before .args .step) (c .before .before .before .before .before .before .before .before .before .before .before .before .before .args .s .terms) (c .before .before .before .before .before .before .before .before .before .before .before .before .before .args .s .due) (c .before .before .before .before .before .before .before .before .before .before .before .before .before .args .a .kind) _ _ (sym (c .before .before .before .check-turn .ensures) ∙ ap checked (c .before .enum-told3 .given .1)))
+
+returns-4 : tie.Need-returns-4
+returns-4 c = (rw (slot-part (c .before .before .before .before .before .before .before .before .before .before .before .before .before .before .args .pool .now) (c .before .before .before .before .before .before .before .before .before .before .before .before .before .before .args .size) (c .before .before .before .before .before .before .before .before .before .before .before .before .before .before .args .index)) at (c .check-words .ensures)) ∙ sym (open-phases (c .before .before .before .before .before .before .before .before .before .before .before .before .before .before .args .step) (c .before .before .before .before .before .before .before .before .before .before .before .before .before .before .args .s) (slotAt (c .before .before .before .before .before .before .before .before .before .before .before .before .before .before .args .pool .now) (c .before .before .before .before .before .before .before .before .before .before .before .before .before .before .args .size) (c .before .before .before .before .before .before .before .before .before .before .before .before .before .before .args .index)) (c .before .before .before .before .before .before .before .before .before .before .before .before .before .before .args .scratch .now) (c .before .before .before .before .before .before .before .before .before .before .before .before .before .before .args .a) (c .before .before .before .before .before .before .before .before .before .before .before .before .before .before .args .residues .now) (c .before .before .before .before .before .before .before .before .before .before .before .before .before .before .args .room) (is-open (c .before .before .before .before .before .before .before .before .before .before .before .before .before .before .args .s .due) (c .before .before .before .before .before .before .before .before .if1 .left)) ∙ goes-past (c .before .before .before .before .before .before .before .check-numbers .result) (c .before .before .before .before .before .before .before .check-numbers .ensures) (c .before .before .before .before .before .enum-told .given .1) ∙ goes-past (c .before .before .before .before .check-turn .result) (c .before .before .before .before .check-turn .ensures) (c .before .before .enum-told3 .given .1))
+
+pub check-spec : {M : Type 1} → statement M
+check-spec =
+    tie.close
+    (tie.spec
+    check-closed-requires
+    returns
+    check-numbers-requires
+    enum-told
+    enum-told-2
+    returns-2
+    check-turn-requires
+    enum-told-3
+    enum-told-4
+    returns-3
+    mul-at
+    add-end
+    mul-check-words
+    sub-check-words
+    part-check-words-start
+    part-check-words-end
+    check-words-requires
+    returns-4)

@@ -1,0 +1,118 @@
+use mathlib.Core.Path.{_≡_, refl, sym, ap, _∙_}
+use mathlib.Core.List.{List, _++_}
+use Prim.Native.Nat.{ℕ, _+_, _*_, _-_, _/_, _%_, _≤_, _<_}
+use native.Mathlib.Omega.{arith}
+use lib.ListN.{length, getD, set, take, drop}
+use borrow.Author.Needs.{needs}
+use Rattle.session.proofs.Shape.{few, unknowns}
+use Rattle.session.proofs.Slot.{slot-part, slot-part-length, slot-written, half-body, spent-keeps}
+use Rattle.protocol.specs.Tape.{slotAt, blinder, wordsSpent}
+use Rattle.protocol.specs.Bounds.{system}
+use Rattle.steps.proofs.Fits.{received-fits}
+use Rattle.blinder_later.proofs.Known.{scratch-lent, last-tests, last-known, last-shape}
+use Rattle.blinder.proofs.Kept.{side-is, side-bound, square-bound, wide-bound, wide-enough, scratch-sum}
+use Rattle.blinder.proofs.Halves.{half-is}
+use Rattle.checks.specs.InOrder.{checked, after}
+use mathlib.Core.List.{[]}
+use Rattle.checks.specs.InOrder.{judged}
+use Rattle.session.proofs.Leaving.{refused-leaves}
+use Rattle.blinder_later.proofs.Leaving.{last-done}
+use Rattle.protocol.proofs.Slots.{slot-room}
+use Rattle.protocol.specs.System.{blinderLastEffect, blinderLast}
+use Rattle.blinder_later.proofs.last.blinder_last.Statement.{statement}
+use Rattle.blinder_later.proofs.last.blinder_last.Tie as tie
+
+check-requires : tie.Need-check-requires
+check-requires c κs = search needs
+
+no-head-requires : tie.Need-no-head-requires
+no-head-requires c κs = search needs
+
+enum-told : tie.Need-enum-told
+enum-told c = search needs
+
+enum-told-2 : tie.Need-enum-told-2
+enum-told-2 c = search needs
+
+answer-of-requires : tie.Need-answer-of-requires
+answer-of-requires c κs = search needs
+
+same-length : tie.Need-same-length
+same-length c = search needs
+
+same-length-2 : tie.Need-same-length-2
+same-length-2 c = search needs
+
+returns : tie.Need-returns
+unfolding blinderLast
+returns c = rw (c .answer-of .ensures, c .before .enum-told2 .given .1, c .before .before .before .no-head .ensures) (sym (refused-leaves (c .before .before .before .before .before .before .before .before .before .before .before .before .args .s) (slotAt (c .before .before .before .before .before .before .before .before .before .before .before .before .args .pool .now) (c .before .before .before .before .before .before .before .before .before .before .before .before .args .size) (c .before .before .before .before .before .before .before .before .before .before .before .before .args .index)) (c .before .before .before .before .before .before .before .before .before .before .before .before .args .scratch .now) [] (c .before .before .before .before .before .before .before .before .before .before .before .before .args .out .now) _ (blinderLastEffect (c .before .before .before .before .before .before .before .before .before .before .before .before .args .s) (slotAt (c .before .before .before .before .before .before .before .before .before .before .before .before .args .pool .now) (c .before .before .before .before .before .before .before .before .before .before .before .before .args .size) (c .before .before .before .before .before .before .before .before .before .before .before .before .args .index)) (c .before .before .before .before .before .before .before .before .before .before .before .before .args .scratch .now) (record { head = c .before .before .before .before .before .before .before .before .before .before .before .before .args .a; residues = c .before .before .before .before .before .before .before .before .before .before .before .before .args .residues .now })) (sym ((c .before .before .before .before .check .ensures ∙ ap judged (last-tests (c .before .before .before .before .before .before .before .before .before .before .before .before .args .s) (slotAt (c .before .before .before .before .before .before .before .before .before .before .before .before .args .pool .now) (c .before .before .before .before .before .before .before .before .before .before .before .before .args .size) (c .before .before .before .before .before .before .before .before .before .before .before .before .args .index)) (c .before .before .before .before .before .before .before .before .before .before .before .before .args .scratch .now) (record { head = c .before .before .before .before .before .before .before .before .before .before .before .before .args .a; residues = c .before .before .before .before .before .before .before .before .before .before .before .before .args .residues .now }) (length (c .before .before .before .before .before .before .before .before .before .before .before .before .args .out .now))))) ∙ ap checked (c .before .enum-told2 .given .1))))
+
+mul-at : tie.Need-mul-at
+mul-at c = let i = slot-room (slotAt (c .before .before .before .before .before .before .before .before .before .before .before .args .pool .now) (c .before .before .before .before .before .before .before .before .before .before .before .args .size) (c .before .before .before .before .before .before .before .before .before .before .before .args .index)) (last-known (c .before .before .before .before .before .before .before .before .before .before .before .args .s) (slotAt (c .before .before .before .before .before .before .before .before .before .before .before .args .pool .now) (c .before .before .before .before .before .before .before .before .before .before .before .args .size) (c .before .before .before .before .before .before .before .before .before .before .before .args .index)) (c .before .before .before .before .before .before .before .before .before .before .before .args .scratch .now) (record { head = c .before .before .before .before .before .before .before .before .before .before .before .args .a; residues = c .before .before .before .before .before .before .before .before .before .before .before .args .residues .now }) (length (c .before .before .before .before .before .before .before .before .before .before .before .args .out .now)) (sym ((c .before .before .before .check .ensures ∙ ap judged (last-tests (c .before .before .before .before .before .before .before .before .before .before .before .args .s) (slotAt (c .before .before .before .before .before .before .before .before .before .before .before .args .pool .now) (c .before .before .before .before .before .before .before .before .before .before .before .args .size) (c .before .before .before .before .before .before .before .before .before .before .before .args .index)) (c .before .before .before .before .before .before .before .before .before .before .before .args .scratch .now) (record { head = c .before .before .before .before .before .before .before .before .before .before .before .args .a; residues = c .before .before .before .before .before .before .before .before .before .before .before .args .residues .now }) (length (c .before .before .before .before .before .before .before .before .before .before .before .args .out .now))))) ∙ ap checked (c .enum-told .given .1)) .later .session-open .half .inside) in search needs
+
+add-end : tie.Need-add-end
+add-end c = let i = slot-room (slotAt (c .before .before .before .before .before .before .before .before .before .before .before .args .pool .now) (c .before .before .before .before .before .before .before .before .before .before .before .args .size) (c .before .before .before .before .before .before .before .before .before .before .before .args .index)) (last-known (c .before .before .before .before .before .before .before .before .before .before .before .args .s) (slotAt (c .before .before .before .before .before .before .before .before .before .before .before .args .pool .now) (c .before .before .before .before .before .before .before .before .before .before .before .args .size) (c .before .before .before .before .before .before .before .before .before .before .before .args .index)) (c .before .before .before .before .before .before .before .before .before .before .before .args .scratch .now) (record { head = c .before .before .before .before .before .before .before .before .before .before .before .args .a; residues = c .before .before .before .before .before .before .before .before .before .before .before .args .residues .now }) (length (c .before .before .before .before .before .before .before .before .before .before .before .args .out .now)) (sym ((c .before .before .before .check .ensures ∙ ap judged (last-tests (c .before .before .before .before .before .before .before .before .before .before .before .args .s) (slotAt (c .before .before .before .before .before .before .before .before .before .before .before .args .pool .now) (c .before .before .before .before .before .before .before .before .before .before .before .args .size) (c .before .before .before .before .before .before .before .before .before .before .before .args .index)) (c .before .before .before .before .before .before .before .before .before .before .before .args .scratch .now) (record { head = c .before .before .before .before .before .before .before .before .before .before .before .args .a; residues = c .before .before .before .before .before .before .before .before .before .before .before .args .residues .now }) (length (c .before .before .before .before .before .before .before .before .before .before .before .args .out .now))))) ∙ ap checked (c .enum-told .given .1)) .later .session-open .half .inside) in search needs
+
+mul-write : tie.Need-mul-write
+mul-write c = let i = slot-room (slotAt (c .before .before .before .before .before .before .before .before .before .before .before .args .pool .now) (c .before .before .before .before .before .before .before .before .before .before .before .args .size) (c .before .before .before .before .before .before .before .before .before .before .before .args .index)) (last-known (c .before .before .before .before .before .before .before .before .before .before .before .args .s) (slotAt (c .before .before .before .before .before .before .before .before .before .before .before .args .pool .now) (c .before .before .before .before .before .before .before .before .before .before .before .args .size) (c .before .before .before .before .before .before .before .before .before .before .before .args .index)) (c .before .before .before .before .before .before .before .before .before .before .before .args .scratch .now) (record { head = c .before .before .before .before .before .before .before .before .before .before .before .args .a; residues = c .before .before .before .before .before .before .before .before .before .before .before .args .residues .now }) (length (c .before .before .before .before .before .before .before .before .before .before .before .args .out .now)) (sym ((c .before .before .before .check .ensures ∙ ap judged (last-tests (c .before .before .before .before .before .before .before .before .before .before .before .args .s) (slotAt (c .before .before .before .before .before .before .before .before .before .before .before .args .pool .now) (c .before .before .before .before .before .before .before .before .before .before .before .args .size) (c .before .before .before .before .before .before .before .before .before .before .before .args .index)) (c .before .before .before .before .before .before .before .before .before .before .before .args .scratch .now) (record { head = c .before .before .before .before .before .before .before .before .before .before .before .args .a; residues = c .before .before .before .before .before .before .before .before .before .before .before .args .residues .now }) (length (c .before .before .before .before .before .before .before .before .before .before .before .args .out .now))))) ∙ ap checked (c .enum-told .given .1)) .later .session-open .half .inside) in search needs
+
+sub-write : tie.Need-sub-write
+sub-write c = search needs
+
+part-write-start : tie.Need-part-write-start
+part-write-start c = search needs
+
+part-write-end : tie.Need-part-write-end
+part-write-end c = let i = slot-room (slotAt (c .before .before .before .before .before .before .before .before .before .before .before .args .pool .now) (c .before .before .before .before .before .before .before .before .before .before .before .args .size) (c .before .before .before .before .before .before .before .before .before .before .before .args .index)) (last-known (c .before .before .before .before .before .before .before .before .before .before .before .args .s) (slotAt (c .before .before .before .before .before .before .before .before .before .before .before .args .pool .now) (c .before .before .before .before .before .before .before .before .before .before .before .args .size) (c .before .before .before .before .before .before .before .before .before .before .before .args .index)) (c .before .before .before .before .before .before .before .before .before .before .before .args .scratch .now) (record { head = c .before .before .before .before .before .before .before .before .before .before .before .args .a; residues = c .before .before .before .before .before .before .before .before .before .before .before .args .residues .now }) (length (c .before .before .before .before .before .before .before .before .before .before .before .args .out .now)) (sym ((c .before .before .before .check .ensures ∙ ap judged (last-tests (c .before .before .before .before .before .before .before .before .before .before .before .args .s) (slotAt (c .before .before .before .before .before .before .before .before .before .before .before .args .pool .now) (c .before .before .before .before .before .before .before .before .before .before .before .args .size) (c .before .before .before .before .before .before .before .before .before .before .before .args .index)) (c .before .before .before .before .before .before .before .before .before .before .before .args .scratch .now) (record { head = c .before .before .before .before .before .before .before .before .before .before .before .args .a; residues = c .before .before .before .before .before .before .before .before .before .before .before .args .residues .now }) (length (c .before .before .before .before .before .before .before .before .before .before .before .args .out .now))))) ∙ ap checked (c .enum-told .given .1)) .later .session-open .half .inside) in search needs
+
+write-requires : tie.Need-write-requires
+write-requires c κs = let f = last-known (c .before .before .before .before .before .before .before .before .before .before .before .before .before .before .args .s) (slotAt (c .before .before .before .before .before .before .before .before .before .before .before .before .before .before .args .pool .now) (c .before .before .before .before .before .before .before .before .before .before .before .before .before .before .args .size) (c .before .before .before .before .before .before .before .before .before .before .before .before .before .before .args .index)) (c .before .before .before .before .before .before .before .before .before .before .before .before .before .before .args .scratch .now) (record { head = c .before .before .before .before .before .before .before .before .before .before .before .before .before .before .args .a; residues = c .before .before .before .before .before .before .before .before .before .before .before .before .before .before .args .residues .now }) (length (c .before .before .before .before .before .before .before .before .before .before .before .before .before .before .args .out .now)) (sym ((c .before .before .before .before .before .before .check .ensures ∙ ap judged (last-tests (c .before .before .before .before .before .before .before .before .before .before .before .before .before .before .args .s) (slotAt (c .before .before .before .before .before .before .before .before .before .before .before .before .before .before .args .pool .now) (c .before .before .before .before .before .before .before .before .before .before .before .before .before .before .args .size) (c .before .before .before .before .before .before .before .before .before .before .before .before .before .before .args .index)) (c .before .before .before .before .before .before .before .before .before .before .before .before .before .before .args .scratch .now) (record { head = c .before .before .before .before .before .before .before .before .before .before .before .before .before .before .args .a; residues = c .before .before .before .before .before .before .before .before .before .before .before .before .before .before .args .residues .now }) (length (c .before .before .before .before .before .before .before .before .before .before .before .before .before .before .args .out .now))))) ∙ ap checked (c .before .before .before .enum-told .given .1)) in
+    let i = slot-room (slotAt (c .before .before .before .before .before .before .before .before .before .before .before .before .before .before .args .pool .now) (c .before .before .before .before .before .before .before .before .before .before .before .before .before .before .args .size) (c .before .before .before .before .before .before .before .before .before .before .before .before .before .before .args .index)) (f .later .session-open .half .inside) in
+    last-shape (c .before .before .before .before .before .before .before .before .before .before .before .before .before .before .args .s) (slotAt (c .before .before .before .before .before .before .before .before .before .before .before .before .before .before .args .pool .now) (c .before .before .before .before .before .before .before .before .before .before .before .before .before .before .args .size) (c .before .before .before .before .before .before .before .before .before .before .before .before .before .before .args .index)) (c .before .before .before .before .before .before .before .before .before .before .before .before .before .before .args .scratch .now) (record { head = c .before .before .before .before .before .before .before .before .before .before .before .before .before .before .args .a; residues = c .before .before .before .before .before .before .before .before .before .before .before .before .before .before .args .residues .now }) (length (c .before .before .before .before .before .before .before .before .before .before .before .before .before .before .args .out .now)) _ (slot-part-length (c .before .before .before .before .before .before .before .before .before .before .before .before .before .before .args .pool .now) (c .before .before .before .before .before .before .before .before .before .before .before .before .before .before .args .size) (c .before .before .before .before .before .before .before .before .before .before .before .before .before .before .args .index) i) f
+
+closed-requires : tie.Need-closed-requires
+closed-requires c κs = search needs
+
+same-length-3 : tie.Need-same-length-3
+same-length-3 c = search needs
+
+same-length-4 : tie.Need-same-length-4
+same-length-4 c = search needs
+
+same-length-5 : tie.Need-same-length-5
+same-length-5 c = search needs
+
+returns-2 : tie.Need-returns-2
+returns-2 c = let f = last-known (c .before .before .before .before .before .before .before .before .before .before .before .before .before .before .before .before .before .before .before .before .before .before .args .s) (slotAt (c .before .before .before .before .before .before .before .before .before .before .before .before .before .before .before .before .before .before .before .before .before .before .args .pool .now) (c .before .before .before .before .before .before .before .before .before .before .before .before .before .before .before .before .before .before .before .before .before .before .args .size) (c .before .before .before .before .before .before .before .before .before .before .before .before .before .before .before .before .before .before .before .before .before .before .args .index)) (c .before .before .before .before .before .before .before .before .before .before .before .before .before .before .before .before .before .before .before .before .before .before .args .scratch .now) (record { head = c .before .before .before .before .before .before .before .before .before .before .before .before .before .before .before .before .before .before .before .before .before .before .args .a; residues = c .before .before .before .before .before .before .before .before .before .before .before .before .before .before .before .before .before .before .before .before .before .before .args .residues .now }) (length (c .before .before .before .before .before .before .before .before .before .before .before .before .before .before .before .before .before .before .before .before .before .before .args .out .now)) (sym ((c .before .before .before .before .before .before .before .before .before .before .before .before .before .before .check .ensures ∙ ap judged (last-tests (c .before .before .before .before .before .before .before .before .before .before .before .before .before .before .before .before .before .before .before .before .before .before .args .s) (slotAt (c .before .before .before .before .before .before .before .before .before .before .before .before .before .before .before .before .before .before .before .before .before .before .args .pool .now) (c .before .before .before .before .before .before .before .before .before .before .before .before .before .before .before .before .before .before .before .before .before .before .args .size) (c .before .before .before .before .before .before .before .before .before .before .before .before .before .before .before .before .before .before .before .before .before .before .args .index)) (c .before .before .before .before .before .before .before .before .before .before .before .before .before .before .before .before .before .before .before .before .before .before .args .scratch .now) (record { head = c .before .before .before .before .before .before .before .before .before .before .before .before .before .before .before .before .before .before .before .before .before .before .args .a; residues = c .before .before .before .before .before .before .before .before .before .before .before .before .before .before .before .before .before .before .before .before .before .before .args .residues .now }) (length (c .before .before .before .before .before .before .before .before .before .before .before .before .before .before .before .before .before .before .before .before .before .before .args .out .now))))) ∙ ap checked (c .before .before .before .before .before .before .before .before .before .before .before .enum-told .given .1)) in
+    let i = slot-room (slotAt (c .before .before .before .before .before .before .before .before .before .before .before .before .before .before .before .before .before .before .before .before .before .before .args .pool .now) (c .before .before .before .before .before .before .before .before .before .before .before .before .before .before .before .before .before .before .before .before .before .before .args .size) (c .before .before .before .before .before .before .before .before .before .before .before .before .before .before .before .before .before .before .before .before .before .before .args .index)) (f .later .session-open .half .inside) in
+    last-done (c .before .before .before .before .before .before .before .before .before .before .before .before .before .before .before .before .before .before .before .before .before .before .args .s) (slotAt (c .before .before .before .before .before .before .before .before .before .before .before .before .before .before .before .before .before .before .before .before .before .before .args .pool .now) (c .before .before .before .before .before .before .before .before .before .before .before .before .before .before .before .before .before .before .before .before .before .before .args .size) (c .before .before .before .before .before .before .before .before .before .before .before .before .before .before .before .before .before .before .before .before .before .before .args .index)) (c .before .before .before .before .before .before .before .before .before .before .before .before .before .before .before .before .before .before .before .before .before .before .args .scratch .now) (record { head = c .before .before .before .before .before .before .before .before .before .before .before .before .before .before .before .before .before .before .before .before .before .before .args .a; residues = c .before .before .before .before .before .before .before .before .before .before .before .before .before .before .before .before .before .before .before .before .before .before .args .residues .now }) (c .before .before .before .before .before .before .before .before .before .before .before .before .before .before .before .before .before .before .before .before .before .before .args .out .now) (sym ((c .before .before .before .before .before .before .before .before .before .before .before .before .before .before .check .ensures ∙ ap judged (last-tests (c .before .before .before .before .before .before .before .before .before .before .before .before .before .before .before .before .before .before .before .before .before .before .args .s) (slotAt (c .before .before .before .before .before .before .before .before .before .before .before .before .before .before .before .before .before .before .before .before .before .before .args .pool .now) (c .before .before .before .before .before .before .before .before .before .before .before .before .before .before .before .before .before .before .before .before .before .before .args .size) (c .before .before .before .before .before .before .before .before .before .before .before .before .before .before .before .before .before .before .before .before .before .before .args .index)) (c .before .before .before .before .before .before .before .before .before .before .before .before .before .before .before .before .before .before .before .before .before .before .args .scratch .now) (record { head = c .before .before .before .before .before .before .before .before .before .before .before .before .before .before .before .before .before .before .before .before .before .before .args .a; residues = c .before .before .before .before .before .before .before .before .before .before .before .before .before .before .before .before .before .before .before .before .before .before .args .residues .now }) (length (c .before .before .before .before .before .before .before .before .before .before .before .before .before .before .before .before .before .before .before .before .before .before .args .out .now))))) ∙ ap checked (c .before .before .before .before .before .before .before .before .before .before .before .enum-told .given .1)) (f .later .session-open .terms .sides) (last-shape (c .before .before .before .before .before .before .before .before .before .before .before .before .before .before .before .before .before .before .before .before .before .before .args .s) (slotAt (c .before .before .before .before .before .before .before .before .before .before .before .before .before .before .before .before .before .before .before .before .before .before .args .pool .now) (c .before .before .before .before .before .before .before .before .before .before .before .before .before .before .before .before .before .before .before .before .before .before .args .size) (c .before .before .before .before .before .before .before .before .before .before .before .before .before .before .before .before .before .before .before .before .before .before .args .index)) (c .before .before .before .before .before .before .before .before .before .before .before .before .before .before .before .before .before .before .before .before .before .before .args .scratch .now) (record { head = c .before .before .before .before .before .before .before .before .before .before .before .before .before .before .before .before .before .before .before .before .before .before .args .a; residues = c .before .before .before .before .before .before .before .before .before .before .before .before .before .before .before .before .before .before .before .before .before .before .args .residues .now }) (length (c .before .before .before .before .before .before .before .before .before .before .before .before .before .before .before .before .before .before .before .before .before .before .args .out .now)) _ (slot-part-length (c .before .before .before .before .before .before .before .before .before .before .before .before .before .before .before .before .before .before .before .before .before .before .args .pool .now) (c .before .before .before .before .before .before .before .before .before .before .before .before .before .before .before .before .before .before .before .before .before .before .args .size) (c .before .before .before .before .before .before .before .before .before .before .before .before .before .before .before .before .before .before .before .before .before .before .args .index) i) f .full)
+    (c .closed .ensures)
+    (c .before .before .before .before .before .before .before .before .before .before .before .before .before .no-head .ensures)
+    (slot-written (c .before .before .before .before .before .before .before .before .before .before .before .before .before .before .before .before .before .before .before .before .before .before .args .pool .now) _ (c .before .before .before .before .before .before .before .before .before .before .before .before .before .before .before .before .before .before .before .before .before .before .args .size) (c .before .before .before .before .before .before .before .before .before .before .before .before .before .before .before .before .before .before .before .before .before .before .args .index) (wordsSpent blinder (c .before .before .before .before .before .before .before .before .before .before .before .before .before .before .before .before .before .before .before .before .before .before .args .s .terms)) i (λ ws e. spent-keeps blinder (c .before .before .before .before .before .before .before .before .before .before .before .before .before .before .before .before .before .before .before .before .before .before .args .s .terms) ws (omega (arith, f .later .session-open .half .room, e)) ∙ e) (c .before .before .before .before .before .before .before .write .ensures .0))
+    (c .before .before .before .before .before .before .before .write .ensures .1 .0)
+    (rw (slot-part (c .before .before .before .before .before .before .before .before .before .before .before .before .before .before .before .before .before .before .before .before .before .before .args .pool .now) (c .before .before .before .before .before .before .before .before .before .before .before .before .before .before .before .before .before .before .before .before .before .before .args .size) (c .before .before .before .before .before .before .before .before .before .before .before .before .before .before .before .before .before .before .before .before .before .before .args .index)) at (c .before .before .before .before .before .before .before .write .ensures .1 .1))
+
+pub blinder-last-spec : {M : Type 1} → statement M
+blinder-last-spec =
+    tie.close
+    (tie.spec
+    check-requires
+    no-head-requires
+    enum-told
+    enum-told-2
+    answer-of-requires
+    same-length
+    same-length-2
+    returns
+    mul-at
+    add-end
+    mul-write
+    sub-write
+    part-write-start
+    part-write-end
+    write-requires
+    closed-requires
+    same-length-3
+    same-length-4
+    same-length-5
+    returns-2)
