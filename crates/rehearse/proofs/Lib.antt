@@ -1,0 +1,4 @@
+-- Judged  the tests in two groups, and what is printed of each outcome
+-- Runs    what the calls leave is the run of the definition
+pub mod Judged
+pub mod Runs

@@ -1,0 +1,221 @@
+-- What the calls of a run leave is the run of the definition: no call is refused, and each message is handed on as it was sent.
+--   zeros-length, fits   an empty pool, and what the tests say
+--   run-made             from what dealing and the three steps leave
+-- Assumes nothing.
+use mathlib.Core.Path.{_≡_, refl, sym, ap, ap₂, _∙_}
+use mathlib.Core.Bool.{true}
+use mathlib.Core.List.{List, [], _++_, append-nil}
+use Prim.Native.Nat.{ℕ, _*_, _/_, _≤_, _<_, max}
+use native.Mathlib.Nat.{div-self, le-max-left, le-max-right}
+use native.Mathlib.Omega.{arith}
+use lib.ListN.{length, getD, take, drop, replicate, length-replicate, getD-replicate}
+use lib.Seq.{getD-take, length-take-le, drop-length, ext-getD}
+use borrow.Author.Tests.{lt-ltb}
+use Rattle.algebra.specs.Matrix.{zeros}
+use Rattle.algebra.specs.Words.{over}
+use Rattle.algebra.specs.Product.{rightShare}
+use Rattle.algebra.proofs.Lists.{length-tabulate, getD-tabulate, zeros-at, sub-residues}
+use Rattle.protocol.specs.declared.Terms.{Terms}
+use Rattle.protocol.specs.declared.Head.{Head}
+use Rattle.protocol.specs.declared.Answer.{Answer}
+use Rattle.protocol.specs.declared.RightSession.{RightSession}
+use Rattle.protocol.specs.Judge.{done}
+use Rattle.protocol.specs.Drawing.{drawn}
+use Rattle.protocol.specs.Tape.{Slot, slotAt, poolWith, isSlot, slotWords, statusOf, tapeSize, left, right}
+use Rattle.protocol.specs.Deal.{isFree, Dealt, dealtEffect, deal, productRequest}
+use Rattle.protocol.specs.Message.{Message, messageSize}
+use Rattle.protocol.specs.Step.{Effect, Outcome}
+use Rattle.protocol.specs.Product.{noRight, rightFirst, rightFirstEffect, leftStep, leftEffect, rightLast, rightLastEffect}
+use Rattle.protocol.specs.Rehearsal.{Input, Run, request, rehearsalTests, steps, run}
+use Rattle.protocol.proofs.Judge.{passed}
+use Rattle.protocol.proofs.StepTests.{left-step, right-last}
+use Rattle.protocol.proofs.Dealing.{deal-step}
+use Rattle.protocol.proofs.ProductRight.{ProductCalls, ProductRight, one, two, three}
+use Rattle.protocol.proofs.RehearsalRight.{RehearsalFits, rehearsal-tests, rehearsal-steps}
+use Rattle.checks.specs.InOrder.{judged}
+use Rattle.session.specs.Leaves.{Leaves, leaves}
+use Rattle.tape.specs.Dealt.{Pools, pools}
+use Rattle.rehearse_lines.specs.Prints.{messageWith, runOf}
+use Rattle.rehearse.specs.Order.{inputOf}
+use Rattle.rehearse.specs.Rooms.{slotSize, Rooms}
+
+-- ---- slices that are written whole, and an empty pool of one slot
+
+over-all : (ws l : List ℕ) → length ws ≡ length l → over ws l ≡ ws
+unfolding over
+over-all ws l e = ap (λ (n : ℕ). ws ++ drop n l) e ∙ (ap (λ (r : List ℕ). ws ++ r) (drop-length l) ∙ append-nil ws)
+
+pub zeros-length : (size : ℕ) → length (zeros size) ≡ size
+unfolding zeros
+zeros-length size = length-tabulate size (λ e. 0)
+
+pub take-zeros : (n k : ℕ) → n ≤ k → take n (replicate {A = ℕ} k 0) ≡ zeros n
+take-zeros n k h =
+    let long : length (take n (replicate {A = ℕ} k 0)) ≡ n = length-take-le n (replicate {A = ℕ} k 0) (omega (arith, length-replicate {A = ℕ} k 0)) in
+    ext-getD 0 (take n (replicate {A = ℕ} k 0)) (zeros n) (long ∙ sym (zeros-length n)) (λ e l. at e (omega arith))
+  where
+    at : (e : ℕ) → e < n → getD (take n (replicate {A = ℕ} k 0)) e 0 ≡ getD (zeros n) e 0
+    at e l = getD-take n (replicate {A = ℕ} k 0) e 0 l ∙ getD-replicate k e 0 0 (omega arith) ∙ sym (zeros-at n e l)
+
+module _ (size : ℕ) (h : 0 < size) where
+  empty-slot : isSlot (slotAt (zeros size) size 0) ≡ true
+  unfolding isSlot
+  empty-slot = lt-ltb 0 (length (zeros size) / size) (rw (zeros-length size, div-self h) (omega arith))
+
+  empty-status : statusOf (slotWords (slotAt (zeros size) size 0)) ≡ 0
+  unfolding statusOf slotWords zeros
+  empty-status =
+      let none : 0 * size ≡ 0 = omega arith in
+      ap (λ (k : ℕ). getD (take size (drop k (zeros size))) 0 0) none
+      ∙ (getD-take size (zeros size) 0 0 h ∙ getD-tabulate size (λ e. 0) 0 h)
+
+-- ---- the run
+
+same-run : {a a′ b b′ : Message} {u u′ v v′ : List ℕ} → a ≡ a′ → b ≡ b′ → u ≡ u′ → v ≡ v′
+    → _≡_ {A = Run} (record { one = a; two = b; leftShare = u; rightShare = v }) (record { one = a′; two = b′; leftShare = u′; rightShare = v′ })
+same-run e f g h = rw (e, f, g, h)
+
+module _ (t : Terms) (x y d l : List ℕ) (ok : judged (rehearsalTests (inputOf t x y d l)) ≡ done tt) where
+  abbrev i : Input
+  i = inputOf t x y d l
+
+  pub fits : RehearsalFits i
+  fits = rehearsal-tests i .0 (record { all = passed (rehearsalTests i) ok .0 })
+
+  abbrev size : ℕ
+  size = max (tapeSize left (t .m) (t .k) (t .p)) (tapeSize right (t .m) (t .k) (t .p))
+
+  some : 0 < size
+  unfolding tapeSize
+  some = omega arith
+
+  abbrev effect : Dealt
+  effect = dealtEffect (zeros size) (zeros size) size 0 (request i)
+
+  free : isFree (statusOf (slotWords (slotAt (zeros size) size 0))) ≡ true
+  unfolding isFree
+  free = rw (empty-status size some)
+
+  dealt : deal (zeros size) (zeros size) size 0 (request i) ≡ done effect
+  unfolding request
+  dealt = deal-step (zeros size) (zeros size) size 0 (request i) .accepts (record {
+    big = fits .terms .big;
+    small = fits .terms .small;
+    field = fits .terms .field;
+    sides = fits .terms .sides;
+    tape = fits .terms .tape;
+    first-slot = empty-slot size some;
+    first-room = le-max-left _ _;
+    second-slot = empty-slot size some;
+    second-room = le-max-right _ _;
+    enough = fits .dealer-enough;
+    first-free = free;
+    second-free = free;
+    mask = refl;
+  })
+
+  abbrev calls : ProductCalls
+  calls = record {
+    x = x;
+    y = y;
+    words = l;
+    room1 = messageSize 1 t;
+    room2 = messageSize 2 t;
+    leftRoom = t .m * t .p;
+    rightRoom = t .m * t .p;
+  }
+
+  abbrev a : Slot
+  a = slotAt (effect .first) size 0
+
+  abbrev b : Slot
+  b = slotAt (effect .second) size 0
+
+  held : ProductRight t a b calls
+  held = rehearsal-steps i fits
+
+  run-is : run i ≡ record { one = one t a b calls .sent; two = two t a b calls .sent; leftShare = two t a b calls .result; rightShare = three t a b calls .result }
+  unfolding run steps
+  run-is = rw (dealt, held .step1, held .step2, held .step3)
+
+  -- the messages and the shares have their sizes
+  size-one : length (one t a b calls .sent .residues) ≡ messageSize 1 t
+  size-one = left-step t a x l (one t a b calls .sent) (messageSize 2 t) (t .m * t .p) .means (held .step2) .0 .message .residues .size
+
+  size-two : length (two t a b calls .sent .residues) ≡ messageSize 2 t
+  unfolding rightFirstEffect
+  size-two = right-last _ _ (two t a b calls .sent) (t .m * t .p) .means (held .step3) .0 .message .residues .size
+
+  size-left : length (two t a b calls .result) ≡ t .m * t .p
+  unfolding leftEffect drawn
+  size-left = length-take-le (t .m * t .p) _ (fits .left-enough)
+
+  size-right : length (three t a b calls .result) ≡ t .m * t .p
+  unfolding rightFirstEffect rightLastEffect rightShare
+  size-right = sub-residues {q = t .q} (omega (arith, fits .terms .big)) (t .m * t .p) _ _ .size
+
+  -- ---- dealing
+
+  module _ (n : ℕ) (a0 b0 a1 b1 : List ℕ) (r0 : Answer) (en : n ≡ size) (ea : a0 ≡ zeros size) (eb : b0 ≡ zeros size)
+      (e0 : _≡_ {A = Pools} (record { answer = r0; first = a1; second = b1 })
+      (pools a0 b0 (deal a0 b0 n 0 (productRequest (t .tape) (t .q) (t .m) (t .k) (t .p) d)))) where
+    dealt-pools : pools a0 b0 (deal a0 b0 n 0 (productRequest (t .tape) (t .q) (t .m) (t .k) (t .p) d)) ≡ pools (zeros size) (zeros size) (done effect)
+    unfolding request
+    dealt-pools = rw (ea, eb, en, dealt)
+
+    first-is : a1 ≡ effect .first
+    first-is = ap (λ (p : Pools). p .first) (e0 ∙ dealt-pools)
+
+    second-is : b1 ≡ effect .second
+    second-is = ap (λ (p : Pools). p .second) (e0 ∙ dealt-pools)
+
+    -- ---- step 1
+
+    module _ (y0 y1 b2 : List ℕ) (r1 : Answer) (s1 : RightSession) (h1 : Head) (ey : length y0 ≡ messageSize 1 t)
+        (e1 : _≡_ {A = Leaves RightSession} (record { answer = r1; session = s1; head = h1; pool = b2; scratch = []; sent = y1; result = [] })
+        (leaves noRight (slotAt b1 n 0) [] y0 [] (rightFirst t (slotAt b1 n 0) y (length y0)))) where
+      left-1 : leaves noRight (slotAt b1 n 0) [] y0 [] (rightFirst t (slotAt b1 n 0) y (length y0)) ≡ leaves noRight b [] y0 [] (done (one t a b calls))
+      left-1 = rw (second-is, en, ey, held .step1)
+
+      sent-1 : messageWith h1 y1 ≡ one t a b calls .sent
+      sent-1 =
+          ap₂ messageWith (ap (λ (p : Leaves RightSession). p .head) (e1 ∙ left-1))
+          (ap (λ (p : Leaves RightSession). p .sent) (e1 ∙ left-1) ∙ over-all (one t a b calls .sent .residues) y0 (size-one ∙ sym ey))
+
+      session-1 : s1 ≡ one t a b calls .session
+      session-1 = ap (λ (p : Leaves RightSession). p .session) (e1 ∙ left-1)
+
+      pool-1 : b2 ≡ poolWith b (one t a b calls .slot)
+      pool-1 = ap (λ (p : Leaves RightSession). p .pool) (e1 ∙ left-1)
+
+      -- ---- step 2
+
+      module _ (x0 x1 u0 u a2 : List ℕ) (r2 : Answer) (h2 : Head) (ex : length x0 ≡ messageSize 2 t) (eu : length u0 ≡ t .m * t .p)
+          (e2 : _≡_ {A = Leaves Unit} (record { answer = r2; session = tt; head = h2; pool = a2; scratch = []; sent = x1; result = u })
+          (leaves tt (slotAt a1 n 0) [] x0 u0 (leftStep t (slotAt a1 n 0) x l (record { head = h1; residues = y1 }) (length x0) (length u0)))) where
+        left-2 : leaves tt (slotAt a1 n 0) [] x0 u0 (leftStep t (slotAt a1 n 0) x l (record { head = h1; residues = y1 }) (length x0) (length u0))
+            ≡ leaves tt a [] x0 u0 (done (two t a b calls))
+        left-2 = rw (first-is, en, sent-1, ex, eu, held .step2)
+
+        sent-2 : messageWith h2 x1 ≡ two t a b calls .sent
+        sent-2 =
+            ap₂ messageWith (ap (λ (p : Leaves Unit). p .head) (e2 ∙ left-2))
+            (ap (λ (p : Leaves Unit). p .sent) (e2 ∙ left-2) ∙ over-all (two t a b calls .sent .residues) x0 (size-two ∙ sym ex))
+
+        share-2 : u ≡ two t a b calls .result
+        share-2 = ap (λ (p : Leaves Unit). p .result) (e2 ∙ left-2) ∙ over-all (two t a b calls .result) u0 (size-left ∙ sym eu)
+
+        -- ---- step 3
+
+        module _ (v0 v b3 : List ℕ) (r3 : Answer) (s3 : RightSession) (h3 : Head) (ev : length v0 ≡ t .m * t .p)
+            (e3 : _≡_ {A = Leaves RightSession} (record { answer = r3; session = s3; head = h3; pool = b3; scratch = []; sent = []; result = v })
+            (leaves s1 (slotAt b2 n 0) [] [] v0 (rightLast s1 (slotAt b2 n 0) (record { head = h2; residues = x1 }) (length v0)))) where
+          left-3 : leaves s1 (slotAt b2 n 0) [] [] v0 (rightLast s1 (slotAt b2 n 0) (record { head = h2; residues = x1 }) (length v0))
+              ≡ leaves (one t a b calls .session) (slotAt (poolWith b (one t a b calls .slot)) size 0) [] [] v0 (done (three t a b calls))
+          left-3 = rw (session-1, pool-1, en, sent-2, ev, held .step3)
+
+          share-3 : v ≡ three t a b calls .result
+          share-3 = ap (λ (p : Leaves RightSession). p .result) (e3 ∙ left-3) ∙ over-all (three t a b calls .result) v0 (size-right ∙ sym ev)
+
+          pub run-made : runOf h1 y1 h2 x1 u v ≡ run i
+          run-made = same-run sent-1 sent-2 share-2 share-3 ∙ sym run-is

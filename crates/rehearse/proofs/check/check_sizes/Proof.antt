@@ -1,0 +1,70 @@
+use mathlib.Core.Path.{_≡_, refl, sym, ap, _∙_}
+use mathlib.Core.List.{List, _++_}
+use Prim.Native.Nat.{ℕ, _+_, _*_, _-_, _/_, _%_, _≤_, _<_}
+use native.Mathlib.Omega.{arith}
+use lib.ListN.{length, getD, set, take, drop}
+use borrow.Author.Needs.{needs}
+use Rattle.session.proofs.Join.{also, judged-true, judged-false}
+use mathlib.Core.List.{[], _∷_}
+use Rattle.checks.specs.InOrder.{checked, judged}
+use Rattle.rehearse.specs.Order.{inputOf, sizeTests, numberTests, wordTests}
+use Rattle.rehearse.proofs.check.check_sizes.Statement.{statement}
+use Rattle.rehearse.proofs.check.check_sizes.Tie as tie
+
+need-requires : tie.Need-need-requires
+need-requires c κs = search needs
+
+sides-fit-requires : tie.Need-sides-fit-requires
+sides-fit-requires c κs = search needs
+
+need-requires-2 : tie.Need-need-requires-2
+need-requires-2 c κs = search needs
+
+need-requires-3 : tie.Need-need-requires-3
+need-requires-3 c κs = search needs
+
+times-requires : tie.Need-times-requires
+times-requires c κs = search needs
+
+need-requires-4 : tie.Need-need-requires-4
+need-requires-4 c κs = search needs
+
+times-requires-2 : tie.Need-times-requires-2
+times-requires-2 c κs = search needs
+
+need-requires-5 : tie.Need-need-requires-5
+need-requires-5 c κs = search needs
+
+worst-requires : tie.Need-worst-requires
+worst-requires c κs = search needs
+
+worst-requires-2 : tie.Need-worst-requires-2
+worst-requires-2 c κs = search needs
+
+worst-requires-3 : tie.Need-worst-requires-3
+worst-requires-3 c κs = search needs
+
+worst-requires-4 : tie.Need-worst-requires-4
+worst-requires-4 c κs = search needs
+
+returns : tie.Need-returns
+unfolding sizeTests
+returns c = also (_ ∷ []) _ (c .worst4 .ensures) (c .before .before .before .before .before .before .before .before .before .before .before .before .need .ensures) (also (_ ∷ []) _ (c .before .worst3 .ensures) (rw (c .before .before .before .before .before .before .before .before .before .before .before .sides-fit .ensures) at (c .before .before .before .before .before .before .before .before .before .before .need2 .ensures)) (also (_ ∷ []) _ (c .before .before .worst2 .ensures) (c .before .before .before .before .before .before .before .before .need3 .ensures) (also (_ ∷ []) _ (c .before .before .before .worst .ensures) (rw (c .before .before .before .before .before .before .before .times .ensures) at (c .before .before .before .before .before .before .need4 .ensures)) (rw (c .before .before .before .before .before .times2 .ensures) at (c .before .before .before .before .need5 .ensures)))))
+
+pub check-sizes-spec : {M : Type 1} → statement M
+check-sizes-spec =
+    tie.close
+    (tie.spec
+    need-requires
+    sides-fit-requires
+    need-requires-2
+    need-requires-3
+    times-requires
+    need-requires-4
+    times-requires-2
+    need-requires-5
+    worst-requires
+    worst-requires-2
+    worst-requires-3
+    worst-requires-4
+    returns)

@@ -1,0 +1,67 @@
+// The run: dealing into two empty pools of one slot, and the three steps, each message handed on as it was sent.
+use checks::times;
+use product::left_step;
+use product::right_first;
+use product::right_last;
+use protocol::Head;
+use protocol::Terms;
+use tape::deal_product;
+ghost use mathlib.Core.Path.{_≡_};
+ghost use Prim.Native.Nat.{_*_, _≤_};
+ghost use lib.ListN.{length};
+ghost use Rattle.algebra.specs.Matrix.{zeros};
+ghost use Rattle.protocol.specs.Judge.{done};
+ghost use Rattle.protocol.specs.Rehearsal.{rehearsalTests, run};
+ghost use Rattle.checks.specs.InOrder.{judged};
+ghost use Rattle.rehearse_lines.specs.Prints.{runOf};
+ghost use Rattle.rehearse.specs.Order.{inputOf};
+ghost use Rattle.rehearse.specs.Rooms.{slotSize, Rooms};
+
+// The heads of the two messages.
+pub struct Heads {
+    pub one: Head,
+    pub two: Head,
+}
+
+// `first` and `second` are the pools; the messages' residues and the shares go into the last four.
+pub fn steps(
+    t: Terms,
+    x: &[u32],
+    y: &[u32],
+    dealer: &[u32],
+    coins: &[u32],
+    first: &mut [u32],
+    second: &mut [u32],
+    y1: &mut [u32],
+    x1r1: &mut [u32],
+    u: &mut [u32],
+    v: &mut [u32],
+) -> Heads
+    requires { ⌜ (judged (rehearsalTests (inputOf t (now x) (now y) (now dealer) (now coins))) ≡ done tt) × (now first ≡ zeros (slotSize t)) × (now second ≡ zeros (slotSize t)) × Rooms t (length (now y1)) (length (now x1r1)) (length (now u)) (length (now v)) ⌝ }
+    ensures { λ r. ⌜ runOf (r .one) (now (y1 .exit)) (r .two) (now (x1r1 .exit)) (now (u .exit)) (now (v .exit)) ≡ run (inputOf t (now (x .entry)) (now (y .entry)) (now (dealer .entry)) (now (coins .entry))) ⌝ }
+{
+    let size = first.len();
+    let id = t.tape;
+    deal_product(first, second, size, 0, id, t.q, t.m, t.k, t.p, dealer);
+    let sent = right_first(second, size, 0, t, y, y1);
+    let one = sent.head;
+    let open = sent.session;
+    let replied = left_step(first, size, 0, t, x, coins, one, y1, x1r1, u);
+    let two = replied.head;
+    right_last(second, size, 0, open, two, x1r1, v);
+    Heads { one, two }
+}
+
+// A slot's words, for the larger of the two halves.
+pub fn slot_size(t: Terms) -> usize
+    requires { ⌜ (t .m * t .k ≤ 2048) × (t .k * t .p ≤ 2048) × (t .m * t .p ≤ 1024) ⌝ }
+    ensures { λ r. ⌜ (r ≡ slotSize t) × (r ≤ 3079) ⌝ }
+{
+    let mk = times(t.m, t.k);
+    let kp = times(t.k, t.p);
+    let mp = times(t.m, t.p);
+    if mk <= kp {
+        return 7 + kp + mp;
+    }
+    7 + mk + mp
+}
