@@ -2,29 +2,39 @@
 --   Few, few                   the sides of a system in numbers
 --   FirstKnown, first-known    step 1: the numbers fit
 --   first-shape                what step 1's writer asks
+--   later-known                steps 3 and 5: the numbers fit
+--   second-known, last-known   an accepted step; second-counts, last-counts, later-shape: what its writer asks
 -- Assumes nothing.
-use mathlib.Core.Path.{_≡_, refl, sym, ap, _∙_}
+use mathlib.Core.Path.{_≡_, sym, ap, _∙_}
 use mathlib.Core.Bool.{true}
-use mathlib.Core.List.{List}
+use mathlib.Core.List.{List, _++_, map}
 use Prim.Native.Nat.{ℕ, _+_, _-_, _*_, _≤_, _<_}
 use native.Mathlib.Nat.{mul-le-mul}
 use native.Mathlib.Omega.{arith}
-use borrow.Author.Tests.{leb-true, eqb-true}
+use lib.ListN.{length, length-map}
+use borrow.Author.Tests.{leb-true, eqb-true, ne-eqb}
 use Rattle.algebra.specs.Prime.{isPrime}
-use Rattle.algebra.specs.Matrix.{Residues}
 use Rattle.protocol.specs.declared.Terms.{Terms}
-use Rattle.protocol.specs.Judge.{done}
+use Rattle.protocol.specs.declared.Head.{Head}
+use Rattle.protocol.specs.declared.SolverSession.{SolverSession}
+use Rattle.protocol.specs.Judge.{Test, done}
 use Rattle.protocol.specs.Bounds.{sidesFit, fieldFits, system, columns, allBelow}
-use Rattle.protocol.specs.Tape.{solver, bodySize, tapeSize, tapeTests, bodyTests}
-use Rattle.protocol.specs.System.{sideSize, keptTests}
-use Rattle.protocol.proofs.Judge.{passed}
+use Rattle.protocol.specs.Tape.{Slot, solver, bodySize, tapeSize, tapeTests, bodyTests}
+use Rattle.protocol.specs.System.{sideSize, keptTests, solverSecondEffect, solverSecondTests, solverSecond, solverLastEffect, solverLastTests, solverLast}
+use Rattle.protocol.specs.Message.{Message, messageLayout, messageSize}
+use Rattle.protocol.specs.Step.{isOpen}
+use Rattle.protocol.proofs.Judge.{passed, accepts, all-split}
+use Rattle.protocol.proofs.StepTests.{SolverFits, solver-second, solver-last}
 use Rattle.checks.specs.InOrder.{judged}
+use Rattle.checks.proofs.InOrder.{accepted-by}
 use Rattle.checks.proofs.Sides.{Modulus, modulus}
 use Rattle.checks.proofs.Place.{slot-inside}
 use Rattle.session.specs.Groups.{modulusTests, numberTests, placeTests}
-use Rattle.session.proofs.Shape.{unknowns}
-use Rattle.solver.specs.Groups.{firstNumbers, firstWords}
-use Rattle.solver.specs.Shape.{FirstShape}
+use Rattle.session.proofs.Shape.{unknowns, size-2, size-3, size-4, size-5}
+use Rattle.steps.specs.Groups.{receivedNumbers}
+use Rattle.steps.proofs.Fits.{Received, received-fits}
+use Rattle.solver.specs.Groups.{firstNumbers, firstWords, laterNumbers, receiving}
+use Rattle.solver.specs.Shape.{FirstShape, LaterShape}
 
 -- ---- the sides
 
@@ -106,3 +116,64 @@ first-shape t pool size index l x room slot k e = record {
 pub first-below : (t : Terms) (l x slot : List ℕ) → judged (firstWords t l x slot) ≡ done tt → allBelow (t .q) l ≡ true
 unfolding firstWords tapeTests bodyTests keptTests
 first-below t l x slot e = passed (firstWords t l x slot) e .0 .1 .1 .1 .1 .1 .1 .1 .1 .0
+
+-- ---- steps 3 and 5
+
+first-passed : (ts us : List Test) → judged (ts ++ us) ≡ done tt → judged ts ≡ done tt
+first-passed ts us e = accepts ts tt (all-split ts us (passed (ts ++ us) e .0) .0)
+
+pub later-known : (kind due : ℕ) (t : Terms) (a : Head) (count pool size index sent room : ℕ)
+    → judged (laterNumbers kind due t a count pool size index sent room) ≡ done tt → Received solver t pool size index
+unfolding laterNumbers
+later-known kind due t a count pool size index sent room e =
+    received-fits solver t a count pool size index (first-passed (receivedNumbers solver t a count pool size index) _ e)
+
+pub is-open : (due : ℕ) → (due ≡ 0 → ⊥) → isOpen due ≡ true
+unfolding isOpen
+is-open due h = rw (ne-eqb due 0 h)
+
+pub second-known : (x : SolverSession) (s : Slot) (a : Message) (room : ℕ) → judged (receiving 2 x s a (x .terms .m * x .terms .k) room) ≡ done tt
+    → SolverFits 2 x s a (messageSize 3 (x .terms)) room
+unfolding receiving solverSecond solverSecondTests messageSize messageLayout
+second-known x s a room h = solver-second x s a room .means (accepted-by (solverSecondTests x s a room) (solverSecondEffect x s a) h) .0
+
+pub last-known : (x : SolverSession) (s : Slot) (a : Message) (room : ℕ) → judged (receiving 4 x s a (sideSize (x .terms)) room) ≡ done tt
+    → SolverFits 4 x s a (messageSize 5 (x .terms)) room
+unfolding receiving solverLast solverLastTests messageSize messageLayout sideSize
+last-known x s a room h = solver-last x s a room .means (accepted-by (solverLastTests x s a room) (solverLastEffect x s a) h) .0
+
+pub later-shape : (kind : ℕ) (x : SolverSession) (s : Slot) (a : Message) (size room slot : ℕ) → SolverFits kind x s a size room → slot ≡ s .size
+    → LaterShape (x .terms) slot
+later-shape kind x s a size room slot f e =
+    let o = f .later .session-open in
+    record {
+      some-q = omega (arith, o .terms .big);
+      small-q = omega (arith, o .terms .small);
+      sides = o .terms .sides;
+      half = omega (arith, o .half .room, e);
+    }
+
+-- X1 and R1, F's room, W and c, t's room
+pub second-counts : (x : SolverSession) (s : Slot) (a : Message) (room : ℕ) → SolverFits 2 x s a (messageSize 3 (x .terms)) room
+    → (length (a .residues) ≡ x .terms .m * x .terms .m + x .terms .m * x .terms .p) × (x .terms .m * x .terms .m ≤ room)
+second-counts x s a room f =
+    let t = x .terms in
+    let n = few t (f .later .session-open .terms .sides) in
+    (omega (arith, f .message .residues .size, size-2 t, n .mk-is), omega (arith, f .message-room, size-3 t, n .mk-is))
+
+pub last-counts : (x : SolverSession) (s : Slot) (a : Message) (room : ℕ) → SolverFits 4 x s a (messageSize 5 (x .terms)) room
+    → (length (a .residues) ≡ x .terms .m * x .terms .m + x .terms .m) × (x .terms .m ≤ room)
+unfolding sideSize
+last-counts x s a room f =
+    let t = x .terms in
+    let n = few t (f .later .session-open .terms .sides) in (
+      omega (arith, f .message .residues .size, size-4 t, n .mk-is, n .side-is),
+      omega (arith, f .message-room, size-5 t 5 (λ e. omega arith) (λ e. omega arith) (λ e. omega arith) (λ e. omega arith), n .side-is),
+    )
+
+-- the length of a session's array, whose model is its list, mapped
+pub kept-length : (l : List ℕ) → length (map (λ (x : ℕ). x) l) ≡ 16 → length l ≡ 16
+kept-length l e = sym (length-map l (λ (x : ℕ). x)) ∙ e
+
+pub len-le : {n k : ℕ} → n ≡ k → k ≤ n
+len-le e = omega arith

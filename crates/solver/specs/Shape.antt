@@ -14,3 +14,9 @@ pub record FirstShape (t : Terms) (l x slot out : ℕ) : Type 0 where
   pub x-size : x ≡ sideSize t
   pub half : tapeSize solver (t .m) (t .k) (t .p) ≤ slot
   pub room : t .k * t .p ≤ out
+
+pub record LaterShape (t : Terms) (slot : ℕ) : Type 0 where
+  pub some-q : 0 < t .q
+  pub small-q : t .q < 2147483648
+  pub sides : sidesFit system (t .m) (t .k) (t .p) ≡ true
+  pub half : tapeSize solver (t .m) (t .k) (t .p) ≤ slot

@@ -1,18 +1,24 @@
 // The solver's three steps, by value: it hands over L and x at its first, and sends Y1, F and t.
 //   SolverAnswer   what a step answers
 //   first          step 1: solver_first
+//   later          what steps 3 and 5 check
+//   second, last   steps 3 and 5: solver_second, solver_last
 // A step is given its pool, the size of the pool's slots and the index of its own; its terms or its session; its inputs; the message that
 // it takes, a head and residues; and last the slice that it writes.
 pub mod first;
+pub mod last;
+pub mod later;
+pub mod second;
 
 use checks::Check;
 pub use first::solver_first;
+pub use last::solver_last;
 use protocol::Answer;
 use protocol::Head;
-use protocol::SessionId;
 use protocol::SolverSession;
-use protocol::TapeId;
 use protocol::Terms;
+pub use second::solver_second;
+use steps::no_head;
 ghost use mathlib.Core.Path.{_≡_};
 ghost use Rattle.protocol.specs.Message.{noMessage};
 ghost use Rattle.checks.specs.InOrder.{answerOf};
@@ -25,28 +31,11 @@ pub struct SolverAnswer {
     pub head: Head,
 }
 
-// The head where no message is sent.
-pub fn no_message() -> Head
-    ensures { λ r. ⌜ r ≡ noMessage .head ⌝ }
-{
-    Head {
-        kind: 0,
-        terms: Terms {
-            session: SessionId(0),
-            tape: TapeId(0),
-            q: 0,
-            m: 0,
-            k: 0,
-            p: 0,
-        },
-    }
-}
-
 // The session where a first step is refused.
 pub fn no_session() -> SolverSession
     ensures { λ r. ⌜ r ≡ noSolver ⌝ }
 {
-    let head = no_message();
+    let head = no_head();
     let terms = head.terms;
     let s = [0u32; 16];
     SolverSession {
@@ -63,7 +52,7 @@ pub fn refused(c: Check, session: SolverSession) -> SolverAnswer
     SolverAnswer {
         answer: checks::answer_of(c),
         session: session,
-        head: no_message(),
+        head: no_head(),
     }
 }
 

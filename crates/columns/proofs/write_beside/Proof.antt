@@ -1,13 +1,12 @@
-use mathlib.Core.Path.{_≡_, refl, sym, ap, _∙_}
+use mathlib.Core.Path.{_≡_, refl, ap, _∙_}
 use mathlib.Core.List.{List, _++_}
-use Prim.Native.Nat.{ℕ, _+_, _*_, _-_, _/_, _%_, _≤_, _<_}
+use Prim.Native.Nat.{ℕ, _+_, _*_, _-_, _≤_}
 use native.Mathlib.Omega.{arith}
-use lib.ListN.{length, getD, set, take, drop}
+use lib.ListN.{length}
 use borrow.Author.Needs.{needs}
-use Rattle.columns.proofs.Rows.{row-fits, beside-length, cols-none, cols-next, beside-none, beside-next, over-then, tail-part, turn, words-count, over-count, count-after}
-use Rattle.algebra.specs.Columns.{cols, beside}
+use Rattle.columns.proofs.Rows.{row-fits, beside-length, beside-none, beside-next, tail-part, turn}
+use Rattle.algebra.specs.Columns.{beside}
 use Rattle.algebra.specs.Words.{over}
-use Rattle.algebra.proofs.Columns.{cols-length}
 use Rattle.matrix.specs.Fill.{firstWords}
 use Rattle.columns.proofs.write_beside.Statement.{statement}
 use Rattle.columns.proofs.write_beside.Tie as tie

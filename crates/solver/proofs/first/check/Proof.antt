@@ -1,18 +1,13 @@
-use mathlib.Core.Path.{_≡_, refl, sym, ap, _∙_}
-use mathlib.Core.List.{List, _++_}
-use Prim.Native.Nat.{ℕ, _+_, _*_, _-_, _/_, _%_, _≤_, _<_}
+use mathlib.Core.Path.{sym, ap, _∙_}
 use native.Mathlib.Omega.{arith}
-use lib.ListN.{length, getD, set, take, drop}
 use borrow.Author.Needs.{needs}
-use Rattle.session.proofs.Join.{also, hands-on, goes-past}
-use mathlib.Core.List.{[], _∷_}
-use Rattle.solver.specs.Groups.{firstNumbers, firstWords}
-use Rattle.protocol.specs.System.{keptTests, regularTests}
-use Rattle.session.proofs.Slot.{slot-part, slot-part-length, slot-written, half-body, in-use-length, spent-keeps}
-use Rattle.protocol.specs.Tape.{slotAt, solver, wordsInUse, wordsSpent}
-use Rattle.solver.proofs.Known.{few, solver-size, FirstKnown, first-known, first-shape, first-below}
+use Rattle.session.proofs.Join.{hands-on, goes-past}
+use Rattle.protocol.specs.System.{regularTests}
+use Rattle.session.proofs.Slot.{slot-part, slot-part-length}
+use Rattle.protocol.specs.Tape.{slotAt}
+use Rattle.solver.proofs.Known.{few, first-known, first-below}
 use Rattle.solver.proofs.Order.{first-phases}
-use Rattle.checks.specs.InOrder.{checked, after}
+use Rattle.checks.specs.InOrder.{checked}
 use Rattle.protocol.proofs.Residues.{below-residues}
 use Rattle.solver.proofs.first.check.Statement.{statement}
 use Rattle.solver.proofs.first.check.Tie as tie

@@ -1,13 +1,7 @@
-use mathlib.Core.Path.{_≡_, refl, sym, ap, _∙_}
-use mathlib.Core.List.{List, _++_}
-use Prim.Native.Nat.{ℕ, _+_, _*_, _-_, _/_, _%_, _≤_, _<_}
-use native.Mathlib.Omega.{arith}
-use lib.ListN.{length, getD, set, take, drop}
 use borrow.Author.Needs.{needs}
-use Rattle.session.proofs.Join.{also, hands-on, goes-past}
+use Rattle.session.proofs.Join.{also}
 use mathlib.Core.List.{[], _∷_}
-use Rattle.solver.specs.Groups.{firstNumbers, firstWords}
-use Rattle.protocol.specs.System.{keptTests, regularTests}
+use Rattle.solver.specs.Groups.{firstNumbers}
 use Rattle.solver.proofs.first.check_numbers.Statement.{statement}
 use Rattle.solver.proofs.first.check_numbers.Tie as tie
 

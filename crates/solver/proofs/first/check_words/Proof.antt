@@ -1,15 +1,11 @@
-use mathlib.Core.Path.{_≡_, refl, sym, ap, _∙_}
-use mathlib.Core.List.{List, _++_}
-use Prim.Native.Nat.{ℕ, _+_, _*_, _-_, _/_, _%_, _≤_, _<_}
 use native.Mathlib.Omega.{arith}
-use lib.ListN.{length, getD, set, take, drop}
 use borrow.Author.Needs.{needs}
-use Rattle.session.proofs.Join.{also, hands-on, goes-past}
+use Rattle.session.proofs.Join.{also}
 use mathlib.Core.List.{[], _∷_}
-use Rattle.solver.specs.Groups.{firstNumbers, firstWords}
-use Rattle.protocol.specs.System.{keptTests, regularTests}
-use Rattle.session.proofs.Slot.{slot-part, slot-part-length, slot-written, half-body, in-use-length, spent-keeps}
-use Rattle.protocol.specs.Tape.{slotAt, solver, wordsInUse, wordsSpent}
+use Rattle.solver.specs.Groups.{firstWords}
+use Rattle.protocol.specs.System.{keptTests}
+use Rattle.session.proofs.Slot.{half-body}
+use Rattle.protocol.specs.Tape.{solver}
 use Rattle.solver.proofs.first.check_words.Statement.{statement}
 use Rattle.solver.proofs.first.check_words.Tie as tie
 

@@ -1,18 +1,16 @@
-use mathlib.Core.Path.{_≡_, refl, sym, ap, _∙_}
-use mathlib.Core.List.{List, _++_}
-use Prim.Native.Nat.{ℕ, _+_, _*_, _-_, _/_, _%_, _≤_, _<_}
+use mathlib.Core.Path.{sym, ap, _∙_}
 use native.Mathlib.Omega.{arith}
-use lib.ListN.{length, getD, set, take, drop}
+use lib.ListN.{length}
 use borrow.Author.Needs.{needs}
-use Rattle.session.proofs.Slot.{slot-part, slot-part-length, slot-written, half-body, in-use-length, spent-keeps}
-use Rattle.protocol.specs.Tape.{slotAt, solver, wordsInUse, wordsSpent}
-use Rattle.solver.proofs.Known.{few, solver-size, FirstKnown, first-known, first-shape, first-below}
+use Rattle.session.proofs.Slot.{slot-part, slot-part-length, slot-written, in-use-length}
+use Rattle.protocol.specs.Tape.{slotAt, wordsInUse}
+use Rattle.solver.proofs.Known.{solver-size, first-known, first-shape}
 use Rattle.solver.proofs.Order.{first-phases}
 use Rattle.session.proofs.Leaving.{refused-leaves}
 use Rattle.solver.proofs.Leaving.{first-done}
 use Rattle.checks.proofs.InOrder.{after-first}
 use Rattle.protocol.specs.System.{noSolver, solverFirstEffect, solverFirst}
-use Rattle.checks.specs.InOrder.{checked, after}
+use Rattle.checks.specs.InOrder.{checked}
 use mathlib.Core.List.{[]}
 use Rattle.algebra.specs.Matrix.{zeros, tabulate}
 use Rattle.solver.proofs.first.solver_first.Statement.{statement}

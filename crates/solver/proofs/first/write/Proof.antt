@@ -1,13 +1,9 @@
 use mathlib.Core.Path.{_≡_, refl, sym, ap, _∙_}
-use mathlib.Core.List.{List, _++_}
-use Prim.Native.Nat.{ℕ, _+_, _*_, _-_, _/_, _%_, _≤_, _<_}
+use Prim.Native.Nat.{ℕ, _+_, _*_, _-_}
 use native.Mathlib.Omega.{arith}
-use lib.ListN.{length, getD, set, take, drop}
 use borrow.Author.Needs.{needs}
-use Rattle.session.proofs.Slot.{slot-part, slot-part-length, slot-written, half-body, in-use-length, spent-keeps}
-use Rattle.protocol.specs.Tape.{slotAt, solver, wordsInUse, wordsSpent}
-use Rattle.solver.proofs.Known.{few, solver-size, FirstKnown, first-known, first-shape, first-below}
-use Rattle.solver.proofs.Halves.{y0-part, b0-part, r-part, v-part, over-part, first-sent}
+use Rattle.solver.proofs.Known.{few, solver-size}
+use Rattle.solver.proofs.Halves.{y0-part, over-part, first-sent}
 use Rattle.protocol.specs.Bounds.{columns}
 use Rattle.protocol.specs.System.{sideSize}
 use Rattle.algebra.specs.Columns.{beside}

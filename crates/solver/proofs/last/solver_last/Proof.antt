@@ -1,0 +1,105 @@
+use mathlib.Core.Path.{sym, ap, _∙_}
+use native.Mathlib.Omega.{arith}
+use lib.ListN.{length}
+use borrow.Author.Needs.{needs}
+use Rattle.session.proofs.Slot.{slot-part, slot-part-length, slot-written, spent-keeps}
+use Rattle.protocol.specs.Tape.{slotAt, solver, wordsSpent}
+use Rattle.solver.proofs.Known.{few, last-known, later-shape, kept-length, len-le, last-counts}
+use Rattle.session.proofs.Leaving.{refused-leaves}
+use Rattle.solver.proofs.Leaving.{last-done}
+use Rattle.protocol.proofs.Slots.{slot-room}
+use Rattle.protocol.specs.System.{solverLastEffect, solverLastTests, solverLast, sideSize}
+use Rattle.protocol.specs.Message.{messageSize, messageLayout}
+use Rattle.solver.specs.Groups.{receiving}
+use Rattle.checks.specs.InOrder.{checked}
+use mathlib.Core.List.{[]}
+use Rattle.protocol.specs.Bounds.{fieldFits}
+use Rattle.solver.proofs.last.solver_last.Statement.{statement}
+use Rattle.solver.proofs.last.solver_last.Tie as tie
+
+side-size-requires : tie.Need-side-size-requires
+side-size-requires c κs = search needs
+
+check-requires : tie.Need-check-requires
+check-requires c κs = search needs
+
+enum-told : tie.Need-enum-told
+enum-told c = search needs
+
+enum-told-2 : tie.Need-enum-told-2
+enum-told-2 c = search needs
+
+refused-requires : tie.Need-refused-requires
+refused-requires c κs = search needs
+
+same-length : tie.Need-same-length
+same-length c = search needs
+
+returns : tie.Need-returns
+unfolding solverLast solverLastTests receiving messageSize messageLayout sideSize
+returns c = rw (c .refused .ensures .0, c .refused .ensures .1, c .refused .ensures .2, c .before .enum-told2 .given .1) (sym (refused-leaves (c .before .before .before .before .before .before .before .before .before .before .args .s) (slotAt (c .before .before .before .before .before .before .before .before .before .before .args .pool .now) (c .before .before .before .before .before .before .before .before .before .before .args .size) (c .before .before .before .before .before .before .before .before .before .before .args .index)) [] (c .before .before .before .before .before .before .before .before .before .before .args .out .now) [] _ (solverLastEffect (c .before .before .before .before .before .before .before .before .before .before .args .s) (slotAt (c .before .before .before .before .before .before .before .before .before .before .args .pool .now) (c .before .before .before .before .before .before .before .before .before .before .args .size) (c .before .before .before .before .before .before .before .before .before .before .args .index)) (record { head = c .before .before .before .before .before .before .before .before .before .before .args .a; residues = c .before .before .before .before .before .before .before .before .before .before .args .residues .now })) (rw (c .before .before .before .before .before .side-size .ensures) at (sym (c .before .before .before .check .ensures) ∙ ap checked (c .before .enum-told2 .given .1)))))
+
+mul-at : tie.Need-mul-at
+mul-at c = let h = (rw (c .before .before .before .before .side-size .ensures) at (sym (c .before .before .check .ensures) ∙ ap checked (c .enum-told .given .1))) in let f = last-known (c .before .before .before .before .before .before .before .before .before .args .s) (slotAt (c .before .before .before .before .before .before .before .before .before .args .pool .now) (c .before .before .before .before .before .before .before .before .before .args .size) (c .before .before .before .before .before .before .before .before .before .args .index)) (record { head = c .before .before .before .before .before .before .before .before .before .args .a; residues = c .before .before .before .before .before .before .before .before .before .args .residues .now }) (length (c .before .before .before .before .before .before .before .before .before .args .out .now)) h in let i = slot-room (slotAt (c .before .before .before .before .before .before .before .before .before .args .pool .now) (c .before .before .before .before .before .before .before .before .before .args .size) (c .before .before .before .before .before .before .before .before .before .args .index)) (f .later .session-open .half .inside) in search needs
+
+add-end : tie.Need-add-end
+add-end c = let h = (rw (c .before .before .before .before .side-size .ensures) at (sym (c .before .before .check .ensures) ∙ ap checked (c .enum-told .given .1))) in let f = last-known (c .before .before .before .before .before .before .before .before .before .args .s) (slotAt (c .before .before .before .before .before .before .before .before .before .args .pool .now) (c .before .before .before .before .before .before .before .before .before .args .size) (c .before .before .before .before .before .before .before .before .before .args .index)) (record { head = c .before .before .before .before .before .before .before .before .before .args .a; residues = c .before .before .before .before .before .before .before .before .before .args .residues .now }) (length (c .before .before .before .before .before .before .before .before .before .args .out .now)) h in let i = slot-room (slotAt (c .before .before .before .before .before .before .before .before .before .args .pool .now) (c .before .before .before .before .before .before .before .before .before .args .size) (c .before .before .before .before .before .before .before .before .before .args .index)) (f .later .session-open .half .inside) in search needs
+
+mul-write : tie.Need-mul-write
+mul-write c = let h = (rw (c .before .before .before .before .before .side-size .ensures) at (sym (c .before .before .before .check .ensures) ∙ ap checked (c .before .enum-told .given .1))) in let f = last-known (c .before .before .before .before .before .before .before .before .before .before .args .s) (slotAt (c .before .before .before .before .before .before .before .before .before .before .args .pool .now) (c .before .before .before .before .before .before .before .before .before .before .args .size) (c .before .before .before .before .before .before .before .before .before .before .args .index)) (record { head = c .before .before .before .before .before .before .before .before .before .before .args .a; residues = c .before .before .before .before .before .before .before .before .before .before .args .residues .now }) (length (c .before .before .before .before .before .before .before .before .before .before .args .out .now)) h in let i = slot-room (slotAt (c .before .before .before .before .before .before .before .before .before .before .args .pool .now) (c .before .before .before .before .before .before .before .before .before .before .args .size) (c .before .before .before .before .before .before .before .before .before .before .args .index)) (f .later .session-open .half .inside) in search needs
+
+sub-write : tie.Need-sub-write
+sub-write c = search needs
+
+part-write-start : tie.Need-part-write-start
+part-write-start c = search needs
+
+part-write-end : tie.Need-part-write-end
+part-write-end c = let h = (rw (c .before .before .before .before .before .side-size .ensures) at (sym (c .before .before .before .check .ensures) ∙ ap checked (c .before .enum-told .given .1))) in let f = last-known (c .before .before .before .before .before .before .before .before .before .before .args .s) (slotAt (c .before .before .before .before .before .before .before .before .before .before .args .pool .now) (c .before .before .before .before .before .before .before .before .before .before .args .size) (c .before .before .before .before .before .before .before .before .before .before .args .index)) (record { head = c .before .before .before .before .before .before .before .before .before .before .args .a; residues = c .before .before .before .before .before .before .before .before .before .before .args .residues .now }) (length (c .before .before .before .before .before .before .before .before .before .before .args .out .now)) h in let i = slot-room (slotAt (c .before .before .before .before .before .before .before .before .before .before .args .pool .now) (c .before .before .before .before .before .before .before .before .before .before .args .size) (c .before .before .before .before .before .before .before .before .before .before .args .index)) (f .later .session-open .half .inside) in search needs
+
+slice-aggregate-write : tie.Need-slice-aggregate-write
+slice-aggregate-write c = search needs
+
+write-requires : tie.Need-write-requires
+unfolding fieldFits
+write-requires c κs = let h = (rw (c .before .before .before .before .before .before .before .before .side-size .ensures) at (sym (c .before .before .before .before .before .before .check .ensures) ∙ ap checked (c .before .before .before .before .enum-told .given .1))) in let f = last-known (c .before .before .before .before .before .before .before .before .before .before .before .before .before .args .s) (slotAt (c .before .before .before .before .before .before .before .before .before .before .before .before .before .args .pool .now) (c .before .before .before .before .before .before .before .before .before .before .before .before .before .args .size) (c .before .before .before .before .before .before .before .before .before .before .before .before .before .args .index)) (record { head = c .before .before .before .before .before .before .before .before .before .before .before .before .before .args .a; residues = c .before .before .before .before .before .before .before .before .before .before .before .before .before .args .residues .now }) (length (c .before .before .before .before .before .before .before .before .before .before .before .before .before .args .out .now)) h in let i = slot-room (slotAt (c .before .before .before .before .before .before .before .before .before .before .before .before .before .args .pool .now) (c .before .before .before .before .before .before .before .before .before .before .before .before .before .args .size) (c .before .before .before .before .before .before .before .before .before .before .before .before .before .args .index)) (f .later .session-open .half .inside) in let n = few (c .before .before .before .before .before .before .before .before .before .before .before .before .before .args .s .terms) (f .later .session-open .terms .sides) in let l = last-counts (c .before .before .before .before .before .before .before .before .before .before .before .before .before .args .s) (slotAt (c .before .before .before .before .before .before .before .before .before .before .before .before .before .args .pool .now) (c .before .before .before .before .before .before .before .before .before .before .before .before .before .args .size) (c .before .before .before .before .before .before .before .before .before .before .before .before .before .args .index)) (record { head = c .before .before .before .before .before .before .before .before .before .before .before .before .before .args .a; residues = c .before .before .before .before .before .before .before .before .before .before .before .before .before .args .residues .now }) (length (c .before .before .before .before .before .before .before .before .before .before .before .before .before .args .out .now)) f in (later-shape 4 (c .before .before .before .before .before .before .before .before .before .before .before .before .before .args .s) (slotAt (c .before .before .before .before .before .before .before .before .before .before .before .before .before .args .pool .now) (c .before .before .before .before .before .before .before .before .before .before .before .before .before .args .size) (c .before .before .before .before .before .before .before .before .before .before .before .before .before .args .index)) (record { head = c .before .before .before .before .before .before .before .before .before .before .before .before .before .args .a; residues = c .before .before .before .before .before .before .before .before .before .before .before .before .before .args .residues .now }) _ _ _ f (slot-part-length (c .before .before .before .before .before .before .before .before .before .before .before .before .before .args .pool .now) (c .before .before .before .before .before .before .before .before .before .before .before .before .before .args .size) (c .before .before .before .before .before .before .before .before .before .before .before .before .before .args .index) i), f .later .session-open .terms .field, l .0, len-le (kept-length (c .before .before .before .before .before .before .before .before .before .before .before .before .before .args .s .s) (c .before .before .before .before .before .before .before .before .before .before .before .before .before .good .1 .1 .1 .0 .1 .1 .1 .1 .0 .1 .0 .1)), l .1)
+
+answer-requires : tie.Need-answer-requires
+answer-requires c κs = search needs
+
+same-length-2 : tie.Need-same-length-2
+same-length-2 c = search needs
+
+same-length-3 : tie.Need-same-length-3
+same-length-3 c = search needs
+
+returns-2 : tie.Need-returns-2
+returns-2 c = let h = (rw (c .before .before .before .before .before .before .before .before .before .before .before .before .before .before .side-size .ensures) at (sym (c .before .before .before .before .before .before .before .before .before .before .before .before .check .ensures) ∙ ap checked (c .before .before .before .before .before .before .before .before .before .before .enum-told .given .1))) in let f = last-known (c .before .before .before .before .before .before .before .before .before .before .before .before .before .before .before .before .before .before .before .args .s) (slotAt (c .before .before .before .before .before .before .before .before .before .before .before .before .before .before .before .before .before .before .before .args .pool .now) (c .before .before .before .before .before .before .before .before .before .before .before .before .before .before .before .before .before .before .before .args .size) (c .before .before .before .before .before .before .before .before .before .before .before .before .before .before .before .before .before .before .before .args .index)) (record { head = c .before .before .before .before .before .before .before .before .before .before .before .before .before .before .before .before .before .before .before .args .a; residues = c .before .before .before .before .before .before .before .before .before .before .before .before .before .before .before .before .before .before .before .args .residues .now }) (length (c .before .before .before .before .before .before .before .before .before .before .before .before .before .before .before .before .before .before .before .args .out .now)) h in let i = slot-room (slotAt (c .before .before .before .before .before .before .before .before .before .before .before .before .before .before .before .before .before .before .before .args .pool .now) (c .before .before .before .before .before .before .before .before .before .before .before .before .before .before .before .before .before .before .before .args .size) (c .before .before .before .before .before .before .before .before .before .before .before .before .before .before .before .before .before .before .before .args .index)) (f .later .session-open .half .inside) in let n = few (c .before .before .before .before .before .before .before .before .before .before .before .before .before .before .before .before .before .before .before .args .s .terms) (f .later .session-open .terms .sides) in let l = last-counts (c .before .before .before .before .before .before .before .before .before .before .before .before .before .before .before .before .before .before .before .args .s) (slotAt (c .before .before .before .before .before .before .before .before .before .before .before .before .before .before .before .before .before .before .before .args .pool .now) (c .before .before .before .before .before .before .before .before .before .before .before .before .before .before .before .before .before .before .before .args .size) (c .before .before .before .before .before .before .before .before .before .before .before .before .before .before .before .before .before .before .before .args .index)) (record { head = c .before .before .before .before .before .before .before .before .before .before .before .before .before .before .before .before .before .before .before .args .a; residues = c .before .before .before .before .before .before .before .before .before .before .before .before .before .before .before .before .before .before .before .args .residues .now }) (length (c .before .before .before .before .before .before .before .before .before .before .before .before .before .before .before .before .before .before .before .args .out .now)) f in rw (c .answer .ensures .0, c .answer .ensures .1, c .answer .ensures .2)
+    (last-done (c .before .before .before .before .before .before .before .before .before .before .before .before .before .before .before .before .before .before .before .args .s) (slotAt (c .before .before .before .before .before .before .before .before .before .before .before .before .before .before .before .before .before .before .before .args .pool .now) (c .before .before .before .before .before .before .before .before .before .before .before .before .before .before .before .before .before .before .before .args .size) (c .before .before .before .before .before .before .before .before .before .before .before .before .before .before .before .before .before .before .before .args .index)) (record { head = c .before .before .before .before .before .before .before .before .before .before .before .before .before .before .before .before .before .before .before .args .a; residues = c .before .before .before .before .before .before .before .before .before .before .before .before .before .before .before .before .before .before .before .args .residues .now }) (c .before .before .before .before .before .before .before .before .before .before .before .before .before .before .before .before .before .before .before .args .out .now) (c .before .before .before .before .before .write .result) h (n .mk-is) (omega (arith, l .0, n .side-is))
+    (rw (slot-part (c .before .before .before .before .before .before .before .before .before .before .before .before .before .before .before .before .before .before .before .args .pool .now) (c .before .before .before .before .before .before .before .before .before .before .before .before .before .before .before .before .before .before .before .args .size) (c .before .before .before .before .before .before .before .before .before .before .before .before .before .before .before .before .before .before .before .args .index)) at (c .before .before .before .before .before .write .ensures .0))
+    (slot-written (c .before .before .before .before .before .before .before .before .before .before .before .before .before .before .before .before .before .before .before .args .pool .now) _ (c .before .before .before .before .before .before .before .before .before .before .before .before .before .before .before .before .before .before .before .args .size) (c .before .before .before .before .before .before .before .before .before .before .before .before .before .before .before .before .before .before .before .args .index) (wordsSpent solver (c .before .before .before .before .before .before .before .before .before .before .before .before .before .before .before .before .before .before .before .args .s .terms)) i (λ ws e. spent-keeps solver (c .before .before .before .before .before .before .before .before .before .before .before .before .before .before .before .before .before .before .before .args .s .terms) ws (omega (arith, f .later .session-open .half .room, e)) ∙ e) (c .before .before .before .before .before .write .ensures .1))
+    (rw (slot-part (c .before .before .before .before .before .before .before .before .before .before .before .before .before .before .before .before .before .before .before .args .pool .now) (c .before .before .before .before .before .before .before .before .before .before .before .before .before .before .before .before .before .before .before .args .size) (c .before .before .before .before .before .before .before .before .before .before .before .before .before .before .before .before .before .before .before .args .index)) at (c .before .before .before .before .before .write .ensures .2)))
+
+pub solver-last-spec : {M : Type 1} → statement M
+solver-last-spec =
+    tie.close
+    (tie.spec
+    side-size-requires
+    check-requires
+    enum-told
+    enum-told-2
+    refused-requires
+    same-length
+    returns
+    mul-at
+    add-end
+    mul-write
+    sub-write
+    part-write-start
+    part-write-end
+    slice-aggregate-write
+    write-requires
+    answer-requires
+    same-length-2
+    same-length-3
+    returns-2)

@@ -1,0 +1,121 @@
+use mathlib.Core.Path.{refl, sym, ap, _∙_}
+use Prim.Native.Nat.{ℕ, _+_}
+use native.Mathlib.Omega.{arith}
+use lib.ListN.{take, drop}
+use borrow.Author.Needs.{needs}
+use Rattle.solver.proofs.Known.{few, solver-size}
+use Rattle.solver.proofs.Halves.{y0-part, b0-part, share-found, rest-part}
+use lib.ListN.{length-take, length-drop}
+use lib.Seq.{length-take-le}
+use Rattle.protocol.specs.Bounds.{columns}
+use Rattle.solver.specs.Formulas.{shareOf}
+use Rattle.solver.proofs.second.find_share.Statement.{statement}
+use Rattle.solver.proofs.second.find_share.Tie as tie
+
+times-requires : tie.Need-times-requires
+times-requires c κs = search needs
+
+times-requires-2 : tie.Need-times-requires-2
+times-requires-2 c κs = search needs
+
+add-middle : tie.Need-add-middle
+add-middle c = let p = c .before .before .before .before .before .pre .0 in let f = few (c .before .before .before .before .before .args .t) (p .sides) in omega (arith, c .before .times .ensures, c .times2 .ensures, f .mp)
+
+add-end : tie.Need-add-end
+add-end c = let p = c .before .before .before .before .before .pre .0 in let f = few (c .before .before .before .before .before .args .t) (p .sides) in omega (arith, c .before .times .ensures, c .times2 .ensures, f .mp)
+
+cast-n : tie.Need-cast-n
+cast-n c = search needs
+
+cast-write-share : tie.Need-cast-write-share
+cast-write-share c = search needs
+
+slice-aggregate-write-share : tie.Need-slice-aggregate-write-share
+slice-aggregate-write-share c = let p = c .before .before .before .before .before .before .before .before .pre .0 in let f = few (c .before .before .before .before .before .before .before .before .args .t) (p .sides) in sym (length-take-le _ (c .before .before .before .before .before .before .before .before .args .residues .now) (omega (arith, c .before .before .before .before .times .ensures, c .before .before .before .before .before .before .before .before .pre .1)))
+
+sub-write-share : tie.Need-sub-write-share
+sub-write-share c = search needs
+
+part-write-share-start : tie.Need-part-write-share-start
+part-write-share-start c = search needs
+
+part-write-share-end : tie.Need-part-write-share-end
+part-write-share-end c = let p = c .before .before .before .before .before .before .before .before .pre .0 in let f = few (c .before .before .before .before .before .before .before .before .args .t) (p .sides) in omega (arith, solver-size (c .before .before .before .before .before .before .before .before .args .t .m) (c .before .before .before .before .before .before .before .before .args .t .k) (c .before .before .before .before .before .before .before .before .args .t .p), f .kp-is, c .before .before .before .before .times .ensures, c .before .before .before .times2 .ensures, p .half)
+
+mul-write-share : tie.Need-mul-write-share
+mul-write-share c = search needs
+
+sub-write-share-2 : tie.Need-sub-write-share-2
+sub-write-share-2 c = search needs
+
+part-write-share-start-2 : tie.Need-part-write-share-start-2
+part-write-share-start-2 c = search needs
+
+part-write-share-end-2 : tie.Need-part-write-share-end-2
+part-write-share-end-2 c = search needs
+
+mul-write-share-2 : tie.Need-mul-write-share-2
+mul-write-share-2 c = search needs
+
+sub-write-share-3 : tie.Need-sub-write-share-3
+sub-write-share-3 c = search needs
+
+part-write-share-start-3 : tie.Need-part-write-share-start-3
+part-write-share-start-3 c = search needs
+
+part-write-share-end-3 : tie.Need-part-write-share-end-3
+part-write-share-end-3 c = let p = c .before .before .before .before .before .before .before .before .before .before .pre .0 in let f = few (c .before .before .before .before .before .before .before .before .before .before .args .t) (p .sides) in omega (arith, solver-size (c .before .before .before .before .before .before .before .before .before .before .args .t .m) (c .before .before .before .before .before .before .before .before .before .before .args .t .k) (c .before .before .before .before .before .before .before .before .before .before .args .t .p), f .kp-is, c .before .before .before .before .before .before .times .ensures, c .before .before .before .before .before .times2 .ensures, p .half)
+
+write-share-requires : tie.Need-write-share-requires
+write-share-requires c κs = let p = c .before .before .before .before .before .before .before .before .before .before .before .before .pre .0 in let f = few (c .before .before .before .before .before .before .before .before .before .before .before .before .args .t) (p .sides) in (
+  record {
+    some-q = p .some-q;
+    small-q = p .small-q;
+    some-p = omega (arith, f .wide);
+    few-k = omega (arith, f .few);
+    few-y = omega (arith, f .mp);
+    full-x = simp length-take (omega (arith, c .before .before .before .before .before .before .before .before .times .ensures, c .before .before .before .before .before .before .before .times2 .ensures, c .before .before .before .before .before .before .before .before .before .before .before .before .pre .1));
+    full-y = simp (length-take, length-drop) (omega (arith, c .before .before .before .before .before .before .before .before .times .ensures, c .before .before .before .before .before .before .before .times2 .ensures, solver-size (c .before .before .before .before .before .before .before .before .before .before .before .before .args .t .m) (c .before .before .before .before .before .before .before .before .before .before .before .before .args .t .k) (c .before .before .before .before .before .before .before .before .before .before .before .before .args .t .p), f .kp-is, p .half));
+    room = c .before .before .before .before .before .before .before .before .before .before .before .before .pre .2;
+  },
+  simp (length-take, length-drop) (omega (arith, c .before .before .before .before .before .before .before .before .times .ensures, c .before .before .before .before .before .before .before .times2 .ensures, c .before .before .before .before .before .before .before .before .before .before .before .before .pre .1)),
+  simp (length-take, length-drop) (omega (arith, c .before .before .before .before .before .before .before .before .times .ensures, c .before .before .before .before .before .before .before .times2 .ensures, solver-size (c .before .before .before .before .before .before .before .before .before .before .before .before .args .t .m) (c .before .before .before .before .before .before .before .before .before .before .before .before .args .t .k) (c .before .before .before .before .before .before .before .before .before .before .before .before .args .t .p), f .kp-is, p .half)),
+)
+
+same-length : tie.Need-same-length
+same-length c = search needs
+
+returns : tie.Need-returns
+unfolding shareOf
+returns c = let p = c .before .before .before .before .before .before .before .before .before .before .before .before .before .before .before .pre .0 in let f = few (c .before .before .before .before .before .before .before .before .before .before .before .before .before .before .before .args .t) (p .sides) in share-found (c .before .before .before .before .before .before .before .before .before .before .before .before .before .before .before .args .t .q) (c .before .before .before .before .before .before .before .before .before .before .before .before .before .before .before .args .t .m) (c .before .before .before .before .before .before .before .before .before .before .before .before .before .before .before .args .t .p) (columns (c .before .before .before .before .before .before .before .before .before .before .before .before .before .before .before .args .t .m) (c .before .before .before .before .before .before .before .before .before .before .before .before .before .before .before .args .t .p)) _ _ _ _ (c .before .before .before .before .before .before .before .before .before .before .before .before .before .before .before .args .out .now) (c .before .before .write-share .ensures)
+    (ap (λ (n : ℕ). take n (c .before .before .before .before .before .before .before .before .before .before .before .before .before .before .before .args .residues .now)) (c .before .before .before .before .before .before .before .before .before .before .before .times .ensures))
+    (y0-part (c .before .before .before .before .before .before .before .before .before .before .before .before .before .before .before .args .t) (c .before .before .before .before .before .before .before .before .before .before .before .before .before .before .before .args .slot .now) 7 (7 + c .before .before .before .before .before .before .before .before .before .before .times2 .result) refl (omega (arith, c .before .before .before .before .before .before .before .before .before .before .times2 .ensures, f .kp-is)))
+    (rest-part (c .before .before .before .before .before .before .before .before .before .before .before .times .result) (c .before .before .before .before .before .before .before .before .before .before .before .before .before .before .before .args .residues .now) ∙ ap (λ (n : ℕ). drop n (c .before .before .before .before .before .before .before .before .before .before .before .before .before .before .before .args .residues .now)) (c .before .before .before .before .before .before .before .before .before .before .before .times .ensures))
+    (b0-part (c .before .before .before .before .before .before .before .before .before .before .before .before .before .before .before .args .t) (c .before .before .before .before .before .before .before .before .before .before .before .before .before .before .before .args .slot .now) (7 + c .before .before .before .before .before .before .before .before .before .before .times2 .result) (7 + c .before .before .before .before .before .before .before .before .before .before .times2 .result + c .before .before .before .before .before .before .before .before .before .before .times2 .result) (omega (arith, c .before .before .before .before .before .before .before .before .before .before .times2 .ensures, f .kp-is)) (omega (arith, c .before .before .before .before .before .before .before .before .before .before .times2 .ensures)))
+    (f .whole)
+
+pub find-share-spec : {M : Type 1} → statement M
+find-share-spec =
+    tie.close
+    (tie.spec
+    times-requires
+    times-requires-2
+    add-middle
+    add-end
+    cast-n
+    cast-write-share
+    slice-aggregate-write-share
+    sub-write-share
+    part-write-share-start
+    part-write-share-end
+    mul-write-share
+    sub-write-share-2
+    part-write-share-start-2
+    part-write-share-end-2
+    mul-write-share-2
+    sub-write-share-3
+    part-write-share-start-3
+    part-write-share-end-3
+    write-share-requires
+    same-length
+    returns)
