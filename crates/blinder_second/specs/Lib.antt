@@ -1,0 +1,2 @@
+-- Shape  what the writers ask, and what they write
+pub mod Shape
