@@ -24,3 +24,17 @@ pub extern "C" fn bench_deal_product(
 ) -> usize {
     read_in(tape::deal_product(first, second, size, index, TapeId(tape), q, m, k, p, words))
 }
+
+#[no_mangle]
+pub extern "C" fn bench_deal_system(
+    first: &mut [u32],
+    second: &mut [u32],
+    size: usize,
+    index: usize,
+    tape: u32,
+    q: u32,
+    n: u32,
+    words: &[u32],
+) -> usize {
+    read_in(tape::deal_system(first, second, size, index, TapeId(tape), q, n, words))
+}
