@@ -20,18 +20,15 @@ static uint32_t first[POOL], second[POOL], words[WORDS], q;
 static size_t m, k, p, size;
 static nmod_mat_t x0, y0, a0, b0, blind, r, g, v;
 
-// Fills a from the words at *at on; 0 where they are too few.
+// Fills a from the words at *at on; 0 where they are too few. A plain % is faster here than NMOD_RED.
 static int draw(nmod_mat_t a, size_t *at) {
     uint64_t below = q * (4294967296 / q);
-    nmod_t mod = a->mod;
     for (slong i = 0; i < a->r; i++)
         for (slong j = 0; j < a->c;) {
             if (*at == WORDS) return 0;
-            mp_limb_t w = words[(*at)++];
+            uint32_t w = words[(*at)++];
             if (w >= below) continue;
-            mp_limb_t residue;
-            NMOD_RED(residue, w, mod);
-            nmod_mat_entry(a, i, j++) = residue;
+            nmod_mat_entry(a, i, j++) = w % q;
         }
     return 1;
 }
