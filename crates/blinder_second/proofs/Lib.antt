@@ -1,2 +1,6 @@
--- Start  what stands at the start of an array that was written over
+-- Start    what stands at the start of an array that was written over
+-- Known    what is known where the step's tests passed
+-- Leaving  what the code leaves is what the definition says
 pub mod Start
+pub mod Known
+pub mod Leaving

@@ -1,6 +1,7 @@
-// Step 4's formulas: W = (U' − F) × Q + P × M × Q − G and c = u + P × y, where U0 = [U', u].
-//   formula  write_w, write_c
+// The blinder's second step, step 4 of a system.
+//   formula  W = (U' − F) × Q + P × M × Q − G and c = u + P × y, where U0 = [U', u]
+//   second   the step
 pub mod formula;
+pub mod second;
 
-pub use formula::write_c;
-pub use formula::write_w;
+pub use second::blinder_second;
