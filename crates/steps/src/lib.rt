@@ -2,6 +2,7 @@
 //   check_numbers  the numbers of the session, its slot and its message: refusals 1 to 4
 //   check_words    the words of its half and of the message: refusals 6 to 8
 //   check_closed   where the session is closed
+//   is_slot        the slot lies in its pool
 //   no_head        the head where nothing is sent
 use checks::Check;
 use checks::all_below;
@@ -72,7 +73,7 @@ pub fn check_words(
 }
 
 // The slot lies in the pool. No slot has the size 0.
-fn is_slot(pool: usize, size: usize, index: usize) -> bool
+pub fn is_slot(pool: usize, size: usize, index: usize) -> bool
     ensures { λ r. ⌜ r ≡ ltb index (pool / size) ⌝ }
 {
     if size == 0 {

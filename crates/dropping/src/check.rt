@@ -1,4 +1,6 @@
 // The tests of a drop. Of a closed session nothing but its slot is judged.
+//   check_open     of any session
+//   check_blinder  the same with the scratch
 use checks::Check;
 use checks::times;
 use protocol::Refusal;
@@ -9,12 +11,12 @@ use session::lowest::worst;
 use session::numbers::check_modulus;
 use session::numbers::check_sizes;
 use session::tape::check_tape;
+use steps::is_slot;
 ghost use mathlib.Core.Path.{_≡_};
-ghost use mathlib.Core.Bool.{true};
 ghost use mathlib.Core.List.{_++_};
-ghost use Prim.Native.Nat.{_≤_};
+ghost use lib.Dec.{leb};
 ghost use Rattle.protocol.specs.Judge.{given};
-ghost use Rattle.protocol.specs.Bounds.{sidesFit, system, roomTests};
+ghost use Rattle.protocol.specs.Bounds.{roomTests};
 ghost use Rattle.protocol.specs.Tape.{slotAt, blinder};
 ghost use Rattle.protocol.specs.Step.{isOpen, openTests};
 ghost use Rattle.protocol.specs.System.{scratchSize};
@@ -26,10 +28,7 @@ ghost use Rattle.dropping.specs.Groups.{closedTests, openNumbers};
 fn check_closed(pool: usize, size: usize, index: usize) -> Check
     ensures { λ r. ⌜ checked r ≡ judged (closedTests pool size index) ⌝ }
 {
-    if size == 0 {
-        return Check::Refused(Refusal::Size);
-    }
-    let slot = need(Refusal::Size, index < pool / size);
+    let slot = need(Refusal::Size, is_slot(pool, size, index));
     let due = need(Refusal::Turn, false);
     worst(slot, due)
 }
@@ -43,6 +42,7 @@ fn check_numbers(end: End, t: Terms, pool: usize, size: usize, index: usize) -> 
     worst(modulus, sizes)
 }
 
+// The session is open, and its half is in the slot, in use.
 pub fn check_open(end: End, due: u32, t: Terms, pool: &[u32], size: usize, index: usize) -> Check
     ensures { λ r. ⌜ checked r ≡ judged (openTests (role end) due t (slotAt (now (pool .entry)) size index)) ⌝ }
 {
@@ -58,15 +58,27 @@ pub fn check_open(end: End, due: u32, t: Terms, pool: &[u32], size: usize, index
     check_tape(end, 2, t, &pool[at..stop])
 }
 
-// The words of P and U0.
-pub fn scratch_size(t: Terms) -> usize
-    requires { ⌜ sidesFit system (t .m) (t .k) (t .p) ≡ true ⌝ }
-    ensures { λ r. ⌜ r ≡ scratchSize t ⌝ }
+// P and U0 fit in so many words; any sides may be handed over.
+fn scratch_fits(t: Terms, room: usize) -> bool
+    ensures { λ r. ⌜ r ≡ leb (scratchSize t) room ⌝ }
 {
-    times(t.m, t.m) + times(t.m, t.p)
+    let square = times(t.m, t.m);
+    if room < square {
+        return false;
+    }
+    times(t.m, t.p) <= room - square
 }
 
-// The same with the scratch, of so many words.
+fn check_scratch(due: u32, t: Terms, room: usize) -> Check
+    ensures { λ r. ⌜ checked r ≡ judged (given (isOpen due) (roomTests (scratchSize t) room)) ⌝ }
+{
+    if due == 0 {
+        return Check::Passed;
+    }
+    need(Refusal::Size, scratch_fits(t, room))
+}
+
+// Of the scratch is told how many words it has.
 pub fn check_blinder(
     due: u32,
     t: Terms,
@@ -77,18 +89,7 @@ pub fn check_blinder(
 ) -> Check
     ensures { λ r. ⌜ checked r ≡ judged (openTests blinder due t (slotAt (now (pool .entry)) size index) ++ given (isOpen due) (roomTests (scratchSize t) room)) ⌝ }
 {
-    if due == 0 {
-        return check_closed(pool.len(), size, index);
-    }
-    let numbers = check_numbers(End::Blinder, t, pool.len(), size, index);
-    let Check::Passed = numbers else {
-        return numbers;
-    };
-    let scratch = need(Refusal::Size, scratch_size(t) <= room);
-    let Check::Passed = scratch else {
-        return scratch;
-    };
-    let at = index * size;
-    let stop = at + size;
-    check_tape(End::Blinder, 2, t, &pool[at..stop])
+    let session = check_open(End::Blinder, due, t, pool, size, index);
+    let scratch = check_scratch(due, t, room);
+    worst(session, scratch)
 }

@@ -1,30 +1,34 @@
 // Dropping: an open session closes, and its tape is spent; a blinder's scratch is zeroed with it.
 //   right_drop, solver_drop, blinder_drop   for hosts: they take any numbers and slices
 //   check                                   the tests of a drop
+// A drop is given its pool, the size of the pool's slots and the index of its own; the blinder's its scratch; and the session.
+pub mod check;
+
+use blinder::closed;
+use blinder::scratch_size;
 use check::check_blinder;
 use check::check_open;
 use checks::Check;
+use checks::answer_of;
+use matrix::write_zeros;
 use protocol::Answer;
 use protocol::BlinderSession;
 use protocol::RightSession;
 use protocol::SolverSession;
 use protocol::Terms;
 use session::End;
+use session::tape::spend;
 ghost use mathlib.Core.Path.{_≡_};
 ghost use mathlib.Core.Bool.{true};
 ghost use mathlib.Core.List.{[]};
 ghost use Prim.Native.Nat.{_+_, _*_, _≤_};
 ghost use lib.ListN.{length};
-ghost use Rattle.algebra.specs.Matrix.{zeros};
-ghost use Rattle.algebra.specs.Words.{over};
 ghost use Rattle.protocol.specs.Bounds.{sidesFit};
 ghost use Rattle.protocol.specs.Tape.{slotAt, slotWords, poolWith, tapeSize, wordsSpent};
 ghost use Rattle.protocol.specs.Message.{noMessage};
-ghost use Rattle.protocol.specs.System.{scratchSize};
 ghost use Rattle.protocol.specs.Drop.{dropRight, dropSolver, dropBlinder};
 ghost use Rattle.session.specs.Ends.{role, sort};
 ghost use Rattle.session.specs.Leaves.{Leaves, leaves};
-pub mod check;
 
 // What a drop answers, and the session as it then is.
 pub struct RightDropped {
@@ -49,7 +53,7 @@ fn spend_at(end: End, t: Terms, pool: &mut [u32], size: usize, index: usize)
 {
     let at = index * size;
     let stop = at + size;
-    session::tape::spend(end, t, &mut pool[at..stop]);
+    spend(end, t, &mut pool[at..stop]);
 }
 
 pub fn right_drop(pool: &mut [u32], size: usize, index: usize, s: RightSession) -> RightDropped
@@ -61,7 +65,7 @@ pub fn right_drop(pool: &mut [u32], size: usize, index: usize, s: RightSession) 
     let checked = check_open(End::Right, s.due, t, pool, size, index);
     let Check::Passed = checked else {
         return RightDropped {
-            answer: checks::answer_of(checked),
+            answer: answer_of(checked),
             session: s,
         };
     };
@@ -81,17 +85,18 @@ pub fn solver_drop(pool: &mut [u32], size: usize, index: usize, s: SolverSession
     let checked = check_open(End::Solver, s.due, t, pool, size, index);
     let Check::Passed = checked else {
         return SolverDropped {
-            answer: checks::answer_of(checked),
+            answer: answer_of(checked),
             session: s,
         };
     };
     spend_at(End::Solver, t, pool, size, index);
+    let kept = [0u32; 16];
     SolverDropped {
         answer: Answer::Accepted(0),
         session: SolverSession {
             terms: t,
             due: 0,
-            s: [0u32; 16],
+            s: kept,
         },
     }
 }
@@ -111,19 +116,15 @@ pub fn blinder_drop(
     let checked = check_blinder(s.due, t, pool, size, index, scratch.len());
     let Check::Passed = checked else {
         return BlinderDropped {
-            answer: checks::answer_of(checked),
+            answer: answer_of(checked),
             session: s,
         };
     };
     spend_at(End::Blinder, t, pool, size, index);
-    matrix::write_zeros(check::scratch_size(t), scratch);
+    let coins = scratch_size(t);
+    write_zeros(coins, scratch);
     BlinderDropped {
         answer: Answer::Accepted(0),
-        session: BlinderSession {
-            terms: t,
-            due: 0,
-            mm: [0u32; 256],
-            y: [0u32; 16],
-        },
+        session: closed(t),
     }
 }

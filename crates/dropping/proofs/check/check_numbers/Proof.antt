@@ -1,0 +1,22 @@
+use borrow.Author.Needs.{needs}
+use Rattle.session.proofs.Join.{also}
+use Rattle.dropping.specs.Groups.{openNumbers}
+use Rattle.dropping.proofs.check.check_numbers.Statement.{statement}
+use Rattle.dropping.proofs.check.check_numbers.Tie as tie
+
+check-modulus-requires : tie.Need-check-modulus-requires
+check-modulus-requires c κs = search needs
+
+check-sizes-requires : tie.Need-check-sizes-requires
+check-sizes-requires c κs = search needs
+
+worst-requires : tie.Need-worst-requires
+worst-requires c κs = search needs
+
+returns : tie.Need-returns
+unfolding openNumbers
+returns c = also _ _ (c .worst .ensures) (c .before .before .check-modulus .ensures) (c .before .check-sizes .ensures)
+
+pub check-numbers-spec : {M : Type 1} → statement M
+check-numbers-spec =
+    tie.close (tie.spec check-modulus-requires check-sizes-requires worst-requires returns)

@@ -1,0 +1,74 @@
+use mathlib.Core.Path.{sym, ap, _∙_}
+use native.Mathlib.Omega.{arith}
+use borrow.Author.Needs.{needs}
+use Rattle.session.specs.Ends.{role}
+use Rattle.session.proofs.Join.{hands-on, goes-past}
+use Rattle.session.proofs.Slot.{slot-part, slot-part-length, half-body}
+use Rattle.protocol.specs.Tape.{slotAt}
+use Rattle.protocol.proofs.Tests.{open-due}
+use Rattle.checks.specs.InOrder.{checked}
+use Rattle.dropping.proofs.Order.{open-phases, closed-judged}
+use Rattle.dropping.proofs.Known.{numbers-placed}
+use Rattle.dropping.proofs.check.check_open.Statement.{statement}
+use Rattle.dropping.proofs.check.check_open.Tie as tie
+
+check-closed-requires : tie.Need-check-closed-requires
+check-closed-requires c κs = search needs
+
+returns : tie.Need-returns
+returns c = c .check-closed .ensures ∙ sym (closed-judged (role (c .before .before .before .args .end)) (c .before .before .before .args .due) (c .before .before .before .args .t) (slotAt (c .before .before .before .args .pool .now) (c .before .before .before .args .size) (c .before .before .before .args .index)) (c .before .if1 .taken))
+
+check-numbers-requires : tie.Need-check-numbers-requires
+check-numbers-requires c κs = search needs
+
+enum-told : tie.Need-enum-told
+enum-told c = search needs
+
+enum-told-2 : tie.Need-enum-told-2
+enum-told-2 c = search needs
+
+returns-2 : tie.Need-returns-2
+returns-2 c = hands-on (c .before .before .check-numbers .result) _ (c .before .before .check-numbers .ensures) (c .enum-told2 .given .1) ∙ sym (open-phases (role (c .before .before .before .before .before .args .end)) (c .before .before .before .before .before .args .due) (c .before .before .before .before .before .args .t) (slotAt (c .before .before .before .before .before .args .pool .now) (c .before .before .before .before .before .args .size) (c .before .before .before .before .before .args .index)) (open-due (c .before .before .before .before .before .args .due) .1 (omega (arith, c .before .before .before .if1 .left))))
+
+mul-at : tie.Need-mul-at
+mul-at c = let k = numbers-placed (role (c .before .before .before .before .before .args .end)) (c .before .before .before .before .before .args .t) _ (c .before .before .before .before .before .args .size) (c .before .before .before .before .before .args .index) (sym (c .before .before .check-numbers .ensures) ∙ ap checked (c .enum-told .given .1)) .0 in search needs
+
+add-stop : tie.Need-add-stop
+add-stop c = let k = numbers-placed (role (c .before .before .before .before .before .args .end)) (c .before .before .before .before .before .args .t) _ (c .before .before .before .before .before .args .size) (c .before .before .before .before .before .args .index) (sym (c .before .before .check-numbers .ensures) ∙ ap checked (c .enum-told .given .1)) .0 in search needs
+
+mul-check-tape : tie.Need-mul-check-tape
+mul-check-tape c = let k = numbers-placed (role (c .before .before .before .before .before .args .end)) (c .before .before .before .before .before .args .t) _ (c .before .before .before .before .before .args .size) (c .before .before .before .before .before .args .index) (sym (c .before .before .check-numbers .ensures) ∙ ap checked (c .enum-told .given .1)) .0 in search needs
+
+sub-check-tape : tie.Need-sub-check-tape
+sub-check-tape c = search needs
+
+part-check-tape-start : tie.Need-part-check-tape-start
+part-check-tape-start c = search needs
+
+part-check-tape-end : tie.Need-part-check-tape-end
+part-check-tape-end c = let k = numbers-placed (role (c .before .before .before .before .before .args .end)) (c .before .before .before .before .before .args .t) _ (c .before .before .before .before .before .args .size) (c .before .before .before .before .before .args .index) (sym (c .before .before .check-numbers .ensures) ∙ ap checked (c .enum-told .given .1)) .0 in search needs
+
+check-tape-requires : tie.Need-check-tape-requires
+check-tape-requires c κs = let k = numbers-placed (role (c .before .before .before .before .before .before .args .end)) (c .before .before .before .before .before .before .args .t) _ (c .before .before .before .before .before .before .args .size) (c .before .before .before .before .before .before .args .index) (sym (c .before .before .before .check-numbers .ensures) ∙ ap checked (c .before .enum-told .given .1)) in omega (arith, k .1, half-body (role (c .before .before .before .before .before .before .args .end)) (c .before .before .before .before .before .before .args .t), slot-part-length (c .before .before .before .before .before .before .args .pool .now) (c .before .before .before .before .before .before .args .size) (c .before .before .before .before .before .before .args .index) (k .0))
+
+returns-3 : tie.Need-returns-3
+returns-3 c = (rw (slot-part (c .before .before .before .before .before .before .before .args .pool .now) (c .before .before .before .before .before .before .before .args .size) (c .before .before .before .before .before .before .before .args .index)) at (c .check-tape .ensures)) ∙ sym (open-phases (role (c .before .before .before .before .before .before .before .args .end)) (c .before .before .before .before .before .before .before .args .due) (c .before .before .before .before .before .before .before .args .t) (slotAt (c .before .before .before .before .before .before .before .args .pool .now) (c .before .before .before .before .before .before .before .args .size) (c .before .before .before .before .before .before .before .args .index)) (open-due (c .before .before .before .before .before .before .before .args .due) .1 (omega (arith, c .before .before .before .before .before .if1 .left))) ∙ goes-past (c .before .before .before .before .check-numbers .result) (c .before .before .before .before .check-numbers .ensures) (c .before .before .enum-told .given .1))
+
+pub check-open-spec : {M : Type 1} → statement M
+check-open-spec =
+    tie.close
+    (tie.spec
+    check-closed-requires
+    returns
+    check-numbers-requires
+    enum-told
+    enum-told-2
+    returns-2
+    mul-at
+    add-stop
+    mul-check-tape
+    sub-check-tape
+    part-check-tape-start
+    part-check-tape-end
+    check-tape-requires
+    returns-3)
