@@ -1,6 +1,7 @@
 // Two functions timed beside each other. Each turn of `ours` and `other` with the same number must return the same value.
 //   heading(title)                              a table's head
 //   row(name, ours, other, turns, bound)        one line: nanoseconds a turn, medians over the rounds, and their ratio
+//   point(series, size, f, turns)               one point of the plot of time against size
 //   random32()                                  seeded numbers, the same in every run
 // The two take turns in each round, and the other begins in every second one; the clock is the thread's CPU time.
 #include <stdint.h>
@@ -66,4 +67,16 @@ static void row(const char *name, work ours, work other, uint32_t turns, double 
     if (bound > 0) printf(" %.2f%s", bound, m / t > bound ? "  ABOVE" : "");
     printf("\n");
     fflush(stdout);
+}
+
+// A line `series size nanoseconds` in the file that GROWTH names, if it names one.
+static inline void point(const char *series, unsigned size, work f, uint32_t turns) {
+    static double times[ROUNDS];
+    const char *path = getenv("GROWTH");
+    FILE *file = path ? fopen(path, "a") : NULL;
+    if (!file) return;
+    run(f, turns, times); // a round to warm up
+    for (int r = 0; r < ROUNDS; r++) run(f, turns, times + r);
+    fprintf(file, "%s %u %.1f\n", series, size, median(times));
+    fclose(file);
 }
