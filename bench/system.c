@@ -1,0 +1,225 @@
+// A whole session of a system of 16 unknowns on a tape that has been dealt, beside the bare solution of (L + M) z = x + y by FLINT and by NTL;
+// what each step takes, and its deepest stack.
+// packages: libflint-dev libntl-dev g++
+// link: -lflint -lntl -lgmp -lstdc++ -lm -lpthread
+#include "timing.h"
+#include <flint/flint.h>
+#include <flint/nmod_mat.h>
+#include <stdbool.h>
+#include <string.h>
+
+#define N 16
+#define SQUARE (N * N)
+#define WIDE (N * (N + 1))
+#define SLOT (7 + 2 * WIDE + 2 * SQUARE)
+#define WORDS 4000
+#define TURNS 50
+
+bool bench_solver_first(uint32_t *pool, size_t n_pool, size_t size, uint32_t q, uint32_t n, const uint32_t *l, size_t n_l, const uint32_t *x, size_t n_x,
+                        uint32_t *out, size_t n_out);
+bool bench_blinder_first(uint32_t *pool, size_t n_pool, size_t size, uint32_t *scratch, size_t n_scratch, uint32_t q, uint32_t n, const uint32_t *mm,
+                         size_t n_mm, const uint32_t *y, size_t n_y, const uint32_t *words, size_t n_words, const uint32_t *residues, size_t n_residues,
+                         uint32_t *out, size_t n_out);
+bool bench_solver_second(const uint32_t *pool, size_t n_pool, size_t size, uint32_t q, uint32_t n, const uint32_t *residues, size_t n_residues,
+                         uint32_t *kept, size_t n_kept, uint32_t *out, size_t n_out);
+bool bench_blinder_second(const uint32_t *pool, size_t n_pool, size_t size, const uint32_t *scratch, size_t n_scratch, uint32_t q, uint32_t n,
+                          const uint32_t *mm, size_t n_mm, const uint32_t *y, size_t n_y, const uint32_t *residues, size_t n_residues, uint32_t *out,
+                          size_t n_out);
+bool bench_solver_last(uint32_t *pool, size_t n_pool, size_t size, uint32_t q, uint32_t n, const uint32_t *kept, size_t n_kept, const uint32_t *residues,
+                       size_t n_residues, uint32_t *out, size_t n_out);
+bool bench_blinder_last(uint32_t *pool, size_t n_pool, size_t size, uint32_t *scratch, size_t n_scratch, uint32_t q, uint32_t n, const uint32_t *mm,
+                        size_t n_mm, const uint32_t *y, size_t n_y, const uint32_t *residues, size_t n_residues, uint32_t *out, size_t n_out);
+
+// bench/system.cpp
+void ntl_start(uint32_t q, size_t n, const uint32_t *a, const uint32_t *b);
+uint64_t ntl_solve(void);
+
+static uint32_t q, n, words[WORDS]; // n unknowns, 16 at most
+static size_t square, wide, slot;
+static uint32_t l[SQUARE], x[N], mm[SQUARE], y[N];
+static uint32_t blinder_tape[SLOT], solver_tape[SLOT]; // as dealt
+static uint32_t blinder_pool[SLOT], solver_pool[SLOT], scratch[SQUARE + WIDE], kept[N];
+static uint32_t sent1[WIDE], sent2[SQUARE + WIDE], sent3[SQUARE], sent4[SQUARE + N], sent5[N], z[N];
+static nmod_mat_t matrix, right, solution;
+
+static uint64_t sum(const uint32_t *t) {
+    uint64_t s = 0;
+    for (size_t i = 0; i < n; i++) s = s * 31 + t[i];
+    return s;
+}
+
+static bool step(int number) {
+    switch (number) {
+    case 1: return bench_solver_first(solver_pool, SLOT, slot, q, n, l, square, x, n, sent1, WIDE);
+    case 2: return bench_blinder_first(blinder_pool, SLOT, slot, scratch, SQUARE + WIDE, q, n, mm, square, y, n, words, WORDS, sent1, wide, sent2, SQUARE + WIDE);
+    case 3: return bench_solver_second(solver_pool, SLOT, slot, q, n, sent2, square + wide, kept, N, sent3, SQUARE);
+    case 4: return bench_blinder_second(blinder_pool, SLOT, slot, scratch, SQUARE + WIDE, q, n, mm, square, y, n, sent3, square, sent4, SQUARE + N);
+    case 5: return bench_solver_last(solver_pool, SLOT, slot, q, n, kept, N, sent4, square + n, sent5, N);
+    default: return bench_blinder_last(blinder_pool, SLOT, slot, scratch, SQUARE + WIDE, q, n, mm, square, y, n, sent5, n, z, N);
+    }
+}
+
+static void dealt(void) {
+    memcpy(blinder_pool, blinder_tape, sizeof blinder_pool);
+    memcpy(solver_pool, solver_tape, sizeof solver_pool);
+}
+
+// The six steps, from the tape as it was dealt.
+static uint64_t session(uint32_t i) {
+    (void)i;
+    dealt();
+    for (int number = 1; number <= 6; number++)
+        if (!step(number)) {
+            printf("step %d is refused\n", number);
+            exit(1);
+        }
+    return sum(z);
+}
+
+static uint64_t flint_solution(uint32_t i) {
+    (void)i;
+    nmod_mat_solve(solution, matrix, right);
+    uint64_t s = 0;
+    for (size_t j = 0; j < n; j++) s = s * 31 + nmod_mat_entry(solution, j, 0);
+    return s;
+}
+static uint64_t ntl_solution(uint32_t i) { (void)i; return ntl_solve(); }
+
+// ---- the tape, by the dealer's rules
+
+static void draw(uint32_t *to, size_t count) {
+    for (size_t i = 0; i < count; i++) to[i] = random32() % q;
+}
+
+// out = a × b, of n rows by n by p.
+static void product(uint32_t *out, const uint32_t *a, const uint32_t *b, size_t p) {
+    for (size_t i = 0; i < n; i++)
+        for (size_t j = 0; j < p; j++) {
+            uint64_t s = 0;
+            for (size_t k = 0; k < n; k++) s = (s + (uint64_t)a[i * n + k] * b[k * p + j]) % q;
+            out[i * p + j] = s;
+        }
+}
+
+static bool regular(const uint32_t *a) {
+    nmod_mat_t m;
+    nmod_mat_init(m, n, n, q);
+    for (size_t i = 0; i < square; i++) nmod_mat_entry(m, i / n, i % n) = a[i];
+    bool found = nmod_mat_rank(m) == n;
+    nmod_mat_clear(m);
+    return found;
+}
+
+static void draw_regular(uint32_t *to) {
+    do draw(to, square);
+    while (!regular(to));
+}
+
+static void deal(void) {
+    uint32_t head[] = {1, 4, 1, q, n, n, n + 1};
+    memcpy(blinder_tape, head, sizeof head), memcpy(solver_tape, head, sizeof head);
+    uint32_t *x0 = blinder_tape + 7, *a0 = x0 + square, *blind = a0 + wide, *g = blind + square;
+    uint32_t *y0 = solver_tape + 7, *b0 = y0 + wide, *r = b0 + wide, *v = r + square;
+    draw(x0, square), draw(y0, wide), draw(a0, wide), draw_regular(blind), draw(r, square), draw(g, square);
+    product(b0, x0, y0, n + 1), product(v, r, blind, n);
+    for (size_t i = 0; i < wide; i++) b0[i] = ((uint64_t)b0[i] + (q - a0[i])) % q;
+    for (size_t i = 0; i < square; i++) v[i] = ((uint64_t)v[i] + g[i]) % q;
+}
+
+// The bytes of stack below a call that it wrote.
+static __attribute__((noinline)) size_t painted(bool paint) {
+    unsigned char area[131072];
+    volatile unsigned char *at = area;
+    size_t i;
+    __asm__ volatile("" : "+r"(at));
+    if (paint) {
+        for (i = 0; i < sizeof area; i++) at[i] = 0xa5;
+        return 0;
+    }
+    for (i = 0; i < sizeof area && at[i] == 0xa5; i++) {}
+    return sizeof area - i;
+}
+
+static const char *const names[] = {"1, solver_first", "2, blinder_first", "3, solver_second", "4, blinder_second", "5, solver_last", "6, blinder_last"};
+
+// The median of each step's time in whole sessions.
+static void each(void) {
+    static double times[6][ROUNDS];
+    double whole = 0, m[6];
+    char name[64];
+    for (int r = 0; r < ROUNDS; r++)
+        for (int turn = 0; turn < TURNS; turn++) {
+            dealt();
+            for (int number = 1; number <= 6; number++) {
+                double start = now();
+                step(number);
+                times[number - 1][r] += (now() - start) / TURNS;
+            }
+        }
+    for (int number = 0; number < 6; number++) whole += m[number] = median(times[number]);
+    for (int number = 0; number < 6; number++) {
+        snprintf(name, sizeof name, "step %s", names[number]);
+        printf("%-44s | %10.1f ns, %.1f %% of the session\n", name, m[number], 100 * m[number] / whole);
+    }
+    memset(times, 0, sizeof times);
+}
+
+static void stacks(void) {
+    char name[64];
+    dealt();
+    for (int number = 1; number <= 6; number++) {
+        painted(true);
+        step(number);
+        size_t used = painted(false);
+        snprintf(name, sizeof name, "stack of step %s", names[number - 1]);
+        printf("%-44s | %10zu bytes, at most 65536%s\n", name, used, used > 65536 ? "  ABOVE" : "");
+    }
+}
+
+// Inputs, a tape and words for q and n. The words are drawn anew until P, the first that they give, has an inverse.
+static void start(uint32_t modulus, uint32_t unknowns) {
+    uint32_t joint[SQUARE], side[N];
+    q = modulus, n = unknowns, square = n * n, wide = n * (n + 1), slot = 7 + 2 * square + 2 * wide;
+    nmod_mat_init(matrix, n, n, q), nmod_mat_init(right, n, 1, q), nmod_mat_init(solution, n, 1, q);
+    do {
+        draw_regular(l), draw_regular(mm), draw(x, n), draw(y, n);
+        for (size_t i = 0; i < square; i++) nmod_mat_entry(matrix, i / n, i % n) = joint[i] = ((uint64_t)l[i] + mm[i]) % q;
+        for (size_t i = 0; i < n; i++) nmod_mat_entry(right, i, 0) = side[i] = ((uint64_t)x[i] + y[i]) % q;
+    } while (!nmod_mat_solve(solution, matrix, right));
+    ntl_start(q, n, joint, side);
+    deal();
+    do {
+        for (size_t i = 0; i < WORDS; i++) words[i] = random32();
+        dealt();
+    } while (!step(1) || !step(2));
+}
+
+static void stop(void) { nmod_mat_clear(matrix), nmod_mat_clear(right), nmod_mat_clear(solution); }
+
+static void at(uint32_t modulus) {
+    char name[64];
+    start(modulus, N);
+    snprintf(name, sizeof name, "q %u, n 16: a whole session beside", q);
+    heading(name);
+    row("FLINT nmod_mat_solve, bare", session, flint_solution, TURNS, 12.0);
+    row("NTL zz_p solve, bare", session, ntl_solution, TURNS, 0);
+    printf("\n");
+    each();
+    stop();
+}
+
+int main(void) {
+    at(257);
+    at(65537);
+    at(2147483647);
+    start(2147483647, N);
+    printf("\n");
+    stacks();
+    stop();
+    for (uint32_t unknowns = 1; unknowns <= N; unknowns *= 2) {
+        start(2147483647, unknowns);
+        point("system", unknowns, session, TURNS);
+        stop();
+    }
+    return 0;
+}

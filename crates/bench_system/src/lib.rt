@@ -1,0 +1,215 @@
+// What bench/system.c times: the six steps of a system of n unknowns, on the first slot of each pool. Each answers whether it is accepted.
+// C keeps what a session keeps: s of the solver, M and y of the blinder.
+use blinder::opened;
+use blinder_first::blinder_first;
+use blinder_later::blinder_last;
+use blinder_second::blinder_second;
+use matrix::write_copy;
+use protocol::Answer;
+use protocol::BlinderSession;
+use protocol::Head;
+use protocol::SessionId;
+use protocol::SolverSession;
+use protocol::TapeId;
+use protocol::Terms;
+use solver::solver_first;
+use solver::solver_last;
+use solver::solver_second;
+ghost use mathlib.Core.Path.{_≡_};
+ghost use Prim.Native.Nat.{_≤_, _<_};
+ghost use lib.ListN.{length};
+
+fn accepted(answer: Answer) -> bool {
+    match answer {
+        Answer::Accepted(_) => true,
+        Answer::Refused(_) => false,
+    }
+}
+
+fn terms(q: u32, n: u32) -> Terms
+    requires { ⌜ n ≤ 16 ⌝ }
+{
+    Terms {
+        session: SessionId(9),
+        tape: TapeId(4),
+        q,
+        m: n,
+        k: n,
+        p: n + 1,
+    }
+}
+
+// The blinder's session before the step that takes a message of kind `due`.
+fn session(t: Terms, due: u32, mm: &[u32], y: &[u32]) -> BlinderSession
+    requires { ⌜ (length (now mm) ≤ 256) × (length (now y) ≤ 16) ⌝ }
+{
+    let first = opened(t, mm, y);
+    let matrix = first.mm;
+    let vector = first.y;
+    BlinderSession {
+        terms: t,
+        due,
+        mm: matrix,
+        y: vector,
+    }
+}
+
+// What the solver's session keeps.
+fn keep(session: SolverSession, kept: &mut [u32])
+    requires { ⌜ 16 ≤ length (now kept) ⌝ }
+{
+    let s = session.s;
+    write_copy(16, &s, kept);
+}
+
+#[no_mangle]
+pub extern "C" fn bench_solver_first(
+    pool: &mut [u32],
+    size: usize,
+    q: u32,
+    n: u32,
+    l: &[u32],
+    x: &[u32],
+    out: &mut [u32],
+) -> bool
+    requires { ⌜ n ≤ 16 ⌝ }
+{
+    let done = solver_first(pool, size, 0, terms(q, n), l, x, out);
+    let answer = done.answer;
+    accepted(answer)
+}
+
+#[no_mangle]
+pub extern "C" fn bench_blinder_first(
+    pool: &mut [u32],
+    size: usize,
+    scratch: &mut [u32],
+    q: u32,
+    n: u32,
+    mm: &[u32],
+    y: &[u32],
+    words: &[u32],
+    residues: &[u32],
+    out: &mut [u32],
+) -> bool
+    requires { ⌜ n ≤ 16 ⌝ }
+{
+    let t = terms(q, n);
+    let a = Head { kind: 1, terms: t };
+    let done = blinder_first(pool, size, 0, scratch, t, mm, y, words, a, residues, out);
+    let answer = done.answer;
+    accepted(answer)
+}
+
+#[no_mangle]
+pub extern "C" fn bench_solver_second(
+    pool: &[u32],
+    size: usize,
+    q: u32,
+    n: u32,
+    residues: &[u32],
+    kept: &mut [u32],
+    out: &mut [u32],
+) -> bool
+    requires { ⌜ (n ≤ 16) × (16 ≤ length (now kept)) ⌝ }
+{
+    let t = terms(q, n);
+    let none = [0u32; 16];
+    let before = SolverSession {
+        terms: t,
+        due: 2,
+        s: none,
+    };
+    let a = Head { kind: 2, terms: t };
+    let done = solver_second(pool, size, 0, before, a, residues, out);
+    let after = done.session;
+    keep(after, kept);
+    let answer = done.answer;
+    accepted(answer)
+}
+
+#[no_mangle]
+pub extern "C" fn bench_blinder_second(
+    pool: &[u32],
+    size: usize,
+    scratch: &[u32],
+    q: u32,
+    n: u32,
+    mm: &[u32],
+    y: &[u32],
+    residues: &[u32],
+    out: &mut [u32],
+) -> bool
+    requires { ⌜ (n ≤ 16) × (length (now mm) ≤ 256) × (length (now y) ≤ 16) ⌝ }
+{
+    let t = terms(q, n);
+    let a = Head { kind: 3, terms: t };
+    let done = blinder_second(
+        pool,
+        size,
+        0,
+        scratch,
+        session(t, 3, mm, y),
+        a,
+        residues,
+        out,
+    );
+    let answer = done.answer;
+    accepted(answer)
+}
+
+#[no_mangle]
+pub extern "C" fn bench_solver_last(
+    pool: &mut [u32],
+    size: usize,
+    q: u32,
+    n: u32,
+    kept: &[u32],
+    residues: &[u32],
+    out: &mut [u32],
+) -> bool
+    requires { ⌜ (n ≤ 16) × (16 ≤ length (now kept)) ⌝ }
+{
+    let t = terms(q, n);
+    let mut s = [0u32; 16];
+    write_copy(16, kept, &mut s);
+    let before = SolverSession {
+        terms: t,
+        due: 4,
+        s: s,
+    };
+    let a = Head { kind: 4, terms: t };
+    let done = solver_last(pool, size, 0, before, a, residues, out);
+    let answer = done.answer;
+    accepted(answer)
+}
+
+#[no_mangle]
+pub extern "C" fn bench_blinder_last(
+    pool: &mut [u32],
+    size: usize,
+    scratch: &mut [u32],
+    q: u32,
+    n: u32,
+    mm: &[u32],
+    y: &[u32],
+    residues: &[u32],
+    out: &mut [u32],
+) -> bool
+    requires { ⌜ (n ≤ 16) × (length (now mm) ≤ 256) × (length (now y) ≤ 16) ⌝ }
+{
+    let t = terms(q, n);
+    let a = Head { kind: 5, terms: t };
+    let done = blinder_last(
+        pool,
+        size,
+        0,
+        scratch,
+        session(t, 5, mm, y),
+        a,
+        residues,
+        out,
+    );
+    let answer = done.answer;
+    accepted(answer)
+}
