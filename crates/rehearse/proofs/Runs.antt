@@ -1,11 +1,12 @@
 -- What the calls of a run leave is the run of the definition: no call is refused, and each message is handed on as it was sent.
 --   zeros-length, fits   an empty pool, and what the tests say
+--   pool-taken, rooms-taken, bounds, rooms-few   how many words the run's slices have
 --   run-made             from what dealing and the three steps leave
 -- Assumes nothing.
 use mathlib.Core.Path.{_≡_, refl, sym, ap, ap₂, _∙_}
 use mathlib.Core.Bool.{true}
 use mathlib.Core.List.{List, [], _++_, append-nil}
-use Prim.Native.Nat.{ℕ, _*_, _/_, _≤_, _<_, max}
+use Prim.Native.Nat.{ℕ, _+_, _*_, _/_, _≤_, _<_, max}
 use native.Mathlib.Nat.{div-self, le-max-left, le-max-right}
 use native.Mathlib.Omega.{arith}
 use lib.ListN.{length, getD, take, drop, replicate, length-replicate, getD-replicate}
@@ -23,7 +24,7 @@ use Rattle.protocol.specs.Judge.{done}
 use Rattle.protocol.specs.Drawing.{drawn}
 use Rattle.protocol.specs.Tape.{Slot, slotAt, poolWith, isSlot, slotWords, statusOf, tapeSize, left, right}
 use Rattle.protocol.specs.Deal.{isFree, Dealt, dealtEffect, deal, productRequest}
-use Rattle.protocol.specs.Message.{Message, messageSize}
+use Rattle.protocol.specs.Message.{Message, messageLayout, messageSize}
 use Rattle.protocol.specs.Step.{Effect, Outcome}
 use Rattle.protocol.specs.Product.{noRight, rightFirst, rightFirstEffect, leftStep, leftEffect, rightLast, rightLastEffect}
 use Rattle.protocol.specs.Rehearsal.{Input, Run, request, rehearsalTests, steps, run}
@@ -33,6 +34,7 @@ use Rattle.protocol.proofs.Dealing.{deal-step}
 use Rattle.protocol.proofs.ProductRight.{ProductCalls, ProductRight, one, two, three}
 use Rattle.protocol.proofs.RehearsalRight.{RehearsalFits, rehearsal-tests, rehearsal-steps}
 use Rattle.checks.specs.InOrder.{judged}
+use Rattle.checks.proofs.Sides.{Sides, sides}
 use Rattle.session.specs.Leaves.{Leaves, leaves}
 use Rattle.tape.specs.Dealt.{Pools, pools}
 use Rattle.rehearse_lines.specs.Prints.{messageWith, runOf}
@@ -69,6 +71,25 @@ module _ (size : ℕ) (h : 0 < size) where
       ap (λ (k : ℕ). getD (take size (drop k (zeros size))) 0 0) none
       ∙ (getD-take size (zeros size) 0 0 h ∙ getD-tabulate size (λ e. 0) 0 h)
 
+-- ---- the slices of a run
+
+zeros-taken : (n k : ℕ) → n ≤ k → length (take n (replicate {A = ℕ} k 0)) ≡ n
+zeros-taken n k h = length-take-le n (replicate {A = ℕ} k 0) (omega (arith, length-replicate {A = ℕ} k 0))
+
+pub pool-taken : (t : Terms) (n k : ℕ) → n ≤ k → n ≡ slotSize t → take n (replicate {A = ℕ} k 0) ≡ zeros (slotSize t)
+pool-taken t n k h e = take-zeros n k h ∙ ap zeros e
+
+pub rooms-taken : (t : Terms) (one two share : ℕ) → one ≤ 2048 → two ≤ 3072 → share ≤ 1024 → one ≡ t .k * t .p → two ≡ t .m * t .k + t .m * t .p → share ≡ t .m * t .p
+    → Rooms t (length (take one (replicate {A = ℕ} 2048 0))) (length (take two (replicate {A = ℕ} 3072 0)))
+    (length (take share (replicate {A = ℕ} 1024 0))) (length (take share (replicate {A = ℕ} 1024 0)))
+unfolding messageSize messageLayout
+rooms-taken t one two share a b c e f g = record {
+  one = zeros-taken one 2048 a ∙ e;
+  two = zeros-taken two 3072 b ∙ f;
+  left-share = zeros-taken share 1024 c ∙ g;
+  right-share = zeros-taken share 1024 c ∙ g;
+}
+
 -- ---- the run
 
 same-run : {a a′ b b′ : Message} {u u′ v v′ : List ℕ} → a ≡ a′ → b ≡ b′ → u ≡ u′ → v ≡ v′
@@ -81,6 +102,16 @@ module _ (t : Terms) (x y d l : List ℕ) (ok : judged (rehearsalTests (inputOf 
 
   pub fits : RehearsalFits i
   fits = rehearsal-tests i .0 (record { all = passed (rehearsalTests i) ok .0 })
+
+  pub bounds : Sides (t .m) (t .k) (t .p)
+  bounds = sides (t .m) (t .k) (t .p) (fits .terms .sides)
+
+  pub rooms-few : (y1 x1r1 u v : ℕ) → Rooms t y1 x1r1 u v → (y1 ≤ 2048) × (x1r1 ≤ 3072) × (u ≤ 1024) × (v ≤ 1024)
+  unfolding messageSize messageLayout
+  rooms-few y1 x1r1 u v r =
+      let one : y1 ≡ t .k * t .p = r .one in
+      let two : x1r1 ≡ t .m * t .k + t .m * t .p = r .two in
+      (omega (arith, bounds .few-kp), omega (arith, bounds .few-mk, bounds .few-mp), omega (arith, r .left-share, bounds .few-mp), omega (arith, r .right-share, bounds .few-mp))
 
   abbrev size : ℕ
   size = max (tapeSize left (t .m) (t .k) (t .p)) (tapeSize right (t .m) (t .k) (t .p))

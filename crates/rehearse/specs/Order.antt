@@ -4,7 +4,7 @@
 --   Prints                               what is printed stands at the start of the bytes that were lent
 use mathlib.Core.Path.{_≡_}
 use mathlib.Core.List.{List, [], _∷_, _++_}
-use Prim.Native.Nat.{ℕ, _*_}
+use Prim.Native.Nat.{ℕ, _*_, _≤_}
 use lib.Dec.{eqb, leb}
 use lib.ListN.{length}
 use Rattle.algebra.specs.Words.{over}
@@ -19,6 +19,7 @@ use Rattle.protocol.specs.Rehearsal.{Input, request, Run, printed}
 use Rattle.checks.specs.declared.Check.{Check}
 use Rattle.checks.specs.declared.Check.the-variants.{Passed, Refused}
 use Rattle.session.specs.Groups.{modulusTests}
+use Rattle.rehearse_lines.specs.Prints.{MOST}
 
 abbrev pub inputOf : Terms → (x y dealer left : List ℕ) → Input
 inputOf t x y d l = record { terms = t; x = x; y = y; dealerWords = d; leftWords = l }
@@ -51,4 +52,5 @@ refusalIn (Refused r) = r
 -- n bytes over the start of what was there
 pub record Prints (j : Judged Run) (n : ℕ) (before after : List ℕ) : Type 0 where
   pub place : n ≡ length (printed j)
+  pub few : n ≤ MOST
   pub contents : after ≡ over (printed j) before

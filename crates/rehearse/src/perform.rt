@@ -5,6 +5,7 @@ use product::right_first;
 use product::right_last;
 use protocol::Head;
 use protocol::Terms;
+use rehearse_lines::print;
 use tape::deal_product;
 ghost use mathlib.Core.Path.{_≡_};
 ghost use Prim.Native.Nat.{_*_, _≤_};
@@ -13,8 +14,8 @@ ghost use Rattle.algebra.specs.Matrix.{zeros};
 ghost use Rattle.protocol.specs.Judge.{done};
 ghost use Rattle.protocol.specs.Rehearsal.{rehearsalTests, run};
 ghost use Rattle.checks.specs.InOrder.{judged};
-ghost use Rattle.rehearse_lines.specs.Prints.{runOf};
-ghost use Rattle.rehearse.specs.Order.{inputOf};
+ghost use Rattle.rehearse_lines.specs.Prints.{MOST, runOf};
+ghost use Rattle.rehearse.specs.Order.{inputOf, Prints};
 ghost use Rattle.rehearse.specs.Rooms.{slotSize, Rooms};
 
 // The heads of the two messages.
@@ -24,7 +25,7 @@ pub struct Heads {
 }
 
 // `first` and `second` are the pools; the messages' residues and the shares go into the last four.
-pub fn steps(
+fn steps(
     t: Terms,
     x: &[u32],
     y: &[u32],
@@ -53,7 +54,7 @@ pub fn steps(
 }
 
 // A slot's words, for the larger of the two halves.
-pub fn slot_size(t: Terms) -> usize
+fn slot_size(t: Terms) -> usize
     requires { ⌜ (t .m * t .k ≤ 2048) × (t .k * t .p ≤ 2048) × (t .m * t .p ≤ 1024) ⌝ }
     ensures { λ r. ⌜ (r ≡ slotSize t) × (r ≤ 3079) ⌝ }
 {
@@ -64,4 +65,66 @@ pub fn slot_size(t: Terms) -> usize
         return 7 + kp + mp;
     }
     7 + mk + mp
+}
+
+// The run in the slices that it is lent, and what it leaves printed.
+fn play(
+    t: Terms,
+    x: &[u32],
+    y: &[u32],
+    dealer: &[u32],
+    coins: &[u32],
+    first: &mut [u32],
+    second: &mut [u32],
+    y1: &mut [u32],
+    x1r1: &mut [u32],
+    u: &mut [u32],
+    v: &mut [u32],
+    out: &mut [u8],
+) -> usize
+    requires { ⌜ (judged (rehearsalTests (inputOf t (now x) (now y) (now dealer) (now coins))) ≡ done tt) × (now first ≡ zeros (slotSize t)) × (now second ≡ zeros (slotSize t)) × Rooms t (length (now y1)) (length (now x1r1)) (length (now u)) (length (now v)) × (MOST ≤ length (now out)) ⌝ }
+    ensures { λ r. ⌜ Prints (done (run (inputOf t (now (x .entry)) (now (y .entry)) (now (dealer .entry)) (now (coins .entry))))) r (now (out .entry)) (now (out .exit)) ⌝ }
+{
+    let heads = steps(t, x, y, dealer, coins, first, second, y1, x1r1, u, v);
+    let one = heads.one;
+    let two = heads.two;
+    print::result(one, y1, two, x1r1, u, v, out)
+}
+
+// What is printed where all that the calls need holds.
+pub fn perform(
+    t: Terms,
+    x: &[u32],
+    y: &[u32],
+    dealer: &[u32],
+    coins: &[u32],
+    out: &mut [u8],
+) -> usize
+    requires { ⌜ (judged (rehearsalTests (inputOf t (now x) (now y) (now dealer) (now coins))) ≡ done tt) × (MOST ≤ length (now out)) ⌝ }
+    ensures { λ r. ⌜ Prints (done (run (inputOf t (now (x .entry)) (now (y .entry)) (now (dealer .entry)) (now (coins .entry))))) r (now (out .entry)) (now (out .exit)) ⌝ }
+{
+    let kp = times(t.k, t.p);
+    let mp = times(t.m, t.p);
+    let sent = times(t.m, t.k) + mp;
+    let size = slot_size(t);
+    let mut first = [0u32; 3079];
+    let mut second = [0u32; 3079];
+    let mut y1 = [0u32; 2048];
+    let mut x1r1 = [0u32; 3072];
+    let mut u = [0u32; 1024];
+    let mut v = [0u32; 1024];
+    play(
+        t,
+        x,
+        y,
+        dealer,
+        coins,
+        &mut first[..size],
+        &mut second[..size],
+        &mut y1[..kp],
+        &mut x1r1[..sent],
+        &mut u[..mp],
+        &mut v[..mp],
+        out,
+    )
 }

@@ -86,6 +86,7 @@ fn number(r: Refusal) -> u32
 pub fn refusal(r: Refusal, out: &mut [u8]) -> usize
     requires { ⌜ MOST ≤ length (now out) ⌝ }
     ensures place { λ n. ⌜ n ≡ length (printed (refused r)) ⌝ }
+    ensures few { λ n. ⌜ n ≤ MOST ⌝ }
     ensures contents { λ _. ⌜ now (out .exit) ≡ over (printed (refused r)) (now (out .entry)) ⌝ }
 {
     let words = [number(r)];
@@ -104,6 +105,7 @@ pub fn result(
 ) -> usize
     requires { ⌜ (MOST ≤ length (now out)) × (length (now y1) ≤ 2048) × (length (now x1r1) ≤ 3072) × (length (now left) ≤ 1024) × (length (now right) ≤ 1024) ⌝ }
     ensures place { λ n. ⌜ n ≡ length (printed (done (runOf one (now (y1 .entry)) two (now (x1r1 .entry)) (now (left .entry)) (now (right .entry))))) ⌝ }
+    ensures few { λ n. ⌜ n ≤ MOST ⌝ }
     ensures contents { λ _. ⌜ now (out .exit) ≡ over (printed (done (runOf one (now (y1 .entry)) two (now (x1r1 .entry)) (now (left .entry)) (now (right .entry))))) (now (out .entry)) ⌝ }
 {
     let a = put_message(one, y1, out, 0);

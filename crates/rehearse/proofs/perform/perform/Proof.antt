@@ -1,0 +1,96 @@
+use mathlib.Core.Path.{_≡_, refl, sym, ap, _∙_}
+use mathlib.Core.List.{List, _++_}
+use Prim.Native.Nat.{ℕ, _+_, _*_, _-_, _/_, _%_, _≤_, _<_}
+use native.Mathlib.Omega.{arith}
+use lib.ListN.{length, getD, set, take, drop}
+use borrow.Author.Needs.{needs}
+use lib.ListN.{replicate, length-replicate}
+use lib.Seq.{length-take-le}
+use Rattle.rehearse.proofs.Runs.{bounds, pool-taken, rooms-taken}
+use Rattle.rehearse.proofs.perform.perform.Statement.{statement}
+use Rattle.rehearse.proofs.perform.perform.Tie as tie
+
+times-requires : tie.Need-times-requires
+times-requires c κs = search needs
+
+times-requires-2 : tie.Need-times-requires-2
+times-requires-2 c κs = search needs
+
+times-requires-3 : tie.Need-times-requires-3
+times-requires-3 c κs = search needs
+
+add-sent : tie.Need-add-sent
+add-sent c = let a = c .before .before .before .before .before .before .before .before .args in let b = bounds (a .t) (a .x .now) (a .y .now) (a .dealer .now) (a .coins .now) (c .before .before .before .before .before .before .before .before .pre .0) in omega (arith, b .few-mk, b .few-mp, c .before .times2 .ensures, c .times3 .ensures)
+
+slot-size-requires : tie.Need-slot-size-requires
+slot-size-requires c κs = let a = c .before .before .before .before .before .before .before .before .args in let b = bounds (a .t) (a .x .now) (a .y .now) (a .dealer .now) (a .coins .now) (c .before .before .before .before .before .before .before .before .pre .0) in (b .few-mk, b .few-kp, b .few-mp)
+
+array-borrow-prefix-first : tie.Need-array-borrow-prefix-first
+array-borrow-prefix-first c = search needs
+
+slice-aggregate-play : tie.Need-slice-aggregate-play
+slice-aggregate-play c = sym (length-take-le _ _ (omega (arith, c .before .slot-size .ensures .1, length-replicate {A = ℕ} 3079 0)))
+
+array-borrow-prefix-second : tie.Need-array-borrow-prefix-second
+array-borrow-prefix-second c = search needs
+
+slice-aggregate-play-2 : tie.Need-slice-aggregate-play-2
+slice-aggregate-play-2 c = sym (length-take-le _ _ (omega (arith, c .before .before .slot-size .ensures .1, length-replicate {A = ℕ} 3079 0)))
+
+array-borrow-prefix-y1 : tie.Need-array-borrow-prefix-y1
+array-borrow-prefix-y1 c = let a = c .before .before .before .before .before .before .before .before .before .before .before .args in let b = bounds (a .t) (a .x .now) (a .y .now) (a .dealer .now) (a .coins .now) (c .before .before .before .before .before .before .before .before .before .before .before .pre .0) in omega (arith, b .few-kp, c .before .before .before .before .before .times .ensures)
+
+slice-aggregate-play-3 : tie.Need-slice-aggregate-play-3
+slice-aggregate-play-3 c = let a = c .before .before .before .before .before .before .before .before .before .before .before .before .args in let b = bounds (a .t) (a .x .now) (a .y .now) (a .dealer .now) (a .coins .now) (c .before .before .before .before .before .before .before .before .before .before .before .before .pre .0) in sym (length-take-le _ _ (omega (arith, b .few-kp, c .before .before .before .before .before .before .times .ensures, length-replicate {A = ℕ} 2048 0)))
+
+array-borrow-prefix-x1r1 : tie.Need-array-borrow-prefix-x1r1
+array-borrow-prefix-x1r1 c = let a = c .before .before .before .before .before .before .before .before .before .before .before .before .args in let b = bounds (a .t) (a .x .now) (a .y .now) (a .dealer .now) (a .coins .now) (c .before .before .before .before .before .before .before .before .before .before .before .before .pre .0) in omega (arith, b .few-mk, b .few-mp, c .before .before .before .before .before .times2 .ensures, c .before .before .before .before .times3 .ensures)
+
+slice-aggregate-play-4 : tie.Need-slice-aggregate-play-4
+slice-aggregate-play-4 c = let a = c .before .before .before .before .before .before .before .before .before .before .before .before .before .args in let b = bounds (a .t) (a .x .now) (a .y .now) (a .dealer .now) (a .coins .now) (c .before .before .before .before .before .before .before .before .before .before .before .before .before .pre .0) in sym (length-take-le _ _ (omega (arith, b .few-mk, b .few-mp, c .before .before .before .before .before .before .times2 .ensures, c .before .before .before .before .before .times3 .ensures, length-replicate {A = ℕ} 3072 0)))
+
+array-borrow-prefix-u : tie.Need-array-borrow-prefix-u
+array-borrow-prefix-u c = let a = c .before .before .before .before .before .before .before .before .before .before .before .before .before .args in let b = bounds (a .t) (a .x .now) (a .y .now) (a .dealer .now) (a .coins .now) (c .before .before .before .before .before .before .before .before .before .before .before .before .before .pre .0) in omega (arith, b .few-mp, c .before .before .before .before .before .before .times2 .ensures)
+
+slice-aggregate-play-5 : tie.Need-slice-aggregate-play-5
+slice-aggregate-play-5 c = let a = c .before .before .before .before .before .before .before .before .before .before .before .before .before .before .args in let b = bounds (a .t) (a .x .now) (a .y .now) (a .dealer .now) (a .coins .now) (c .before .before .before .before .before .before .before .before .before .before .before .before .before .before .pre .0) in sym (length-take-le _ _ (omega (arith, b .few-mp, c .before .before .before .before .before .before .before .times2 .ensures, length-replicate {A = ℕ} 1024 0)))
+
+array-borrow-prefix-v : tie.Need-array-borrow-prefix-v
+array-borrow-prefix-v c = let a = c .before .before .before .before .before .before .before .before .before .before .before .before .before .before .args in let b = bounds (a .t) (a .x .now) (a .y .now) (a .dealer .now) (a .coins .now) (c .before .before .before .before .before .before .before .before .before .before .before .before .before .before .pre .0) in omega (arith, b .few-mp, c .before .before .before .before .before .before .before .times2 .ensures)
+
+slice-aggregate-play-6 : tie.Need-slice-aggregate-play-6
+slice-aggregate-play-6 c = let a = c .before .before .before .before .before .before .before .before .before .before .before .before .before .before .before .args in let b = bounds (a .t) (a .x .now) (a .y .now) (a .dealer .now) (a .coins .now) (c .before .before .before .before .before .before .before .before .before .before .before .before .before .before .before .pre .0) in sym (length-take-le _ _ (omega (arith, b .few-mp, c .before .before .before .before .before .before .before .before .times2 .ensures, length-replicate {A = ℕ} 1024 0)))
+
+play-requires : tie.Need-play-requires
+play-requires c κs = let a = c .before .before .before .before .before .before .before .before .before .before .before .before .before .before .before .before .args in let b = bounds (a .t) (a .x .now) (a .y .now) (a .dealer .now) (a .coins .now) (c .before .before .before .before .before .before .before .before .before .before .before .before .before .before .before .before .pre .0) in (c .before .before .before .before .before .before .before .before .before .before .before .before .before .before .before .before .pre .0, pool-taken (a .t) (c .before .before .before .before .before .before .before .slot-size .result) 3079 (c .before .before .before .before .before .before .before .slot-size .ensures .1) (c .before .before .before .before .before .before .before .slot-size .ensures .0), pool-taken (a .t) (c .before .before .before .before .before .before .before .slot-size .result) 3079 (c .before .before .before .before .before .before .before .slot-size .ensures .1) (c .before .before .before .before .before .before .before .slot-size .ensures .0), rooms-taken (a .t) (c .before .before .before .before .before .before .before .before .before .before .times .result) (c .before .before .before .before .before .before .before .before .times3 .result + c .before .before .before .before .before .before .before .before .before .times2 .result) (c .before .before .before .before .before .before .before .before .before .times2 .result) (omega (arith, b .few-kp, c .before .before .before .before .before .before .before .before .before .before .times .ensures)) (omega (arith, b .few-mk, b .few-mp, c .before .before .before .before .before .before .before .before .before .times2 .ensures, c .before .before .before .before .before .before .before .before .times3 .ensures)) (omega (arith, b .few-mp, c .before .before .before .before .before .before .before .before .before .times2 .ensures)) (c .before .before .before .before .before .before .before .before .before .before .times .ensures) (omega (arith, c .before .before .before .before .before .before .before .before .before .times2 .ensures, c .before .before .before .before .before .before .before .before .times3 .ensures)) (c .before .before .before .before .before .before .before .before .before .times2 .ensures), c .before .before .before .before .before .before .before .before .before .before .before .before .before .before .before .before .pre .1)
+
+same-length : tie.Need-same-length
+same-length c = search needs
+
+returns : tie.Need-returns
+returns c = search needs
+
+pub perform-spec : {M : Type 1} → statement M
+perform-spec =
+    tie.close
+    (tie.spec
+    times-requires
+    times-requires-2
+    times-requires-3
+    add-sent
+    slot-size-requires
+    array-borrow-prefix-first
+    slice-aggregate-play
+    array-borrow-prefix-second
+    slice-aggregate-play-2
+    array-borrow-prefix-y1
+    slice-aggregate-play-3
+    array-borrow-prefix-x1r1
+    slice-aggregate-play-4
+    array-borrow-prefix-u
+    slice-aggregate-play-5
+    array-borrow-prefix-v
+    slice-aggregate-play-6
+    play-requires
+    same-length
+    returns)
