@@ -6,6 +6,9 @@
 -- Bezout         the extended algorithm of Euclid with signed multipliers
 -- TrialDivision  what trial division shows of a prime
 -- Wheel          trial division by the numbers that 2, 3 and 5 do not divide
+-- Divisors       divisors in the form that a machine's remainder has
+-- Reduction      Montgomery reduction, and what a product that it gathers keeps
+-- Gathered       the numbers up to the root, multiplied up
 pub mod Chain
 pub mod FieldLaws
 pub mod Signed
@@ -14,3 +17,6 @@ pub mod Wrap
 pub mod Bezout
 pub mod TrialDivision
 pub mod Wheel
+pub mod Divisors
+pub mod Reduction
+pub mod Gathered
