@@ -13,6 +13,7 @@ ghost use mathlib.Core.Path.{_≡_};
 ghost use mathlib.Core.List.{_++_};
 ghost use Prim.Native.Nat.{_+_, _*_, _≤_, _<_};
 ghost use mathlib.Core.Bool.{true};
+ghost use Rattle.algebra.specs.Count.{both};
 ghost use Rattle.protocol.specs.Bounds.{within, fieldFits, sidesFit, system, columns};
 ghost use Rattle.protocol.specs.Tape.{bodySize, tapeSize};
 ghost use Rattle.protocol.specs.Message.{kindSort, messageSize};
@@ -71,6 +72,30 @@ pub fn check_kind(a: Head) -> Check
     let kind = need(Refusal::Form, kind_fits(a.kind));
     let range = need(Refusal::Modulus, modulus_fits(t.q));
     let prime = need(Refusal::Composite, kind_field_fits(a.kind, t.q));
+    worst(kind, worst(range, prime))
+}
+
+// A message's kind and the session, both with one modulus.
+fn fields_fit(kind: u32, end: End, q: u32) -> bool
+    ensures { λ r. ⌜ r ≡ both (fieldFits (kindSort kind) q) (fieldFits (sort end) q) ⌝ }
+{
+    if kind <= 2 {
+        return field_fits(end, q);
+    }
+    field::is_prime(q)
+}
+
+// A message's kind and modulus, and the session's modulus. Where both are one number, it is tested once.
+pub fn check_moduli(a: Head, end: End, q: u32) -> Check
+    ensures { λ r. ⌜ checked r ≡ judged (kindTests a ++ modulusTests (sort end) q) ⌝ }
+{
+    let t = a.terms;
+    if t.q != q {
+        return worst(check_kind(a), check_modulus(end, q));
+    }
+    let kind = need(Refusal::Form, kind_fits(a.kind));
+    let range = need(Refusal::Modulus, modulus_fits(q));
+    let prime = need(Refusal::Composite, fields_fit(a.kind, end, q));
     worst(kind, worst(range, prime))
 }
 

@@ -16,7 +16,7 @@ use session::lowest::need;
 use session::lowest::worst;
 use session::numbers::check_head;
 use session::numbers::check_kind;
-use session::numbers::check_modulus;
+use session::numbers::check_moduli;
 use session::numbers::check_same;
 use session::numbers::check_sizes;
 use session::tape::check_body;
@@ -45,11 +45,10 @@ pub fn check_numbers(
 ) -> Check
     ensures { λ r. ⌜ checked r ≡ judged (receivedNumbers (role end) t a count pool size index) ⌝ }
 {
-    let kind = check_kind(a);
-    let modulus = check_modulus(end, t.q);
+    let moduli = check_moduli(a, end, t.q);
     let head = check_head(a, count);
     let sizes = check_sizes(end, t, pool, size, index);
-    worst(kind, worst(modulus, worst(head, sizes)))
+    worst(moduli, worst(head, sizes))
 }
 
 // The tape's status and numbers, the message's numbers, and the residues of both.
