@@ -2,13 +2,15 @@
 --   Small         a modulus and sides of a system
 --   Lent          the slices' lengths, by the number of unknowns and of right-hand side columns
 --   SecondShape   the slices' lengths, by the session's terms
+--   innerW        P × M + U' − F
 --   secondSent    W and c
 use mathlib.Core.Path.{_≡_}
 use mathlib.Core.Bool.{true}
 use mathlib.Core.List.{List, _++_}
 use Prim.Native.Nat.{ℕ, _+_, _*_, _≤_, _<_}
 use lib.ListN.{take, drop}
-use Rattle.algebra.specs.System.{sendW, sendC}
+use Rattle.algebra.specs.Matrix.{matAdd, matSub, matMul}
+use Rattle.algebra.specs.System.{firstCols, sendW, sendC}
 use Rattle.protocol.specs.declared.Terms.{Terms}
 use Rattle.protocol.specs.Bounds.{sidesFit, system}
 use Rattle.protocol.specs.Tape.{blinder, tapeSize}
@@ -41,6 +43,9 @@ pub record SecondShape (t : Terms) (slot scratch f out : ℕ) : Type 0 where
   pub lent : scratchSize t ≤ scratch
   pub full : f ≡ t .m * t .m
   pub room : t .m * t .m + sideSize t ≤ out
+
+unfoldable pub innerW : (q n rhs : ℕ) → (u0 f pm mm : List ℕ) → List ℕ
+innerW q n rhs u0 f pm mm = matSub q (n * n) (matAdd q (n * n) (matMul q n n n pm mm) (firstCols n rhs u0)) f
 
 unfoldable pub secondSent : (q n rhs : ℕ) → (slot scratch mm y f : List ℕ) → List ℕ
 secondSent q n rhs slot scratch mm y f =

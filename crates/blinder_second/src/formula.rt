@@ -1,41 +1,37 @@
 // The formulas of step 4, over slices of exactly their matrices' sizes, for n unknowns and rhs columns of right-hand sides.
 use columns::write_cols;
-use matrix::write_difference;
+use matrix::write_deal;
 use matrix::write_product;
 use matrix::write_share;
 use matrix::write_sum;
 ghost use mathlib.Core.Path.{_≡_};
 ghost use Prim.Native.Nat.{_+_, _*_, _≤_};
 ghost use lib.ListN.{length};
-ghost use Rattle.algebra.specs.Matrix.{matSub, matMul};
-ghost use Rattle.algebra.specs.Columns.{cols};
 ghost use Rattle.algebra.specs.System.{sendW, sendC};
 ghost use Rattle.algebra.specs.Words.{over};
-ghost use Rattle.blinder_second.specs.Shape.{Small};
+ghost use Rattle.blinder_second.specs.Shape.{Small, innerW};
 
-// U' − F.
-fn write_unmasked(q: u32, n: usize, rhs: usize, u0: &[u32], f: &[u32], out: &mut [u32])
-    requires { ⌜ Small q n rhs × (length (now u0) ≡ n * (n + rhs)) × (length (now f) ≡ n * n) × (n * n ≤ length (now out)) ⌝ }
-    ensures { λ _. ⌜ now (out .exit) ≡ over (matSub q (n * n) (cols n (n + rhs) 0 n (now (u0 .entry))) (now (f .entry))) (now (out .entry)) ⌝ }
+// P × M + U' − F, which times Q gives W + G.
+fn write_inner(
+    q: u32,
+    n: usize,
+    rhs: usize,
+    u0: &[u32],
+    f: &[u32],
+    pm: &[u32],
+    mm: &[u32],
+    out: &mut [u32],
+)
+    requires { ⌜ Small q n rhs × (length (now u0) ≡ n * (n + rhs)) × (length (now f) ≡ n * n) × (length (now pm) ≡ n * n) × (length (now mm) ≡ n * n) × (n * n ≤ length (now out)) ⌝ }
+    ensures { λ _. ⌜ now (out .exit) ≡ over (innerW q n rhs (now (u0 .entry)) (now (f .entry)) (now (pm .entry)) (now (mm .entry))) (now (out .entry)) ⌝ }
 {
     let square = n * n;
     let mut first = [0u32; 256];
     write_cols(n, n + rhs, 0, n, u0, &mut first);
-    write_difference(q, square, &first[..square], f, out);
+    write_share(q, n, n, n, pm, mm, &first[..square], f, out);
 }
 
-// P × M × Q.
-fn write_known(q: u32, n: usize, rhs: usize, pm: &[u32], mm: &[u32], qm: &[u32], out: &mut [u32])
-    requires { ⌜ Small q n rhs × (length (now pm) ≡ n * n) × (length (now mm) ≡ n * n) × (length (now qm) ≡ n * n) × (n * n ≤ length (now out)) ⌝ }
-    ensures { λ _. ⌜ now (out .exit) ≡ over (matMul q n n n (matMul q n n n (now (pm .entry)) (now (mm .entry))) (now (qm .entry))) (now (out .entry)) ⌝ }
-{
-    let square = n * n;
-    let mut both = [0u32; 256];
-    write_product(q, n, n, n, pm, mm, &mut both);
-    write_product(q, n, n, n, &both[..square], qm, out);
-}
-
-// W = (U' − F) × Q + P × M × Q − G.
+// W = (U' − F) × Q + P × M × Q − G, as (P × M + U' − F) × Q − G: two products instead of three.
 pub fn write_w(
     q: u32,
     n: usize,
@@ -52,11 +48,9 @@ pub fn write_w(
     ensures { λ _. ⌜ now (out .exit) ≡ over (sendW q n rhs (now (u0 .entry)) (now (f .entry)) (now (qm .entry)) (now (pm .entry)) (now (mm .entry)) (now (g .entry))) (now (out .entry)) ⌝ }
 {
     let square = n * n;
-    let mut first = [0u32; 256];
-    let mut known = [0u32; 256];
-    write_unmasked(q, n, rhs, u0, f, &mut first);
-    write_known(q, n, rhs, pm, mm, qm, &mut known);
-    write_share(q, n, n, n, &first[..square], qm, &known[..square], g, out);
+    let mut inner = [0u32; 256];
+    write_inner(q, n, rhs, u0, f, pm, mm, &mut inner);
+    write_deal(q, n, n, n, &inner[..square], qm, g, out);
 }
 
 // c = u + P × y.
