@@ -4,22 +4,17 @@
 --   p-part, u0-part                    the scratch's
 --   half-is                            the words of a half
 -- Assumes nothing.
-use mathlib.Core.Path.{_≡_, refl, sym, ap, _∙_}
-use mathlib.Core.List.{List, [], _∷_}
-use Prim.Native.Nat.{ℕ, zero, suc, _+_, _*_, _≤_}
+use mathlib.Core.Path.{_≡_, refl, ap, _∙_}
+use mathlib.Core.List.{List}
+use Prim.Native.Nat.{ℕ, _+_, _*_}
 use native.Mathlib.Omega.{arith}
-use lib.ListN.{length, take, drop}
-use lib.Seq.{take-take, take-all, drop-drop}
+use lib.ListN.{take, drop}
+use lib.Seq.{drop-drop}
 use Rattle.algebra.specs.Count.{part, parts}
 use Rattle.protocol.specs.declared.Terms.{Terms}
 use Rattle.protocol.specs.Tape.{blinder, bodySize, tapeSize, body, matrices}
 use Rattle.protocol.specs.System.{scratchParts}
-
-pub part-of-start : (k n a : ℕ) (l : List ℕ) → a + k ≤ n → take k (drop a (take n l)) ≡ take k (drop a l)
-part-of-start k n zero l h = take-take k n l (omega arith)
-part-of-start k zero (suc a) l h = absurd (omega arith)
-part-of-start k (suc n) (suc a) [] h = refl
-part-of-start k (suc n) (suc a) (x ∷ l) h = part-of-start k n a l (omega arith)
+use Rattle.checks.proofs.Written.{part-of-start}
 
 module _ (t : Terms) (ws : List ℕ) where
   pub x0-part : part 0 (matrices blinder t ws) ≡ take (t .m * t .k) (drop 7 ws)

@@ -1,7 +1,7 @@
 // What the blinder's three steps share.
 //   BlinderAnswer               what each of them answers
 //   opened, closed              its sessions, which keep M and y
-//   side_size, scratch_size     how many residues y has, and P with U0
+//   scratch_size                how many residues P and U0 have
 use checks::times;
 use matrix::write_copy;
 use protocol::Answer;
@@ -14,7 +14,7 @@ ghost use Prim.Native.Nat.{_≤_};
 ghost use lib.ListN.{length};
 ghost use Rattle.algebra.specs.Matrix.{zeros};
 ghost use Rattle.protocol.specs.Bounds.{sidesFit, system};
-ghost use Rattle.protocol.specs.System.{padded, sideSize, scratchSize};
+ghost use Rattle.protocol.specs.System.{padded, scratchSize};
 
 // The session is as handed over where the step is refused; `head` is that of the message it sends.
 pub struct BlinderAnswer {
@@ -70,14 +70,6 @@ pub fn closed(t: Terms) -> BlinderSession
         mm: matrix,
         y: vector,
     }
-}
-
-// How many residues y has.
-pub fn side_size(t: Terms) -> usize
-    requires { ⌜ sidesFit system (t .m) (t .k) (t .p) ≡ true ⌝ }
-    ensures { λ r. ⌜ r ≡ sideSize t ⌝ }
-{
-    times(t.m, t.p - t.m)
 }
 
 // How many residues P and U0 have.

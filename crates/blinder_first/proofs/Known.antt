@@ -2,21 +2,20 @@
 --   lengths-known, eliminable    before M and P are eliminated
 --   first-known, first-shape     where the step is accepted
 -- Assumes nothing.
-use mathlib.Core.Path.{_≡_, refl, sym, ap, _∙_}
+use mathlib.Core.Path.{_≡_, sym, ap, _∙_}
 use mathlib.Core.Bool.{true}
-use mathlib.Core.List.{List, _++_}
-use Prim.Native.Nat.{ℕ, _+_, _*_, _≤_, _<_}
+use mathlib.Core.List.{List}
+use Prim.Native.Nat.{ℕ, _*_, _≤_, _<_}
 use native.Mathlib.Omega.{arith}
 use lib.ListN.{length, take}
 use lib.Seq.{take-take}
 use borrow.Author.Tests.{eqb-true, le-leb}
 use Rattle.algebra.specs.Matrix.{Residues}
 use Rattle.algebra.specs.Count.{part}
-use Rattle.algebra.proofs.Lists.{residues-take}
 use Rattle.protocol.specs.declared.Terms.{Terms}
 use Rattle.protocol.specs.declared.Head.{Head}
 use Rattle.protocol.specs.Judge.{done}
-use Rattle.protocol.specs.Bounds.{allBelow, fieldFits, sidesFit, system}
+use Rattle.protocol.specs.Bounds.{allBelow, fieldFits}
 use Rattle.protocol.specs.Drawing.{residuesOf, drawn, drawTests}
 use Rattle.protocol.specs.Tape.{Slot, blinder}
 use Rattle.protocol.specs.Message.{Message}
@@ -26,13 +25,14 @@ use Rattle.protocol.proofs.Residues.{below-residues, residues-drawn}
 use Rattle.protocol.proofs.StepTests.{BlinderFirstFits, blinder-first}
 use Rattle.checks.specs.InOrder.{judged}
 use Rattle.checks.proofs.InOrder.{accepted-by}
-use Rattle.session.proofs.Shape.{unknowns, size-1, size-2}
+use Rattle.session.proofs.Shape.{unknowns}
 use Rattle.steps.specs.Groups.{receivedWords}
 use Rattle.steps.proofs.Fits.{Received}
 use Rattle.blinder.proofs.Kept.{square-bound, wide-bound, scratch-sum}
 use Rattle.blinder.proofs.Halves.{half-is, p-part}
 use Rattle.blinder_first.specs.Groups.{firstLengths, firstWords}
 use Rattle.blinder_first.specs.Shape.{FirstShape, Eliminable}
+use Rattle.message.proofs.KindLaws.{size-1, size-2}
 
 m-size : (t : Terms) (kind mm y scratch room : ℕ) → judged (firstLengths t kind mm y scratch room) ≡ done tt → mm ≡ t .m * t .m
 unfolding firstLengths

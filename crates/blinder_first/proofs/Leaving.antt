@@ -2,14 +2,12 @@
 --   sent-is      the message, by positions and by the definition
 --   first-done
 -- Assumes nothing.
-use mathlib.Core.Path.{_≡_, refl, sym, ap, _∙_}
+use mathlib.Core.Path.{_≡_, sym, ap, _∙_}
 use mathlib.Core.Bool.{true}
-use mathlib.Core.List.{List, [], _∷_, _++_, append-nil}
-use Prim.Native.Nat.{ℕ, _+_, _*_, _≤_}
-use native.Mathlib.Omega.{arith}
-use lib.ListN.{length, take, drop}
-use lib.Seq.{take-all}
-use Rattle.algebra.specs.Count.{part, parts, join}
+use mathlib.Core.List.{List, [], _∷_, append-nil}
+use Prim.Native.Nat.{ℕ, _*_}
+use lib.ListN.{length}
+use Rattle.algebra.specs.Count.{part, join}
 use Rattle.algebra.specs.Words.{over}
 use Rattle.algebra.specs.Product.{sendX, sendR}
 use Rattle.protocol.specs.declared.Terms.{Terms}
@@ -19,7 +17,7 @@ use Rattle.protocol.specs.Judge.{done}
 use Rattle.protocol.specs.Bounds.{sidesFit, system}
 use Rattle.protocol.specs.Drawing.{wordsRead}
 use Rattle.protocol.specs.Tape.{Slot, blinder, slotWords, poolWith, matrices, wordsInUse}
-use Rattle.protocol.specs.Message.{Message, messageLayout, messageParts}
+use Rattle.protocol.specs.Message.{Message, messageParts}
 use Rattle.protocol.specs.System.{padded, noBlinder, scratchSize, scratchParts, coinsOf, blinderFirstEffect, blinderFirstTests, blinderFirst}
 use Rattle.checks.specs.InOrder.{judged}
 use Rattle.session.specs.Leaves.{Leaves, leaves}
@@ -27,11 +25,7 @@ use Rattle.session.proofs.Shape.{unknowns}
 use Rattle.session.proofs.Leaving.{accepted-leaves}
 use Rattle.blinder.proofs.Halves.{x0-part, a0-part, p-part, u0-part}
 use Rattle.blinder_first.specs.Shape.{firstSent}
-
--- message 1 is Y1 alone
-y1-part : (t : Terms) (a : Message) → length (a .residues) ≡ t .k * t .p → part 0 (messageParts 1 t a) ≡ a .residues
-unfolding messageParts messageLayout parts
-y1-part t a e = take-all (t .k * t .p) (a .residues) (omega arith)
+use Rattle.message.proofs.KindLaws.{whole-message}
 
 pub sent-is : (t : Terms) (slot coins : List ℕ) (a : Message) → sidesFit system (t .m) (t .k) (t .p) ≡ true → length (a .residues) ≡ t .m * t .p
     → firstSent (t .q) (t .m) (t .p) slot (a .residues) coins
@@ -42,7 +36,7 @@ unfolding firstSent join
 sent-is t slot coins a fits e =
     let u = unknowns (t .m) (t .k) (t .p) fits in
     let long : length (a .residues) ≡ t .k * t .p = e ∙ ap (λ (k : ℕ). k * t .p) (sym (u .square)) in
-    rw (y1-part t a long, x0-part t slot, a0-part t slot, p-part t coins, u0-part t coins, u .square) (simp append-nil)
+    rw (whole-message t a long, x0-part t slot, a0-part t slot, p-part t coins, u0-part t coins, u .square) (simp append-nil)
 
 module _ (t : Terms) (s : Slot) (scratch mm y words : List ℕ) (a : Message) (sent : List ℕ) where
   pub first-done : {count : ℕ} {x : BlinderSession} {pool′ scratch′ sent′ : List ℕ}

@@ -2,16 +2,14 @@
 --   open-phases, closed-judged   of an open and of a closed session
 -- Assumes nothing.
 use mathlib.Core.Path.{_≡_, refl, sym, ap, _∙_}
-use mathlib.Core.Bool.{Bool, true, not, cond}
+use mathlib.Core.Bool.{true}
 use mathlib.Core.List.{List, [], _∷_, _++_}
 use Prim.Native.Nat.{ℕ}
-use lib.Dec.{eqb}
 use lib.ListN.{length}
 use borrow.Author.Tests.{ne-eqb}
-use Rattle.protocol.specs.declared.Terms.{Terms}
 use Rattle.protocol.specs.declared.Head.{Head}
 use Rattle.protocol.specs.declared.BlinderSession.{BlinderSession}
-use Rattle.protocol.specs.Judge.{Test, needs, given, judge}
+use Rattle.protocol.specs.Judge.{Test, given}
 use Rattle.protocol.specs.Bounds.{shapeTests, termsTests, inputTests, roomTests}
 use Rattle.protocol.specs.Tape.{Slot, isSlot, slotWords, blinder, slotTests, halfTests, tapeTests, bodyTests}
 use Rattle.protocol.specs.Message.{messageTests, dueTests}
@@ -23,10 +21,6 @@ use Rattle.session.specs.Groups.{modulusTests, kindTests, numberTests, placeTes
 use Rattle.session.proofs.Join.{judged-phases}
 use Rattle.steps.specs.Groups.{receivedNumbers, receivedWords, closedTests}
 use Rattle.blinder_later.specs.Groups.{laterTurn, laterWords, laterStep}
-
-pub is-open : (due : ℕ) → (due ≡ 0 → ⊥) → isOpen due ≡ true
-unfolding isOpen
-is-open due h = rw (ne-eqb due 0 h)
 
 module _ (step : ℕ) (x : BlinderSession) (s : Slot) (scratch : List ℕ) (a : Head) (residues : List ℕ) (room : ℕ) where
   -- the three groups, one after the other

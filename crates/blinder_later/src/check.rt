@@ -1,9 +1,10 @@
 // What both later steps check; `step` is the kind of the message that the step takes.
 use blinder::scratch_size;
-use blinder::side_size;
 use checks::Check;
 use checks::all_below;
 use checks::times;
+use message::message_size;
+use message::side_size;
 use protocol::BlinderSession;
 use protocol::Head;
 use protocol::Refusal;
@@ -11,7 +12,6 @@ use protocol::Terms;
 use session::End;
 use session::lowest::need;
 use session::lowest::worst;
-use session::numbers::message_size;
 use steps::check_closed;
 use steps::check_numbers;
 ghost use mathlib.Core.Path.{_≡_};

@@ -5,7 +5,7 @@
 use mathlib.Core.Path.{_≡_, refl, sym, ap, _∙_}
 use mathlib.Core.Bool.{true}
 use mathlib.Core.List.{List}
-use Prim.Native.Nat.{ℕ, _+_, _-_, _*_, _≤_, _<_}
+use Prim.Native.Nat.{ℕ, _+_, _-_, _*_}
 use native.Mathlib.Omega.{arith}
 use lib.ListN.{length}
 use Rattle.protocol.specs.declared.Terms.{Terms}
@@ -13,16 +13,17 @@ use Rattle.protocol.specs.declared.BlinderSession.{BlinderSession}
 use Rattle.protocol.specs.Judge.{done}
 use Rattle.protocol.specs.Bounds.{sidesFit, system, columns}
 use Rattle.protocol.specs.Tape.{Slot}
-use Rattle.protocol.specs.Message.{Message, messageSize, messageLayout}
-use Rattle.protocol.specs.System.{sideSize, scratchSize, blinderSecondTests, blinderSecondEffect, blinderSecond}
+use Rattle.protocol.specs.Message.{Message, messageSize}
+use Rattle.protocol.specs.System.{sideSize, blinderSecondTests, blinderSecondEffect, blinderSecond}
 use Rattle.protocol.proofs.StepTests.{BlinderFits, blinder-second}
 use Rattle.checks.specs.InOrder.{judged}
 use Rattle.checks.proofs.InOrder.{accepted-by}
-use Rattle.session.proofs.Shape.{unknowns, size-3, size-4}
+use Rattle.session.proofs.Shape.{unknowns}
 use Rattle.blinder.proofs.Kept.{side-is, side-bound, square-bound, wide-bound, scratch-sum}
 use Rattle.blinder.proofs.Halves.{half-is}
 use Rattle.blinder_later.specs.Groups.{laterStep, writtenSize}
 use Rattle.blinder_second.specs.Shape.{Lent, SecondShape}
+use Rattle.message.proofs.KindLaws.{size-3, size-4}
 
 module _ (t : Terms) (fits : sidesFit system (t .m) (t .k) (t .p) ≡ true) where
   -- k is m

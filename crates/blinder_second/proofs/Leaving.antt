@@ -2,25 +2,24 @@
 --   sent-is      the message, by positions and by the definition
 --   second-done
 -- Assumes nothing.
-use mathlib.Core.Path.{_≡_, refl, sym, ap, _∙_}
+use mathlib.Core.Path.{_≡_, sym, _∙_}
 use mathlib.Core.Bool.{true}
-use mathlib.Core.List.{List, [], _∷_, _++_, append-nil}
-use Prim.Native.Nat.{ℕ, _+_, _-_, _*_, _≤_}
+use mathlib.Core.List.{List, [], _∷_, append-nil}
+use Prim.Native.Nat.{ℕ, _+_, _-_, _*_}
 use native.Mathlib.Omega.{arith}
-use lib.ListN.{length, take, drop, take-append-drop}
+use lib.ListN.{length, take, drop}
 use lib.Seq.{take-all}
 use Rattle.algebra.specs.Count.{part, parts, join}
-use Rattle.algebra.specs.Words.{over, writtenAt}
+use Rattle.algebra.specs.Words.{over}
 use Rattle.algebra.specs.System.{sendW, sendC}
 use Rattle.protocol.specs.declared.Terms.{Terms}
 use Rattle.protocol.specs.declared.BlinderSession.{BlinderSession}
 use Rattle.protocol.specs.declared.Answer.the-variants.{Accepted}
 use Rattle.protocol.specs.Judge.{done}
 use Rattle.protocol.specs.Bounds.{sidesFit, system, columns}
-use Rattle.protocol.specs.Tape.{Slot, isSlot, blinder, slotWords, poolWith, matrices}
+use Rattle.protocol.specs.Tape.{Slot, isSlot, blinder, slotWords, matrices}
 use Rattle.protocol.specs.Message.{Message, messageLayout, messageParts}
 use Rattle.protocol.specs.System.{keptM, keptY, scratchParts, blinderSecondEffect, blinderSecondTests, blinderSecond}
-use Rattle.protocol.proofs.Slots.{slot-length}
 use Rattle.checks.specs.InOrder.{judged}
 use Rattle.session.specs.Leaves.{Leaves, leaves}
 use Rattle.session.proofs.Shape.{unknowns}
@@ -28,19 +27,12 @@ use Rattle.session.proofs.Leaving.{accepted-leaves}
 use Rattle.blinder.proofs.Halves.{q-part, g-part, p-part, u0-part}
 use Rattle.blinder_second.specs.Shape.{secondSent}
 use Rattle.blinder_second.proofs.Known.{square-is, wide-is}
+use Rattle.session.proofs.Slot.{same-pool}
 
 -- message 3 is F alone
 f-part : (t : Terms) (a : Message) → length (a .residues) ≡ t .m * t .k → part 0 (messageParts 3 t a) ≡ a .residues
 unfolding messageParts messageLayout parts
 f-part t a e = take-all (t .m * t .k) (a .residues) (omega arith)
-
--- a slot with its own words
-same-pool : (s : Slot) → isSlot s ≡ true → poolWith s (slotWords s) ≡ s .pool
-unfolding poolWith writtenAt over slotWords
-same-pool s e =
-    let n : length (take (s .size) (drop (s .index * s .size) (s .pool))) ≡ s .size = slot-length s e in
-    rw n (ap (λ (l : List ℕ). take (s .index * s .size) (s .pool) ++ l) (take-append-drop (s .size) (drop (s .index * s .size) (s .pool)))
-    ∙ take-append-drop (s .index * s .size) (s .pool))
 
 -- Q and G, by their positions in the slot
 module _ (t : Terms) (ws : List ℕ) (fits : sidesFit system (t .m) (t .k) (t .p) ≡ true) where

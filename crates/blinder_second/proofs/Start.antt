@@ -11,7 +11,7 @@ use lib.Seq.{take-at}
 use Rattle.algebra.specs.System.{sendW}
 use Rattle.algebra.specs.Words.{over}
 use Rattle.algebra.proofs.Lists.{sub-residues}
-use Rattle.columns.proofs.Rows.{count-after}
+use Rattle.checks.proofs.Written.{after-over}
 
 pub start-is : (n : ℕ) (a d out : List ℕ) → length a ≡ n → out ≡ over a d → take n out ≡ a
 unfolding over
@@ -26,4 +26,4 @@ module _ (q n rhs : ℕ) (u0 f qm pm mm g : List ℕ) (some-q : 0 < q) where
   w-length = sub-residues some-q (n * n) _ _ .size
 
   pub w-after : (d : List ℕ) {out : List ℕ} → n * n ≤ length d → out ≡ over (sendW q n rhs u0 f qm pm mm g) d → length out ≡ length d
-  w-after d h e = count-after (sendW q n rhs u0 f qm pm mm g) d e (omega (arith, w-length, h))
+  w-after d h e = after-over (sendW q n rhs u0 f qm pm mm g) d e (omega (arith, w-length, h))

@@ -2,11 +2,11 @@
 use crate::formula::write_c;
 use crate::formula::write_w;
 use blinder::BlinderAnswer;
-use blinder::side_size;
 use blinder_later::check::check;
 use checks::Check;
 use checks::answer_of;
 use checks::times;
+use message::side_size;
 use protocol::Answer;
 use protocol::BlinderSession;
 use protocol::Head;

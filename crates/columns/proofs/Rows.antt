@@ -4,23 +4,21 @@
 --   over-then, turn                                  a row written behind those that stand there
 use mathlib.Core.Path.{_≡_, sym, ap, ap₂, _∙_}
 use mathlib.Core.Bool.{cond}
-use mathlib.Core.List.{List, _∷_, _++_, append-assoc}
+use mathlib.Core.List.{List, _∷_, _++_}
 use Prim.Native.Nat.{ℕ, zero, suc, _+_, _-_, _*_, _/_, _%_, _≤_, _<_}
 use native.Mathlib.Nat.{mul-le-mul-right}
 use native.Mathlib.Omega.{arith}
 use lib.Arith.{digits-div, digits-mod}
 use lib.Dec.{ltb}
-use lib.ListN.{length, getD, take, drop, length-append, length-drop}
-use lib.Seq.{take-at, drop-at, drop-drop, getD-drop, take-all}
+use lib.ListN.{length, getD, drop}
+use lib.Seq.{getD-drop}
 use borrow.Author.Tests.{lt-ltb, le-ltb}
-use borrow.Rule.Slice.PartMut.{midOf, putMid}
 use Rattle.algebra.specs.Matrix.{tabulate, Entries, entry, matrix}
 use Rattle.algebra.specs.Columns.{cols, beside}
-use Rattle.algebra.specs.Words.{over, writtenAt}
+use Rattle.algebra.specs.Words.{over}
 use Rattle.algebra.proofs.Lists.{length-tabulate}
 use Rattle.matrix.specs.Fill.{firstWords}
 use Rattle.matrix.proofs.Fill.{tabulate-ext}
-use Rattle.session.proofs.Slot.{part-written}
 
 tabulate-append : (m n : ℕ) (f : ℕ → ℕ) → tabulate (m + n) f ≡ tabulate m f ++ tabulate n (λ e. f (m + e))
 unfolding tabulate
@@ -81,29 +79,6 @@ beside-next i p r a b =
         rw (le-ltb (p + j) p (omega arith), z) (sym (getD-drop (i * r) b j 0))
 
 -- ---- a row written behind those that stand there
-
-pub over-then : (a b d : List ℕ) (n : ℕ) → length a ≡ n → writtenAt n b (over a d) ≡ over (a ++ b) d
-unfolding writtenAt over
-over-then a b d n e =
-    ap (λ (l : List ℕ). l ++ (b ++ drop (length b) (drop n (a ++ drop (length a) d)))) (take-at a (drop (length a) d) n e)
-    ∙ ap (λ (l : List ℕ). a ++ (b ++ drop (length b) l)) (drop-at a (drop (length a) d) n e)
-    ∙ ap (λ (l : List ℕ). a ++ (b ++ l)) (drop-drop (length b) (length a) d)
-    ∙ simp (append-assoc, length-append)
-
--- `&xs[a..]` is what follows the first a words
-pub tail-part : (a : ℕ) (xs : List ℕ) → take (length xs - a) (drop a xs) ≡ drop a xs
-tail-part a xs = take-all (length xs - a) (drop a xs) (omega (arith, length-drop a xs))
-
-pub over-count : (a d : List ℕ) → length a ≤ length d → length (over a d) ≡ length d
-unfolding over
-over-count a d h = length-append a (drop (length a) d) ∙ omega (arith, length-drop (length a) d)
-
-pub count-after : (rows d : List ℕ) {out : List ℕ} → out ≡ over rows d → length rows ≤ length d → length out ≡ length d
-count-after rows d e h = ap length e ∙ over-count rows d h
-
-pub turn : (n : ℕ) (rows row out d ys : List ℕ) → out ≡ over rows d → length rows ≡ n → n ≤ length out
-    → ys ≡ over row (midOf n (length out - n) out) → putMid n (length out - n) out ys ≡ over (rows ++ row) d
-turn n rows row out d ys inv size h e = part-written n row out ys h e ∙ rw inv (over-then rows row d n size)
 
 pub words-count : (n : ℕ) (a : List ℕ) → length (firstWords n a) ≡ n
 unfolding firstWords

@@ -2,7 +2,7 @@
 -- residues-after  what the words left give
 -- read-then       the words read add up
 -- next-..         what the words left have room for, give and take
--- drawn-count     as many residues are drawn as are asked for
+-- drawn-count, coins-part  as many residues are drawn as are asked for, and stand at the start of what they were drawn over
 -- dry-few, enough-many  what a reading says of the words
 -- Assumes nothing.
 use mathlib.Core.Path.{_≡_, refl, sym, ap, _∙_}
@@ -13,9 +13,9 @@ use native.Mathlib.Nat.{le-of-suc-le-suc, zero-add}
 use native.Mathlib.Omega.{arith}
 use lib.Dec.{eqb, leb, eqb·suc-zero}
 use lib.ListN.{length, take, drop, length-drop}
-use lib.Seq.{length-take-le}
+use lib.Seq.{length-take-le, take-at}
+use Rattle.algebra.specs.Words.{over}
 use Rattle.protocol.specs.Drawing.{isKept, residueOf, residuesOf, drawn, wordsRead}
-use Rattle.drawing.specs.declared.Reading.{Reading}
 use Rattle.drawing.specs.declared.Reading.the-variants.{Enough, Dry}
 use Rattle.drawing.specs.Extent.{readFor}
 
@@ -65,6 +65,10 @@ read-then q (suc a) b (w ∷ ws) h = rw (same, eqb·suc-zero a, eqb·suc-zero (a
 pub drawn-count : (q n : ℕ) (ws : List ℕ) → n ≤ length (residuesOf q ws) → length (drawn q n ws) ≡ n
 unfolding drawn
 drawn-count q n ws h = length-take-le n (residuesOf q ws) h
+
+pub coins-part : (q n : ℕ) (ws l d : List ℕ) → n ≤ length (residuesOf q ws) → l ≡ over (drawn q n ws) d → take n l ≡ drawn q n ws
+unfolding over
+coins-part q n ws l d h e = ap (take n) e ∙ take-at (drawn q n ws) (drop (length (drawn q n ws)) d) n (drawn-count q n ws h)
 
 pub read-few : (q n : ℕ) (ws : List ℕ) → wordsRead q n ws ≤ length ws
 unfolding wordsRead

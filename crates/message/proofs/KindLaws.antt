@@ -1,14 +1,18 @@
--- The two sorts of message: `few`, the bound on a message's residues; `size-1` to `size-5`, its residues by kind. Assumes nothing.
+-- The two sorts of message: `few`, the bound on a message's residues; `size-1` to `size-5`, its residues by kind; `whole-message`.
+-- Assumes nothing.
 use mathlib.Core.Path.{_≡_}
 use mathlib.Core.Bool.{true}
 use Prim.Native.Nat.{ℕ, _+_, _*_, _≤_, _<_}
 use native.Mathlib.Nat.{mul-le-mul, mul-le-mul-left}
 use native.Mathlib.Omega.{arith}
+use lib.ListN.{length}
+use lib.Seq.{take-all}
 use borrow.Author.Tests.{lt-ltb, le-ltb, ne-eqb, leb-true, eqb-true}
+use Rattle.algebra.specs.Count.{part, parts}
 use Rattle.algebra.proofs.Count.{and-left, and-right}
 use Rattle.protocol.specs.declared.Terms.{Terms}
 use Rattle.protocol.specs.Bounds.{Sort, product, system, within, sidesFit, columns}
-use Rattle.protocol.specs.Message.{kindSort, messageLayout, messageSize}
+use Rattle.protocol.specs.Message.{Message, kindSort, messageLayout, messageSize, messageParts}
 use Rattle.checks.proofs.Sides.{sides}
 
 pub product-kind : (kind : ℕ) → kind ≤ 2 → kindSort kind ≡ product
@@ -56,3 +60,8 @@ module _ (t : Terms) where
   pub size-5 : (kind : ℕ) → (kind ≡ 1 → ⊥) → (kind ≡ 2 → ⊥) → (kind ≡ 3 → ⊥) → (kind ≡ 4 → ⊥) → t .m * columns (t .m) (t .p) ≡ messageSize kind t
   unfolding messageSize messageLayout
   size-5 kind a b c d = rw (ne-eqb kind 1 a, ne-eqb kind 2 b, ne-eqb kind 3 c, ne-eqb kind 4 d) (omega arith)
+
+-- a message of kind 1 is one matrix
+pub whole-message : (t : Terms) (a : Message) → length (a .residues) ≡ t .k * t .p → part 0 (messageParts 1 t a) ≡ a .residues
+unfolding messageParts messageLayout parts
+whole-message t a e = take-all (t .k * t .p) (a .residues) (omega arith)

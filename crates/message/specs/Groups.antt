@@ -1,14 +1,12 @@
 -- The groups of tests of a message, in the order in which code makes them.
 --   headTests     what a message shows by itself, all but its residues
 --   messageSizes  its numbers, sides and count
---   sameTerms     it is of the session
 -- Assumes nothing.
 use mathlib.Core.List.{List, [], _∷_}
 use Prim.Native.Nat.{ℕ}
 use lib.Dec.{eqb, leb}
-use Rattle.protocol.specs.declared.Terms.{Terms}
 use Rattle.protocol.specs.declared.Head.{Head}
-use Rattle.protocol.specs.declared.Refusal.the-variants.{Form, Modulus, Composite, Size, Stranger}
+use Rattle.protocol.specs.declared.Refusal.the-variants.{Form, Modulus, Composite, Size}
 use Rattle.protocol.specs.Judge.{Test, needs}
 use Rattle.protocol.specs.Bounds.{within, largestModulus, fieldFits, sidesFit}
 use Rattle.protocol.specs.Message.{kindSort, messageSize}
@@ -29,13 +27,3 @@ headTests a count =
     ∷ needs Modulus (within 2 largestModulus (a .terms .q))
     ∷ needs Composite (fieldFits (kindSort (a .kind)) (a .terms .q))
     ∷ messageSizes a count
-
-unfoldable pub sameTerms : Head → Terms → List Test
-sameTerms a t =
-    needs Stranger (eqb (a .terms .session .0) (t .session .0))
-    ∷ needs Stranger (eqb (a .terms .tape .0) (t .tape .0))
-    ∷ needs Stranger (eqb (a .terms .q) (t .q))
-    ∷ needs Stranger (eqb (a .terms .m) (t .m))
-    ∷ needs Stranger (eqb (a .terms .k) (t .k))
-    ∷ needs Stranger (eqb (a .terms .p) (t .p))
-    ∷ []

@@ -1,6 +1,7 @@
 // The checks of a message by its head and the count of its residues.
-//   check_head   what a message shows by itself, all but its residues: 1, 2, 3 and 4
-//   check_terms  that it is of a session
+//   kind_known, kind_field_fits, kind_sides_fit   its kind, its modulus and its sides
+//   message_size, side_size                       how many residues it has
+//   check_head                                    what a message shows by itself, all but its residues: 1, 2, 3 and 4
 use checks::Check;
 use matrix::Matrix;
 use protocol::Head;
@@ -8,10 +9,11 @@ use protocol::Refusal;
 use protocol::Terms;
 ghost use mathlib.Core.Path.{_≡_};
 ghost use Prim.Native.Nat.{_+_, _*_, _≤_};
-ghost use Rattle.protocol.specs.Bounds.{within, fieldFits, sidesFit, system, columns};
+ghost use Rattle.protocol.specs.Bounds.{within, fieldFits, sidesFit, system};
 ghost use Rattle.protocol.specs.Message.{kindSort, messageSize};
+ghost use Rattle.protocol.specs.System.{sideSize};
 ghost use Rattle.checks.specs.InOrder.{checked, verdict};
-ghost use Rattle.message.specs.Groups.{headTests, messageSizes, sameTerms};
+ghost use Rattle.message.specs.Groups.{headTests, messageSizes};
 
 pub fn kind_known(kind: u32) -> bool
     ensures { λ r. ⌜ r ≡ within 1 5 kind ⌝ }
@@ -26,7 +28,7 @@ pub fn kind_known(kind: u32) -> bool
 }
 
 // Kinds 3 to 5 are of systems, whose modulus is prime.
-pub fn field_fits(kind: u32, q: u32) -> bool
+pub fn kind_field_fits(kind: u32, q: u32) -> bool
     ensures { λ r. ⌜ r ≡ fieldFits (kindSort kind) q ⌝ }
 {
     if kind <= 2 {
@@ -53,7 +55,7 @@ pub fn system_sides_fit(m: u32, k: u32, p: u32) -> bool
     true
 }
 
-pub fn sides_fit(kind: u32, m: u32, k: u32, p: u32) -> bool
+pub fn kind_sides_fit(kind: u32, m: u32, k: u32, p: u32) -> bool
     ensures { λ r. ⌜ r ≡ sidesFit (kindSort kind) m k p ⌝ }
 {
     if kind <= 2 {
@@ -62,18 +64,18 @@ pub fn sides_fit(kind: u32, m: u32, k: u32, p: u32) -> bool
     system_sides_fit(m, k, p)
 }
 
-// The columns of right-hand sides of a system.
-fn columns(m: u32, p: u32) -> u32
-    ensures { λ r. ⌜ r ≡ columns m p ⌝ }
+// How many residues x, y, c, s, t and z have.
+pub fn side_size(t: Terms) -> usize
+    ensures { λ r. ⌜ r ≡ sideSize t ⌝ }
 {
-    if p < m {
+    if t.p < t.m {
         return 0;
     }
-    p - m
+    checks::times(t.m, t.p - t.m)
 }
 
 // How many residues a message has.
-pub fn size(kind: u32, t: Terms) -> usize
+pub fn message_size(kind: u32, t: Terms) -> usize
     requires { ⌜ t .m * t .k + t .m * t .p ≤ 4096 ⌝ }
     ensures { λ r. ⌜ r ≡ messageSize kind t ⌝ }
 {
@@ -86,11 +88,10 @@ pub fn size(kind: u32, t: Terms) -> usize
     if kind == 3 {
         return checks::times(t.m, t.k);
     }
-    let right = columns(t.m, t.p);
     if kind == 4 {
-        return checks::times(t.m, t.k) + checks::times(t.m, right);
+        return checks::times(t.m, t.k) + side_size(t);
     }
-    checks::times(t.m, right)
+    side_size(t)
 }
 
 // Its own numbers, with `count` residues.
@@ -103,13 +104,13 @@ pub fn check_sizes(a: Head, count: usize) -> Check
     if session.0 < 1 {
         return Check::Refused(Refusal::Size);
     }
-    if !sides_fit(a.kind, t.m, t.k, t.p) {
+    if !kind_sides_fit(a.kind, t.m, t.k, t.p) {
         return Check::Refused(Refusal::Size);
     }
     if tape.0 < 1 {
         return Check::Refused(Refusal::Size);
     }
-    if count != size(a.kind, t) {
+    if count != message_size(a.kind, t) {
         return Check::Refused(Refusal::Size);
     }
     Check::Passed
@@ -126,38 +127,8 @@ pub fn check_head(a: Head, count: usize) -> Check
     if !checks::modulus_fits(t.q) {
         return Check::Refused(Refusal::Modulus);
     }
-    if !field_fits(a.kind, t.q) {
+    if !kind_field_fits(a.kind, t.q) {
         return Check::Refused(Refusal::Composite);
     }
     check_sizes(a, count)
-}
-
-// It is of the session.
-pub fn check_terms(a: Head, t: Terms) -> Check
-    ensures { λ r. ⌜ checked r ≡ verdict (sameTerms a t) ⌝ }
-{
-    let b = a.terms;
-    let sent = b.session;
-    let own = t.session;
-    if sent.0 != own.0 {
-        return Check::Refused(Refusal::Stranger);
-    }
-    let sent_tape = b.tape;
-    let own_tape = t.tape;
-    if sent_tape.0 != own_tape.0 {
-        return Check::Refused(Refusal::Stranger);
-    }
-    if b.q != t.q {
-        return Check::Refused(Refusal::Stranger);
-    }
-    if b.m != t.m {
-        return Check::Refused(Refusal::Stranger);
-    }
-    if b.k != t.k {
-        return Check::Refused(Refusal::Stranger);
-    }
-    if b.p != t.p {
-        return Check::Refused(Refusal::Stranger);
-    }
-    Check::Passed
 }

@@ -6,35 +6,32 @@
 -- Assumes nothing.
 use mathlib.Core.Path.{_≡_, sym, _∙_}
 use mathlib.Core.Bool.{true}
-use mathlib.Core.List.{List, _++_}
+use mathlib.Core.List.{List}
 use Prim.Native.Nat.{ℕ, _+_, _*_, _≤_}
 use native.Mathlib.Omega.{arith}
 use lib.ListN.{length}
-use borrow.Author.Tests.{leb-true, ne-eqb}
+use borrow.Author.Tests.{leb-true}
 use Rattle.protocol.specs.declared.Terms.{Terms}
 use Rattle.protocol.specs.declared.Head.{Head}
 use Rattle.protocol.specs.declared.RightSession.{RightSession}
-use Rattle.protocol.specs.Judge.{Test, done}
+use Rattle.protocol.specs.Judge.{done}
 use Rattle.protocol.specs.Bounds.{sidesFit}
-use Rattle.protocol.specs.Tape.{Slot, Role, left, right, sortOf, bodySize, tapeSize}
+use Rattle.protocol.specs.Tape.{Slot, Role, right, sortOf, tapeSize}
 use Rattle.protocol.specs.Message.{Message}
-use Rattle.protocol.specs.Step.{isOpen}
 use Rattle.protocol.specs.Product.{rightFirstEffect, rightFirstTests, rightFirst, leftEffect, leftTests, leftStep, rightLastEffect, rightLastTests, rightLast}
-use Rattle.protocol.proofs.Judge.{passed, accepts, all-split}
+use Rattle.protocol.proofs.Judge.{passed}
 use Rattle.protocol.proofs.StepTests.{RightFirstFits, right-first, LeftFits, left-step, RightLastFits, right-last}
 use Rattle.checks.specs.InOrder.{judged}
 use Rattle.checks.proofs.InOrder.{accepted-by}
 use Rattle.checks.proofs.Sides.{sides}
-use Rattle.checks.proofs.Place.{slot-inside}
+use Rattle.checks.proofs.Place.{slot-inside, left-size, right-size}
 use Rattle.session.specs.Groups.{modulusTests, numberTests, placeTests}
 use Rattle.steps.specs.Groups.{receivedNumbers}
 use Rattle.steps.proofs.Fits.{Received, received-fits}
-use Rattle.session.proofs.Shape.{size-1, size-2}
 use Rattle.product.specs.Groups.{firstNumbers, lastNumbers}
 use Rattle.product.specs.Shape.{LeftShape, LastShape}
-
-first-passed : (ts us : List Test) → judged (ts ++ us) ≡ done tt → judged ts ≡ done tt
-first-passed ts us e = accepts ts tt (all-split ts us (passed (ts ++ us) e .0) .0)
+use Rattle.session.proofs.Join.{first-passed}
+use Rattle.message.proofs.KindLaws.{size-1, size-2}
 
 -- the sides fit, the slot lies in its pool, and the half in the slot
 pub record Placed (role : Role) (t : Terms) (pool size index : ℕ) : Type 0 where
@@ -56,10 +53,6 @@ unfolding lastNumbers
 last-received x a count pool size index share e =
     received-fits right (x .terms) a count pool size index (first-passed (receivedNumbers right (x .terms) a count pool size index) _ e)
 
-pub is-open : (due : ℕ) → (due ≡ 0 → ⊥) → isOpen due ≡ true
-unfolding isOpen
-is-open due h = rw (ne-eqb due 0 h)
-
 -- ---- a step that is accepted
 
 pub first-known : (t : Terms) (s : Slot) (y : List ℕ) (room : ℕ) → judged (rightFirstTests t s y room) ≡ done tt → RightFirstFits t s y room
@@ -77,14 +70,6 @@ unfolding rightLast
 last-known x s a share h = right-last x s a share .means (accepted-by (rightLastTests x s a share) (rightLastEffect x s a) h) .0
 
 -- ---- what the writers ask
-
-pub right-size : (m k p : ℕ) → 7 + k * p + m * p ≡ tapeSize right m k p
-unfolding tapeSize bodySize
-right-size m k p = omega arith
-
-pub left-size : (m k p : ℕ) → 7 + m * k + m * p ≡ tapeSize left m k p
-unfolding tapeSize bodySize
-left-size m k p = omega arith
 
 pub left-shape : (t : Terms) (s : Slot) (x words : List ℕ) (a : Message) (room share slot : ℕ) → LeftFits t s x words a room share → slot ≡ s .size
     → LeftShape t (length x) (length (a .residues)) slot room

@@ -24,10 +24,6 @@ use Rattle.session.proofs.Leaving.{accepted-leaves}
 
 -- ---- a message's parts
 
-pub whole-message : (t : Terms) (a : Message) → length (a .residues) ≡ t .k * t .p → part 0 (messageParts 1 t a) ≡ a .residues
-unfolding messageParts messageLayout parts
-whole-message t a e = take-all (t .k * t .p) (a .residues) (omega arith)
-
 pub first-part : (t : Terms) (a : Message) → part 0 (messageParts 2 t a) ≡ take (t .m * t .k) (a .residues)
 unfolding messageParts messageLayout parts
 first-part t a = refl

@@ -3,22 +3,22 @@
 --   judged-join    judged (ts ++ us) is the lower of both
 --   judged-cons    the same test by test
 --   also           the same of what check functions answered
+--   first-passed   the first of two groups passed where both did
 --   judged-phases  where the sorted tests are the phases' sorted tests, one after the other
 --   hands-on, goes-past  what a caller of a check function concludes
 -- Assumes nothing.
 use mathlib.Core.Path.{_≡_, refl, sym, ap, ap₂, _∙_}
-use mathlib.Core.Bool.{Bool, true, false, cond}
+use mathlib.Core.Bool.{Bool, true, false}
 use mathlib.Core.List.{List, [], _∷_, _++_}
-use Prim.Native.Nat.{ℕ, _<_, _≤_}
+use Prim.Native.Nat.{_<_, _≤_}
 use native.Mathlib.Omega.{arith}
 use native.Mathlib.Decide.{decLt}
-use lib.Dec.{ltb}
 use borrow.Author.Tests.{lt-ltb, le-ltb}
 use Rattle.algebra.specs.Count.{both}
 use Rattle.protocol.specs.declared.Refusal.{Refusal}
 use Rattle.protocol.specs.declared.Refusal.the-variants.{Form, Modulus, Composite, Size, Turn, Mark, Stranger, Residue, Dry, Singular}
 use Rattle.protocol.specs.Judge.{refusalNumber, Test, needs, clear, Judged, refused, done, judge, judgeBy}
-use Rattle.protocol.proofs.Judge.{accepts, passed, all-append, lowest, stops, Lowest, clear-append, all-clear}
+use Rattle.protocol.proofs.Judge.{accepts, passed, all-append, all-split, lowest, stops, Lowest, clear-append, all-clear}
 use Rattle.checks.specs.declared.Check.{Check}
 use Rattle.checks.specs.declared.Check.the-variants.{Passed, Refused}
 use Rattle.checks.specs.InOrder.{checked, inOrder, verdict, sorted, judged, after}
@@ -111,6 +111,9 @@ judged-cons t u ts = judged-join (t ∷ []) (u ∷ ts)
 -- two checks of which the code took the worse: a chain of tests is a term of `also`s
 pub also : (ts us : List Test) {x v w : Judged Unit} → x ≡ lower v w → v ≡ judged ts → w ≡ judged us → x ≡ judged (ts ++ us)
 also ts us e f g = e ∙ (rw (f, g) (sym (judged-join ts us)))
+
+pub first-passed : (ts us : List Test) → judged (ts ++ us) ≡ done tt → judged ts ≡ done tt
+first-passed ts us e = accepts ts tt (all-split ts us (passed (ts ++ us) e .0) .0)
 
 -- ---- phases
 

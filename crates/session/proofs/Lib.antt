@@ -1,5 +1,5 @@
 -- Join    judging two groups of tests is taking the lower of their refusals; tests made phase by phase
--- Shape   what sides that fit are bounded by; the sizes of messages as code counts them
+-- Shape   what sides that fit are bounded by
 -- Phases  the shared groups of tests, in the phases in which the code makes them
 -- Slot    a slot lent as a part of its pool, its status, and a half in it
 -- Leaving  what a step leaves, refused and accepted

@@ -1,15 +1,17 @@
--- The shared groups of tests, in the phases in which the code makes them. Assumes nothing.
+-- The shared groups of tests, in the phases in which the code makes them; `is-open`, of a session of which something is due. Assumes nothing.
 use mathlib.Core.Path.{_≡_, refl, sym, ap, _∙_}
 use mathlib.Core.Bool.{Bool, true, false}
-use mathlib.Core.List.{List, [], _∷_, _++_}
+use mathlib.Core.List.{[], _∷_, _++_}
 use Prim.Native.Nat.{ℕ}
+use borrow.Author.Tests.{ne-eqb}
 use Rattle.algebra.specs.Count.{both}
 use Rattle.protocol.specs.declared.Terms.{Terms}
 use Rattle.protocol.specs.declared.Head.{Head}
 use Rattle.protocol.specs.declared.Refusal.the-variants.{Size}
-use Rattle.protocol.specs.Judge.{needs, clear, refused, done, judge, judgeBy}
+use Rattle.protocol.specs.Judge.{needs, clear, refused, judge, judgeBy}
 use Rattle.protocol.specs.Bounds.{Sort}
 use Rattle.protocol.specs.Tape.{Role}
+use Rattle.protocol.specs.Step.{isOpen}
 use Rattle.checks.specs.InOrder.{only, sortedBy, sorted, judged, after}
 use Rattle.checks.proofs.InOrder.{after-last}
 use Rattle.checks.proofs.Place.{no-slot}
@@ -38,3 +40,7 @@ first-fails h = refl
 pub no-place : (role : Role) (t : Terms) (pool size index : ℕ) → size ≡ 0 → judged (placeTests role t pool size index) ≡ refused Size
 unfolding placeTests
 no-place role t pool size index e = rw (no-slot pool size index e) (first-fails _)
+
+pub is-open : (due : ℕ) → (due ≡ 0 → ⊥) → isOpen due ≡ true
+unfolding isOpen
+is-open due h = rw (ne-eqb due 0 h)

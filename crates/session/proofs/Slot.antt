@@ -1,21 +1,24 @@
 -- A slot lent as a part of its pool, its status, and its matrices as parts of it.
 --   slot-part, slot-back, slot-written  a slot lent to a reader, and to a writer
+--   same-pool                           a slot with its own words
 --   status-set                          the first word of a slot is its status
---   part-written, zeroed-spent          a part of a slot lent to a writer; a spent tape
+--   zeroed-spent                        a spent tape
 -- Assumes nothing.
-use mathlib.Core.Path.{_≡_, refl, sym, ap, _∙_}
-use mathlib.Core.List.{List, [], _∷_, _++_, append-nil}
-use Prim.Native.Nat.{ℕ, zero, suc, _+_, _-_, _*_, _≤_, _<_}
+use mathlib.Core.Path.{_≡_, refl, ap, _∙_}
+use mathlib.Core.List.{List, [], _∷_, _++_}
+use Prim.Native.Nat.{ℕ, _+_, _-_, _*_, _≤_, _<_}
 use native.Mathlib.Nat.{not-suc-le-zero}
 use native.Mathlib.Omega.{arith}
-use lib.ListN.{length, set, take, drop, length-append, length-take, length-drop, drop-of-length-le}
-use lib.Seq.{take-all}
+use lib.ListN.{length, set, take, drop, length-take, length-drop, take-append-drop}
 use borrow.Rule.Slice.PartMut.{midOf, putMid}
 use Rattle.algebra.specs.Matrix.{zeros}
 use Rattle.algebra.specs.Words.{over, writtenAt}
 use Rattle.algebra.proofs.Lists.{length-tabulate}
 use Rattle.protocol.specs.declared.Terms.{Terms}
-use Rattle.protocol.specs.Tape.{Role, slotAt, slotWords, poolWith, bodySize, tapeSize, body, withStatus, spent, IN-USE, wordsInUse, wordsSpent}
+use Rattle.protocol.specs.Tape.{Role, Slot, isSlot, slotAt, slotWords, poolWith, bodySize, tapeSize, body, withStatus, spent, IN-USE, wordsInUse, wordsSpent}
+use Rattle.checks.proofs.Written.{part-written, written-length}
+use Rattle.protocol.proofs.Slots.{slot-length}
+use mathlib.Core.Bool.{true}
 
 -- ---- a slot of a pool
 
@@ -47,6 +50,15 @@ slot-written pool ys size index f inside keeps e =
     slot-back pool ys size index (ap length e ∙ keeps _ (slot-part-length pool size index inside))
     ∙ ap (poolWith (slotAt pool size index)) (e ∙ ap f (slot-part pool size index))
 
+-- a slot with its own words
+pub same-pool : (s : Slot) → isSlot s ≡ true → poolWith s (slotWords s) ≡ s .pool
+unfolding poolWith writtenAt over slotWords
+same-pool s e =
+    let n : length (take (s .size) (drop (s .index * s .size) (s .pool))) ≡ s .size = slot-length s e in
+    rw n
+    (ap (λ (l : List ℕ). take (s .index * s .size) (s .pool) ++ l) (take-append-drop (s .size) (drop (s .index * s .size) (s .pool)))
+    ∙ take-append-drop (s .index * s .size) (s .pool))
+
 -- ---- its status
 
 status-set : (v : ℕ) (words : List ℕ) → 0 < length words → set words 0 v ≡ withStatus v words
@@ -67,21 +79,6 @@ unfolding wordsInUse
 in-use-length words h = status-length IN-USE words h
 
 -- ---- a spent tape
-
--- the part `&mut xs[a..]` was lent to a writer of ws, which left ys there
-pub part-written : (a : ℕ) (ws xs ys : List ℕ) → a ≤ length xs → ys ≡ over ws (midOf a (length xs - a) xs)
-    → putMid a (length xs - a) xs ys ≡ writtenAt a ws xs
-unfolding writtenAt
-part-written a ws xs ys h e =
-    let len : length (drop a xs) ≤ length xs - a = omega (arith, length-drop a xs) in
-    let none : drop (length xs - a) (drop a xs) ≡ [] = drop-of-length-le (drop a xs) len in
-    let all : take (length xs - a) (drop a xs) ≡ drop a xs = take-all (length xs - a) (drop a xs) len in
-    ap (λ (l : List ℕ). take a xs ++ (ys ++ l)) none
-    ∙ ap (λ (l : List ℕ). take a xs ++ l) (append-nil ys ∙ (e ∙ ap (over ws) all))
-
-pub written-length : (a : ℕ) (ws xs : List ℕ) → a + length ws ≤ length xs → length (writtenAt a ws xs) ≡ length xs
-unfolding writtenAt over
-written-length a ws xs h = simp (length-append, length-take, length-drop) (omega arith)
 
 pub zeros-count : (n : ℕ) → length (zeros n) ≡ n
 unfolding zeros

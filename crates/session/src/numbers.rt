@@ -6,17 +6,21 @@ use checks::Check;
 use checks::modulus_fits;
 use checks::times;
 use matrix::Matrix;
+use message::kind_field_fits;
+use message::kind_known;
+use message::kind_sides_fit;
+use message::message_size;
+use message::system_sides_fit;
 use protocol::Head;
 use protocol::Refusal;
 use protocol::Terms;
 ghost use mathlib.Core.Path.{_≡_};
 ghost use mathlib.Core.List.{_++_};
-ghost use Prim.Native.Nat.{_+_, _*_, _≤_, _<_};
 ghost use mathlib.Core.Bool.{true};
 ghost use Rattle.algebra.specs.Count.{both};
-ghost use Rattle.protocol.specs.Bounds.{within, fieldFits, sidesFit, system, columns};
-ghost use Rattle.protocol.specs.Tape.{bodySize, tapeSize};
-ghost use Rattle.protocol.specs.Message.{kindSort, messageSize};
+ghost use Rattle.protocol.specs.Bounds.{fieldFits, sidesFit};
+ghost use Rattle.protocol.specs.Tape.{tapeSize};
+ghost use Rattle.protocol.specs.Message.{kindSort};
 ghost use Rattle.checks.specs.InOrder.{checked, judged};
 ghost use Rattle.session.specs.Ends.{role, sort};
 ghost use Rattle.session.specs.Groups.{modulusTests, kindTests, numberTests, placeTests, idTests, countTests, sameTests};
@@ -43,33 +47,11 @@ pub fn check_modulus(end: End, q: u32) -> Check
     worst(range, prime)
 }
 
-fn kind_fits(kind: u32) -> bool
-    ensures { λ r. ⌜ r ≡ within 1 5 kind ⌝ }
-{
-    if kind < 1 {
-        return false;
-    }
-    if 5 < kind {
-        return false;
-    }
-    true
-}
-
-// Kinds 3 to 5 are of systems.
-fn kind_field_fits(kind: u32, q: u32) -> bool
-    ensures { λ r. ⌜ r ≡ fieldFits (kindSort kind) q ⌝ }
-{
-    if kind <= 2 {
-        return true;
-    }
-    field::is_prime(q)
-}
-
 pub fn check_kind(a: Head) -> Check
     ensures { λ r. ⌜ checked r ≡ judged (kindTests a) ⌝ }
 {
     let t = a.terms;
-    let kind = need(Refusal::Form, kind_fits(a.kind));
+    let kind = need(Refusal::Form, kind_known(a.kind));
     let range = need(Refusal::Modulus, modulus_fits(t.q));
     let prime = need(Refusal::Composite, kind_field_fits(a.kind, t.q));
     worst(kind, worst(range, prime))
@@ -93,31 +75,13 @@ pub fn check_moduli(a: Head, end: End, q: u32) -> Check
     if t.q != q {
         return worst(check_kind(a), check_modulus(end, q));
     }
-    let kind = need(Refusal::Form, kind_fits(a.kind));
+    let kind = need(Refusal::Form, kind_known(a.kind));
     let range = need(Refusal::Modulus, modulus_fits(q));
     let prime = need(Refusal::Composite, fields_fit(a.kind, end, q));
     worst(kind, worst(range, prime))
 }
 
 // ---- sizes
-
-fn system_sides_fit(m: u32, k: u32, p: u32) -> bool
-    ensures { λ r. ⌜ r ≡ sidesFit system m k p ⌝ }
-{
-    if m < 1 {
-        return false;
-    }
-    if 16 < m {
-        return false;
-    }
-    if k != m {
-        return false;
-    }
-    if p != m + 1 {
-        return false;
-    }
-    true
-}
 
 fn sides_fit(end: End, m: u32, k: u32, p: u32) -> bool
     ensures { λ r. ⌜ r ≡ sidesFit (sort end) m k p ⌝ }
@@ -128,15 +92,6 @@ fn sides_fit(end: End, m: u32, k: u32, p: u32) -> bool
         End::Blinder => system_sides_fit(m, k, p),
         End::Solver => system_sides_fit(m, k, p),
     }
-}
-
-fn kind_sides_fit(kind: u32, m: u32, k: u32, p: u32) -> bool
-    ensures { λ r. ⌜ r ≡ sidesFit (kindSort kind) m k p ⌝ }
-{
-    if kind <= 2 {
-        return Matrix::sides_fit(m, k, p);
-    }
-    system_sides_fit(m, k, p)
 }
 
 // Of the sides is told whether they fit.
@@ -181,36 +136,6 @@ pub fn check_sizes(end: End, t: Terms, pool: usize, size: usize, index: usize) -
     let slot = need(Refusal::Size, index < pool / size);
     let half = need(Refusal::Size, half_size(end, t) <= size);
     worst(slot, half)
-}
-
-// How many residues a message of a kind has.
-pub fn message_size(kind: u32, t: Terms) -> usize
-    requires { ⌜ t .m * t .k + t .m * t .p ≤ 4096 ⌝ }
-    ensures { λ r. ⌜ r ≡ messageSize kind t ⌝ }
-{
-    if kind == 1 {
-        return times(t.k, t.p);
-    }
-    if kind == 2 {
-        return times(t.m, t.k) + times(t.m, t.p);
-    }
-    if kind == 3 {
-        return times(t.m, t.k);
-    }
-    let columns = columns_of(t.m, t.p);
-    if kind == 4 {
-        return times(t.m, t.k) + times(t.m, columns);
-    }
-    times(t.m, columns)
-}
-
-fn columns_of(m: u32, p: u32) -> u32
-    ensures { λ r. ⌜ r ≡ columns m p ⌝ }
-{
-    if p < m {
-        return 0;
-    }
-    p - m
 }
 
 // What a message shows by its head and its count of residues.

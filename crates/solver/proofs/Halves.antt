@@ -6,11 +6,11 @@
 --   joint-sum, joint-side              W + V and c + s
 -- Assumes nothing.
 use mathlib.Core.Path.{_≡_, refl, sym, ap, _∙_}
-use mathlib.Core.List.{List, [], _∷_}
-use Prim.Native.Nat.{ℕ, zero, suc, _+_, _-_, _*_, _≤_, _<_}
+use mathlib.Core.List.{List}
+use Prim.Native.Nat.{ℕ, _+_, _-_, _*_, _≤_, _<_}
 use native.Mathlib.Omega.{arith}
-use lib.ListN.{length, take, drop, length-drop}
-use lib.Seq.{take-at, take-all, take-take, drop-drop}
+use lib.ListN.{length, take, drop}
+use lib.Seq.{drop-drop}
 use Rattle.algebra.specs.Matrix.{zeros, Residues, matAdd, matSub, matMul}
 use Rattle.algebra.specs.Count.{part, parts}
 use Rattle.algebra.specs.Product.{sendY, rightShare}
@@ -21,21 +21,14 @@ use Rattle.protocol.specs.declared.Terms.{Terms}
 use Rattle.protocol.specs.Bounds.{columns}
 use Rattle.protocol.specs.System.{padded, sideSize}
 use Rattle.solver.specs.Formulas.{shareOf, sumOf, sideOf}
-use Rattle.columns.proofs.Rows.{count-after}
 use Rattle.protocol.specs.Tape.{solver, bodySize, body, matrices}
-
--- a part of the first n words
-cut : (a k n : ℕ) (l : List ℕ) → a + k ≤ n → take k (drop a (take n l)) ≡ take k (drop a l)
-cut zero k n l h = take-take k n l (omega arith)
-cut (suc a) k zero l h = absurd (omega arith)
-cut (suc a) k (suc n) [] h = refl
-cut (suc a) k (suc n) (x ∷ l) h = cut a k n l (omega arith)
+use Rattle.checks.proofs.Written.{after-over, over-part, part-of-start}
 
 -- the same behind the header
 behind : (a k n from stop : ℕ) (l : List ℕ) → from ≡ 7 + a → stop ≡ from + k → a + k ≤ n → take (stop - from) (drop from l) ≡ take k (drop a (take n (drop 7 l)))
 behind a k n from stop l e f h =
     let size : stop - from ≡ k = omega arith in
-    sym (cut a k n (drop 7 l) h ∙ (ap (take k) (drop-drop a 7 l) ∙ rw (size, e) refl))
+    sym (part-of-start k n a (drop 7 l) h ∙ (ap (take k) (drop-drop a 7 l) ∙ rw (size, e) refl))
 
 module _ (t : Terms) (words : List ℕ) (from stop : ℕ) where
   pub y0-part : from ≡ 7 → stop ≡ from + t .k * t .p → take (stop - from) (drop from words) ≡ part 0 (matrices solver t words)
@@ -59,10 +52,6 @@ module _ (t : Terms) (words : List ℕ) (from stop : ℕ) where
       behind (t .k * t .p + t .m * t .p + t .m * t .k) (t .m * t .k) (t .k * t .p + (t .m * t .p + (t .m * t .k + t .m * t .k))) from stop words e f (omega arith)
       ∙ ap (take (t .m * t .k))
       (sym (ap (drop (t .m * t .k)) (drop-drop (t .m * t .p) (t .k * t .p) _) ∙ drop-drop (t .m * t .k) (t .k * t .p + t .m * t .p) _))
-
-pub over-part : (n : ℕ) (ws d : List ℕ) {l : List ℕ} → l ≡ over ws d → length ws ≡ n → take n l ≡ ws
-unfolding over
-over-part n ws d e h = ap (take n) e ∙ take-at ws (drop (length ws) d) n h
 
 pub first-sent : (q m p size : ℕ) {y y0 : List ℕ} (b b0 out : List ℕ) {sent : List ℕ}
     → sent ≡ over (matSub q size y y0) out → y ≡ b → y0 ≡ b0 → size ≡ m * p → sent ≡ over (sendY q m m p b b0) out
@@ -95,12 +84,8 @@ pub sum-length : (q n : ℕ) (a b : List ℕ) → length (matAdd q n a b) ≡ n
 unfolding matAdd
 sum-length q n a b = length-tabulate n _
 
--- `&l[n..]`
-pub rest-part : (n : ℕ) (l : List ℕ) → take (length l - n) (drop n l) ≡ drop n l
-rest-part n l = take-all (length l - n) (drop n l) (omega (arith, length-drop n l))
-
 pub sum-room : (q n : ℕ) (a b d : List ℕ) {l : List ℕ} → l ≡ over (matAdd q n a b) d → n ≤ length d → length l ≡ length d
-sum-room q n a b d e h = count-after (matAdd q n a b) d e (omega (arith, sum-length q n a b))
+sum-room q n a b d e h = after-over (matAdd q n a b) d e (omega (arith, sum-length q n a b))
 
 -- W + V and c + s, as parts of the arrays that they were written into
 pub joint-sum : (t : Terms) (slot residues : List ℕ) (size : ℕ) (d : List ℕ) {w v l : List ℕ} → l ≡ over (matAdd (t .q) size w v) d → size ≡ t .m * t .m

@@ -7,34 +7,35 @@
 -- Assumes nothing.
 use mathlib.Core.Path.{_≡_, sym, ap, _∙_}
 use mathlib.Core.Bool.{true}
-use mathlib.Core.List.{List, _++_, map}
+use mathlib.Core.List.{List, map}
 use Prim.Native.Nat.{ℕ, _+_, _-_, _*_, _≤_, _<_}
 use native.Mathlib.Nat.{mul-le-mul}
 use native.Mathlib.Omega.{arith}
 use lib.ListN.{length, length-map}
-use borrow.Author.Tests.{leb-true, eqb-true, ne-eqb}
+use borrow.Author.Tests.{leb-true, eqb-true}
 use Rattle.algebra.specs.Prime.{isPrime}
 use Rattle.protocol.specs.declared.Terms.{Terms}
 use Rattle.protocol.specs.declared.Head.{Head}
 use Rattle.protocol.specs.declared.SolverSession.{SolverSession}
-use Rattle.protocol.specs.Judge.{Test, done}
+use Rattle.protocol.specs.Judge.{done}
 use Rattle.protocol.specs.Bounds.{sidesFit, fieldFits, system, columns, allBelow}
 use Rattle.protocol.specs.Tape.{Slot, solver, bodySize, tapeSize, tapeTests, bodyTests}
 use Rattle.protocol.specs.System.{sideSize, keptTests, solverSecondEffect, solverSecondTests, solverSecond, solverLastEffect, solverLastTests, solverLast}
 use Rattle.protocol.specs.Message.{Message, messageLayout, messageSize}
-use Rattle.protocol.specs.Step.{isOpen}
-use Rattle.protocol.proofs.Judge.{passed, accepts, all-split}
+use Rattle.protocol.proofs.Judge.{passed}
 use Rattle.protocol.proofs.StepTests.{SolverFits, solver-second, solver-last}
 use Rattle.checks.specs.InOrder.{judged}
 use Rattle.checks.proofs.InOrder.{accepted-by}
 use Rattle.checks.proofs.Sides.{Modulus, modulus}
 use Rattle.checks.proofs.Place.{slot-inside}
 use Rattle.session.specs.Groups.{modulusTests, numberTests, placeTests}
-use Rattle.session.proofs.Shape.{unknowns, size-2, size-3, size-4, size-5}
+use Rattle.session.proofs.Shape.{unknowns}
 use Rattle.steps.specs.Groups.{receivedNumbers}
 use Rattle.steps.proofs.Fits.{Received, received-fits}
 use Rattle.solver.specs.Groups.{firstNumbers, firstWords, laterNumbers, receiving}
 use Rattle.solver.specs.Shape.{FirstShape, LaterShape}
+use Rattle.session.proofs.Join.{first-passed}
+use Rattle.message.proofs.KindLaws.{size-2, size-3, size-4, size-5}
 
 -- ---- the sides
 
@@ -119,18 +120,11 @@ first-below t l x slot e = passed (firstWords t l x slot) e .0 .1 .1 .1 .1 .1 .1
 
 -- ---- steps 3 and 5
 
-first-passed : (ts us : List Test) → judged (ts ++ us) ≡ done tt → judged ts ≡ done tt
-first-passed ts us e = accepts ts tt (all-split ts us (passed (ts ++ us) e .0) .0)
-
 pub later-known : (kind due : ℕ) (t : Terms) (a : Head) (count pool size index sent room : ℕ)
     → judged (laterNumbers kind due t a count pool size index sent room) ≡ done tt → Received solver t pool size index
 unfolding laterNumbers
 later-known kind due t a count pool size index sent room e =
     received-fits solver t a count pool size index (first-passed (receivedNumbers solver t a count pool size index) _ e)
-
-pub is-open : (due : ℕ) → (due ≡ 0 → ⊥) → isOpen due ≡ true
-unfolding isOpen
-is-open due h = rw (ne-eqb due 0 h)
 
 pub second-known : (x : SolverSession) (s : Slot) (a : Message) (room : ℕ) → judged (receiving 2 x s a (x .terms .m * x .terms .k) room) ≡ done tt
     → SolverFits 2 x s a (messageSize 3 (x .terms)) room

@@ -4,15 +4,15 @@
 -- Assumes nothing.
 use mathlib.Core.Path.{_≡_, sym, ap, _∙_}
 use mathlib.Core.Bool.{Bool, true, false, cond}
-use mathlib.Core.List.{List, [], _++_, append-nil}
+use mathlib.Core.List.{List, [], append-nil}
 use Prim.Native.Nat.{ℕ, _+_, _*_}
 use native.Mathlib.Omega.{arith}
-use lib.ListN.{length, take, drop, length-drop, take-append-drop}
+use lib.ListN.{length, take, drop, length-drop}
 use lib.Seq.{take-all}
 use Rattle.algebra.specs.Matrix.{zeros, matAdd}
 use Rattle.algebra.specs.Count.{part, parts, join}
 use Rattle.algebra.specs.Columns.{beside}
-use Rattle.algebra.specs.Words.{over, writtenAt}
+use Rattle.algebra.specs.Words.{over}
 use Rattle.algebra.specs.Elimination.{regular, solution}
 use Rattle.algebra.specs.System.{lastCols, solverShare, sendF}
 use Rattle.algebra.specs.Product.{sendY}
@@ -24,12 +24,12 @@ use Rattle.protocol.specs.Bounds.{columns}
 use Rattle.protocol.specs.Tape.{Slot, isSlot, solver, poolWith, slotWords, matrices, wordsInUse, wordsSpent}
 use Rattle.protocol.specs.Message.{Message, messageLayout, messageSize, messageParts}
 use Rattle.protocol.specs.System.{noSolver, padded, sideSize, keptS, jointSum, solverFirstEffect, solverFirstTests, solverFirst, solverSecondEffect, solverSecondTests, solverSecond, solverLastEffect, solverLastTests, solverLast}
-use Rattle.protocol.proofs.Slots.{slot-length}
 use Rattle.checks.specs.InOrder.{judged}
 use Rattle.session.specs.Leaves.{Leaves, leaves}
 use Rattle.session.proofs.Leaving.{accepted-leaves}
 use Rattle.solver.specs.Groups.{receiving}
 use Rattle.solver.specs.Formulas.{shareOf, sumOf, sideOf, lastAnswer, lastHead, closedTerms}
+use Rattle.session.proofs.Slot.{same-pool}
 
 pub first-done : (t : Terms) (s : Slot) (l x sent : List ℕ) {pool′ sent′ : List ℕ} → judged (solverFirstTests t s l x (length sent)) ≡ done tt
     → pool′ ≡ poolWith s (wordsInUse (slotWords s))
@@ -65,14 +65,6 @@ c-part t a e h =
     ∙ take-all (t .m * columns (t .m) (t .p)) (drop (t .m * t .m) (a .residues)) (omega (arith, length-drop (t .m * t .m) (a .residues)))
 
 -- ---- step 3
-
--- a slot with its own words
-same-pool : (s : Slot) → isSlot s ≡ true → poolWith s (slotWords s) ≡ s .pool
-unfolding poolWith writtenAt over slotWords
-same-pool s e =
-    let n : length (take (s .size) (drop (s .index * s .size) (s .pool))) ≡ s .size = slot-length s e in
-    rw n (ap (λ (l : List ℕ). take (s .index * s .size) (s .pool) ++ l) (take-append-drop (s .size) (drop (s .index * s .size) (s .pool)))
-    ∙ take-append-drop (s .index * s .size) (s .pool))
 
 module _ (x : SolverSession) (s : Slot) (a : Message) where
   second-share : x .terms .m * x .terms .k ≡ x .terms .m * x .terms .m → length (a .residues) ≡ x .terms .m * x .terms .m + x .terms .m * x .terms .p

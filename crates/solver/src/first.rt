@@ -2,13 +2,13 @@
 use crate::SolverAnswer;
 use crate::no_session;
 use crate::refused;
-use crate::side_size;
 use checks::Check;
 use checks::all_below;
 use checks::times;
 use columns::write_beside;
 use elimination::has_inverse;
 use matrix::write_difference;
+use message::side_size;
 use protocol::Answer;
 use protocol::Head;
 use protocol::Refusal;

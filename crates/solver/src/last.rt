@@ -2,11 +2,11 @@
 use crate::SolverAnswer;
 use crate::later::check;
 use crate::refused;
-use crate::side_size;
 use checks::Check;
 use checks::times;
 use elimination::solve;
 use matrix::write_sum;
+use message::side_size;
 use protocol::Answer;
 use protocol::Head;
 use protocol::Refusal;

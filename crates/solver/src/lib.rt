@@ -22,7 +22,7 @@ use steps::no_head;
 ghost use mathlib.Core.Path.{_≡_};
 ghost use Rattle.protocol.specs.Message.{noMessage};
 ghost use Rattle.checks.specs.InOrder.{answerOf};
-ghost use Rattle.protocol.specs.System.{sideSize, noSolver};
+ghost use Rattle.protocol.specs.System.{noSolver};
 
 // What a step of the solver answers: besides the answer its session, and the head of the message that it sends.
 pub struct SolverAnswer {
@@ -54,14 +54,4 @@ pub fn refused(c: Check, session: SolverSession) -> SolverAnswer
         session: session,
         head: no_head(),
     }
-}
-
-// How many residues x, c, s and t have.
-pub fn side_size(t: Terms) -> usize
-    ensures { λ r. ⌜ r ≡ sideSize t ⌝ }
-{
-    if t.p < t.m {
-        return 0;
-    }
-    checks::times(t.m, t.p - t.m)
 }

@@ -3,7 +3,7 @@
 -- masks-first, masks-second        the beginning of each half, for both sorts
 -- product-first, product-second   a product's halves
 -- Assumes nothing.
-use mathlib.Core.Path.{_≡_, refl, sym, ap, ap₂, _∙_}
+use mathlib.Core.Path.{_≡_, refl, ap, _∙_}
 use mathlib.Core.List.{List, [], _∷_, _++_, append-nil, append-assoc}
 use Prim.Native.Nat.{ℕ, _+_, _-_, _*_, _≤_}
 use native.Mathlib.Omega.{arith}
@@ -18,11 +18,12 @@ use Rattle.algebra.specs.Words.{over, writtenAt}
 use Rattle.protocol.specs.declared.TapeId.{TapeId}
 use Rattle.protocol.specs.Drawing.{residuesOf}
 use Rattle.protocol.specs.Tape.{headerWords, READY}
-use Rattle.protocol.specs.Deal.{productRequest, drawnParts, dealtB}
+use Rattle.protocol.specs.Deal.{productRequest, dealtB}
 use Rattle.matrix.specs.Fill.{firstWords}
 use Rattle.tape.specs.Dealt.{masksOf, firstMasks, secondMasks, firstHalfWords, secondHalfWords}
-use Rattle.tape.proofs.Words.{over-then, over-slice, over-last, part-written, copied}
+use Rattle.tape.proofs.Words.{over-slice, over-last, copied}
 use Rattle.tape.proofs.Draws.{drawn-parts}
+use Rattle.checks.proofs.Written.{over-then, part-written}
 
 module _ (q m k p : ℕ) (h x y a : List ℕ) (seven : length h ≡ 7) (lx : length x ≡ m * k) (ly : length y ≡ k * p) (la : length a ≡ m * p) where
   pub b-after : (first second f s : List ℕ) {t : List ℕ} → f ≡ over (h ++ (x ++ a)) first → s ≡ over (h ++ y) second

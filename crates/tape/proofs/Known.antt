@@ -2,27 +2,27 @@
 -- Placed, Numbers    the slots, and the bounds on modulus and sides of a product
 -- deal-enough        enough words are kept
 -- Assumes nothing.
-use mathlib.Core.Path.{_≡_, refl, sym, ap, _∙_}
-use mathlib.Core.Bool.{Bool, true}
-use mathlib.Core.List.{List, [], _∷_}
-use Prim.Native.Nat.{ℕ, _+_, _*_, _≤_, _<_}
+use mathlib.Core.Path.{_≡_, refl, sym, _∙_}
+use mathlib.Core.Bool.{true}
+use mathlib.Core.List.{List}
+use Prim.Native.Nat.{ℕ, _+_, _*_, _≤_}
 use native.Mathlib.Omega.{arith}
 use lib.Dec.{leb}
 use lib.ListN.{length}
 use borrow.Author.Tests.{leb-true}
 use native.Mathlib.Nat.{mul-le-mul}
-use Rattle.algebra.specs.Count.{both, total}
+use Rattle.algebra.specs.Count.{both}
 use Rattle.algebra.proofs.Count.{and-left, and-right}
 use Rattle.protocol.specs.declared.TapeId.{TapeId}
 use Rattle.protocol.specs.Judge.{Judged, done}
 use Rattle.protocol.specs.Bounds.{Sort, product, system, within, fieldFits, sidesFit, shapeTests}
 use Rattle.protocol.specs.Drawing.{residuesOf}
-use Rattle.protocol.specs.Tape.{left, right, blinder, solver, tapeSize, bodySize, slotAt, slotWords, statusOf, headerWords, READY}
+use Rattle.protocol.specs.Tape.{left, right, blinder, solver, tapeSize, bodySize, slotAt}
 use Rattle.protocol.specs.Deal.{Request, productRequest, systemRequest, firstRole, secondRole, drawSize, dealTests, maskFits, drawnParts}
-use Rattle.checks.specs.InOrder.{verdict, judged, after, inGroups, concat}
+use Rattle.checks.specs.InOrder.{verdict, judged, after, inGroups}
 use Rattle.checks.specs.Groups.{placeTests}
-use Rattle.checks.proofs.InOrder.{in-groups, verdict-all, after-first, after-second}
-use Rattle.checks.proofs.Sides.{Sides, sides, Modulus, modulus}
+use Rattle.checks.proofs.InOrder.{verdict-all, after-first, after-second}
+use Rattle.checks.proofs.Sides.{sides, modulus}
 use Rattle.checks.proofs.Place.{slot-inside}
 use Rattle.tape.specs.Groups.{dealNumbers, markTests, drawnTests, dealWords}
 use Rattle.tape.specs.Shape.{Masks, Mask}
@@ -106,14 +106,6 @@ module _ (first second : List ℕ) (size index : ℕ) (r : Request)
   deal-enough = words-passed _ _ r (after-second (Numbers first second size index r) _ (sym (deal-judged first second size index r) ∙ ok))
 
 -- ---- counts
-
-pub left-count : (m k p : ℕ) → 7 + m * k + m * p ≡ tapeSize left m k p
-unfolding tapeSize bodySize
-left-count m k p = omega arith
-
-pub right-count : (m k p : ℕ) → 7 + k * p + m * p ≡ tapeSize right m k p
-unfolding tapeSize bodySize
-right-count m k p = omega arith
 
 pub product-count : (tape : TapeId) (q m k p : ℕ) (words : List ℕ) → m * k + (k * p + m * p) ≡ drawSize (productRequest tape q m k p words)
 unfolding drawSize

@@ -16,13 +16,12 @@ use borrow.Author.Tests.{leb-true, leb-false, le-leb, lt-leb}
 use borrow.Rule.Slice.PartMut.{midOf, putMid}
 use Rattle.algebra.specs.Count.{part, parts, join}
 use Rattle.algebra.specs.Matrix.{Residues, matAdd, matMul}
-use Rattle.algebra.specs.Product.{dealB}
 use Rattle.algebra.specs.System.{dealV}
 use Rattle.algebra.specs.Words.{over, writtenAt}
 use Rattle.algebra.proofs.Lists.{length-tabulate}
 use Rattle.protocol.specs.declared.TapeId.{TapeId}
 use Rattle.protocol.specs.Drawing.{residuesOf, drawn, wordsRead, drawTests}
-use Rattle.protocol.specs.Tape.{headerWords, READY}
+use Rattle.protocol.specs.Tape.{headerWords}
 use Rattle.protocol.specs.Deal.{systemRequest, drawnParts, dealtB, dealtV}
 use Rattle.protocol.proofs.Residues.{residues-drawn}
 use Rattle.drawing.specs.declared.Reading.the-variants.{Enough, Dry}
@@ -31,9 +30,10 @@ use Rattle.drawing.proofs.Then.{dry-few, enough-many, next-drawn, residues-afte
 use Rattle.matrix.specs.Fill.{firstWords}
 use Rattle.tape.specs.Shape.{readBoth}
 use Rattle.tape.specs.Dealt.{firstMasks, secondMasks, firstHalfWords, secondHalfWords}
-use Rattle.tape.proofs.Words.{over-then, over-slice, over-last, part-written}
+use Rattle.tape.proofs.Words.{over-slice, over-last}
 use Rattle.tape.proofs.Draws.{drawn-parts}
 use Rattle.tape.proofs.Halves.{buffered, first-count, second-count}
+use Rattle.checks.proofs.Written.{over-then, part-written}
 
 -- ---- reading
 

@@ -1,38 +1,21 @@
--- Words written over a list, one after the other, and a part of a slice lent to a writer.
--- over-then     words right after those that stand over the start
+-- Words written over a list, one after the other, and a slot's.
 -- written-then  words right after those that were written
--- part-written  the part `&mut xs[a..]` was lent to a writer of words
 -- slot-over     words over the start of a slot, in its pool
 -- over-slice    the words that stand there, read back
 -- Assumes nothing.
 use mathlib.Core.Path.{_≡_, refl, sym, ap, _∙_}
 use mathlib.Core.List.{List, [], _∷_, _++_, append-nil, append-assoc}
-use Prim.Native.Nat.{ℕ, zero, suc, _+_, _-_, _*_, _≤_, _<_}
+use Prim.Native.Nat.{ℕ, zero, suc, _+_, _*_, _≤_, _<_}
 use native.Mathlib.Nat.{le-of-suc-le-suc}
 use native.Mathlib.Omega.{arith}
-use lib.ListN.{length, getD, take, drop, length-append, length-take, length-drop, drop-of-length-le, take-append-drop}
-use lib.Seq.{drop-append-le, take-append-add, drop-append-add, take-all, take-at, drop-at, drop-drop, take-take, length-take-le, getD-take, getD-drop}
-use borrow.Rule.Slice.PartMut.{midOf, putMid}
+use lib.ListN.{length, getD, take, drop, length-drop, take-append-drop}
+use lib.Seq.{drop-append-le, take-append-add, drop-append-add, take-at, drop-at, length-take-le, getD-take, getD-drop}
 use Rattle.algebra.specs.Matrix.{tabulate}
 use Rattle.algebra.specs.Words.{over, writtenAt}
 use Rattle.matrix.specs.Fill.{firstWords}
 use Rattle.protocol.specs.Tape.{slotAt, slotWords, poolWith, statusOf}
-
-pub over-count : (a d : List ℕ) → length a ≤ length d → length (over a d) ≡ length d
-unfolding over
-over-count a d h = length-append a (drop (length a) d) ∙ omega (arith, length-drop (length a) d)
-
-pub written-count : (at : ℕ) (ws d : List ℕ) → at + length ws ≤ length d → length (writtenAt at ws d) ≡ length d
-unfolding writtenAt over
-written-count at ws d h = simp (length-append, length-take, length-drop) (omega arith)
-
-pub over-then : (a b d : List ℕ) (n : ℕ) → length a ≡ n → writtenAt n b (over a d) ≡ over (a ++ b) d
-unfolding writtenAt over
-over-then a b d n e =
-    ap (λ (l : List ℕ). l ++ (b ++ drop (length b) (drop n (a ++ drop (length a) d)))) (take-at a (drop (length a) d) n e)
-    ∙ ap (λ (l : List ℕ). a ++ (b ++ drop (length b) l)) (drop-at a (drop (length a) d) n e)
-    ∙ ap (λ (l : List ℕ). a ++ (b ++ l)) (drop-drop (length b) (length a) d)
-    ∙ simp (append-assoc, length-append)
+use Rattle.checks.proofs.Written.{over-then}
+use Rattle.protocol.proofs.Residues.{over-length}
 
 -- a write behind x
 shifted : (n : ℕ) (b x y : List ℕ) → writtenAt (length x + n) b (x ++ y) ≡ x ++ writtenAt n b y
@@ -46,21 +29,6 @@ written-then at n a b d e h =
     ap (λ (k : ℕ). writtenAt (k + n) b (writtenAt at a d)) (sym size)
     ∙ (shifted n b (take at d) (over a (drop at d)) ∙ ap (λ (l : List ℕ). take at d ++ l) (over-then a b (drop at d) n e))
 
--- `&xs[a..]` is what follows the first a words
-pub tail-part : (a : ℕ) (xs : List ℕ) → take (length xs - a) (drop a xs) ≡ drop a xs
-tail-part a xs = take-all (length xs - a) (drop a xs) (omega (arith, length-drop a xs))
-
--- a writer of ws left ys in the part
-pub part-written : (a : ℕ) (ws xs ys : List ℕ) → a ≤ length xs → ys ≡ over ws (midOf a (length xs - a) xs)
-    → putMid a (length xs - a) xs ys ≡ writtenAt a ws xs
-unfolding writtenAt
-part-written a ws xs ys h e =
-    let len : length (drop a xs) ≤ length xs - a = omega (arith, length-drop a xs) in
-    let none : drop (length xs - a) (drop a xs) ≡ [] = drop-of-length-le (drop a xs) len in
-    let all : take (length xs - a) (drop a xs) ≡ drop a xs = take-all (length xs - a) (drop a xs) len in
-    ap (λ (l : List ℕ). take a xs ++ (ys ++ l)) none
-    ∙ ap (λ (l : List ℕ). take a xs ++ l) (append-nil ys ∙ (e ∙ ap (over ws) all))
-
 joined : (ws d : List ℕ) (n : ℕ) → length (over ws (take n d)) ≡ n → drop (length ws) (take n d) ++ drop n d ≡ drop (length ws) d
     → over (over ws (take n d)) d ≡ over ws d
 unfolding over
@@ -70,7 +38,7 @@ joined ws d n whole rest = rw whole (append-assoc ws (drop (length ws) (take n d
 over-inner : (ws d : List ℕ) (n : ℕ) → length ws ≤ n → n ≤ length d → over (over ws (take n d)) d ≡ over ws d
 over-inner ws d n h k =
     let size : length (take n d) ≡ n = length-take-le n d k in
-    let whole : length (over ws (take n d)) ≡ n = over-count ws (take n d) (omega arith) ∙ size in
+    let whole : length (over ws (take n d)) ≡ n = over-length ws (take n d) (omega arith) ∙ size in
     let rest : drop (length ws) (take n d) ++ drop n d ≡ drop (length ws) d =
     sym (drop-append-le (length ws) (take n d) (drop n d) (omega arith)) ∙ ap (drop (length ws)) (take-append-drop n d)
     in

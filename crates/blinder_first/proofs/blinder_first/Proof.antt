@@ -1,17 +1,12 @@
-use mathlib.Core.Path.{_≡_, refl, sym, ap, _∙_}
-use mathlib.Core.List.{List, _++_}
-use Prim.Native.Nat.{ℕ, _+_, _*_, _-_, _/_, _%_, _≤_, _<_}
+use mathlib.Core.Path.{sym, ap, _∙_}
 use native.Mathlib.Omega.{arith}
-use lib.ListN.{length, getD, set, take, drop}
+use lib.ListN.{length}
 use borrow.Author.Needs.{needs}
-use Rattle.session.proofs.Shape.{few, unknowns}
 use Rattle.session.proofs.Slot.{slot-part, slot-part-length, slot-written, half-body, in-use-length}
 use Rattle.protocol.specs.Tape.{slotAt, blinder, wordsInUse}
-use Rattle.protocol.specs.Bounds.{system}
-use Rattle.steps.proofs.Fits.{received-fits}
-use Rattle.blinder_first.proofs.Known.{eliminable, p-drawn, p-residues, first-known, first-shape}
-use Rattle.blinder.proofs.Kept.{side-bound, square-bound, scratch-sum}
-use Rattle.checks.specs.InOrder.{checked, after}
+use Rattle.blinder_first.proofs.Known.{first-known, first-shape}
+use Rattle.blinder.proofs.Kept.{side-bound, square-bound}
+use Rattle.checks.specs.InOrder.{checked}
 use mathlib.Core.List.{[]}
 use Rattle.session.proofs.Leaving.{refused-leaves}
 use Rattle.blinder_first.proofs.Leaving.{first-done}

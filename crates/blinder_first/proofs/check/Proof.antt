@@ -1,20 +1,12 @@
-use mathlib.Core.Path.{_≡_, refl, sym, ap, _∙_}
-use mathlib.Core.List.{List, _++_}
-use Prim.Native.Nat.{ℕ, _+_, _*_, _-_, _/_, _%_, _≤_, _<_}
+use mathlib.Core.Path.{sym, ap, _∙_}
 use native.Mathlib.Omega.{arith}
-use lib.ListN.{length, getD, set, take, drop}
 use borrow.Author.Needs.{needs}
-use Rattle.session.proofs.Join.{also, hands-on, goes-past}
-use mathlib.Core.List.{[], _∷_}
-use Rattle.blinder_first.specs.Groups.{firstLengths, firstWords, firstRegular}
-use Rattle.protocol.specs.System.{keptTests, regularTests}
-use Rattle.session.proofs.Shape.{few, unknowns}
-use Rattle.session.proofs.Slot.{slot-part, slot-part-length, slot-written, half-body, in-use-length}
-use Rattle.protocol.specs.Tape.{slotAt, blinder, wordsInUse}
-use Rattle.protocol.specs.Bounds.{system}
+use Rattle.session.proofs.Join.{hands-on, goes-past}
+use Rattle.session.proofs.Slot.{slot-part, slot-part-length}
+use Rattle.protocol.specs.Tape.{slotAt, blinder}
 use Rattle.steps.proofs.Fits.{received-fits}
-use Rattle.blinder_first.proofs.Known.{eliminable, p-drawn, p-residues, first-known, first-shape}
-use Rattle.checks.specs.InOrder.{checked, after}
+use Rattle.blinder_first.proofs.Known.{eliminable}
+use Rattle.checks.specs.InOrder.{checked}
 use Rattle.blinder_first.proofs.Order.{first-phases}
 use Rattle.blinder_first.proofs.check.Statement.{statement}
 use Rattle.blinder_first.proofs.check.Tie as tie

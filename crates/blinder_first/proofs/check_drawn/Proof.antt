@@ -1,23 +1,6 @@
-use mathlib.Core.Path.{_≡_, refl, sym, ap, _∙_}
-use mathlib.Core.List.{List, _++_}
-use Prim.Native.Nat.{ℕ, _+_, _*_, _-_, _/_, _%_, _≤_, _<_}
-use native.Mathlib.Omega.{arith}
-use lib.ListN.{length, getD, set, take, drop}
+use mathlib.Core.Path.{sym, _∙_}
 use borrow.Author.Needs.{needs}
-use Rattle.session.proofs.Join.{also, hands-on, goes-past}
-use mathlib.Core.List.{[], _∷_}
-use Rattle.blinder_first.specs.Groups.{firstLengths, firstWords, firstRegular}
-use Rattle.protocol.specs.System.{keptTests, regularTests}
-use Rattle.session.proofs.Shape.{few, unknowns}
-use Rattle.session.proofs.Slot.{slot-part, slot-part-length, slot-written, half-body, in-use-length}
-use Rattle.protocol.specs.Tape.{slotAt, blinder, wordsInUse}
-use Rattle.protocol.specs.Bounds.{system}
-use Rattle.steps.proofs.Fits.{received-fits}
-use Rattle.blinder_first.proofs.Known.{eliminable, p-drawn, p-residues, first-known, first-shape}
-use Rattle.blinder_first.proofs.Coins.{dry-refused, dry-passed, enough, coins-part, part-then, sum-length}
-use Rattle.protocol.specs.Drawing.{residuesOf}
-use Rattle.drawing.proofs.Then.{drawn-count}
-use Rattle.blinder.proofs.Kept.{side-bound, square-bound, scratch-sum}
+use Rattle.blinder_first.proofs.Coins.{dry-refused, dry-passed, enough}
 use Rattle.blinder_first.proofs.check_drawn.Statement.{statement}
 use Rattle.blinder_first.proofs.check_drawn.Tie as tie
 

@@ -1,18 +1,9 @@
-use mathlib.Core.Path.{_≡_, refl, sym, ap, _∙_}
-use mathlib.Core.List.{List, _++_}
-use Prim.Native.Nat.{ℕ, _+_, _*_, _-_, _/_, _%_, _≤_, _<_}
-use native.Mathlib.Omega.{arith}
-use lib.ListN.{length, getD, set, take, drop}
 use borrow.Author.Needs.{needs}
-use Rattle.session.proofs.Join.{also, hands-on, goes-past}
+use Rattle.session.proofs.Join.{also}
 use mathlib.Core.List.{[], _∷_}
-use Rattle.blinder_first.specs.Groups.{firstLengths, firstWords, firstRegular}
-use Rattle.protocol.specs.System.{keptTests, regularTests}
-use Rattle.session.proofs.Shape.{few, unknowns}
-use Rattle.session.proofs.Slot.{slot-part, slot-part-length, slot-written, half-body, in-use-length}
-use Rattle.protocol.specs.Tape.{slotAt, blinder, wordsInUse}
+use Rattle.blinder_first.specs.Groups.{firstLengths}
 use Rattle.protocol.specs.Bounds.{system}
-use Rattle.steps.proofs.Fits.{received-fits}
+use Rattle.message.proofs.KindLaws.{few}
 use Rattle.blinder_first.proofs.check_lengths.Statement.{statement}
 use Rattle.blinder_first.proofs.check_lengths.Tie as tie
 

@@ -1,24 +1,18 @@
-use mathlib.Core.Path.{_≡_, refl, sym, ap, _∙_}
-use mathlib.Core.List.{List, _++_}
-use Prim.Native.Nat.{ℕ, _+_, _*_, _-_, _/_, _%_, _≤_, _<_}
+use mathlib.Core.Path.{sym, ap, _∙_}
+use Prim.Native.Nat.{ℕ, _*_, _≤_}
 use native.Mathlib.Omega.{arith}
-use lib.ListN.{length, getD, set, take, drop}
+use lib.ListN.{length, length-replicate}
 use borrow.Author.Needs.{needs}
-use Rattle.session.proofs.Join.{also, hands-on, goes-past}
+use Rattle.session.proofs.Join.{also}
 use mathlib.Core.List.{[], _∷_}
-use Rattle.blinder_first.specs.Groups.{firstLengths, firstWords, firstRegular}
-use Rattle.protocol.specs.System.{keptTests, regularTests}
-use Rattle.session.proofs.Shape.{few, unknowns}
-use Rattle.session.proofs.Slot.{slot-part, slot-part-length, slot-written, half-body, in-use-length}
-use Rattle.protocol.specs.Tape.{slotAt, blinder, wordsInUse}
-use Rattle.protocol.specs.Bounds.{system}
-use Rattle.steps.proofs.Fits.{received-fits}
-use Rattle.blinder_first.proofs.Known.{eliminable, p-drawn, p-residues, first-known, first-shape}
-use Rattle.blinder_first.proofs.Coins.{dry-refused, dry-passed, enough, coins-part, part-then, sum-length}
+use Rattle.blinder_first.specs.Groups.{firstRegular}
+use Rattle.protocol.specs.System.{regularTests}
+use Rattle.session.proofs.Shape.{unknowns}
+use Rattle.blinder_first.proofs.Known.{p-drawn, p-residues}
 use Rattle.protocol.specs.Drawing.{residuesOf}
-use Rattle.drawing.proofs.Then.{drawn-count}
-use Rattle.blinder.proofs.Kept.{side-bound, square-bound, scratch-sum}
-use lib.ListN.{length-replicate}
+use Rattle.drawing.proofs.Then.{drawn-count, coins-part}
+use Rattle.blinder.proofs.Kept.{square-bound, scratch-sum}
+use Rattle.message.proofs.KindLaws.{few}
 use Rattle.blinder_first.proofs.check_regular.Statement.{statement}
 use Rattle.blinder_first.proofs.check_regular.Tie as tie
 

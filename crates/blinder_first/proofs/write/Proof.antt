@@ -1,19 +1,13 @@
-use mathlib.Core.Path.{_≡_, refl, sym, ap, _∙_}
-use mathlib.Core.List.{List, _++_}
-use Prim.Native.Nat.{ℕ, _+_, _*_, _-_, _/_, _%_, _≤_, _<_}
+use mathlib.Core.Path.{sym, ap, _∙_}
+use Prim.Native.Nat.{_≤_}
 use native.Mathlib.Omega.{arith}
-use lib.ListN.{length, getD, set, take, drop}
+use lib.ListN.{length}
 use borrow.Author.Needs.{needs}
-use Rattle.session.proofs.Shape.{few, unknowns}
-use Rattle.session.proofs.Slot.{slot-part, slot-part-length, slot-written, half-body, in-use-length}
-use Rattle.protocol.specs.Tape.{slotAt, blinder, wordsInUse}
-use Rattle.protocol.specs.Bounds.{system}
-use Rattle.steps.proofs.Fits.{received-fits}
-use Rattle.blinder_first.proofs.Coins.{dry-refused, dry-passed, enough, coins-part, part-then, sum-length}
 use Rattle.protocol.specs.Drawing.{residuesOf}
-use Rattle.drawing.proofs.Then.{drawn-count}
-use Rattle.blinder.proofs.Kept.{side-bound, square-bound, scratch-sum}
+use Rattle.drawing.proofs.Then.{drawn-count, coins-part}
+use Rattle.blinder.proofs.Kept.{scratch-sum}
 use Rattle.protocol.specs.System.{coinsOf}
+use Rattle.message.proofs.KindLaws.{few}
 use Rattle.blinder_first.proofs.write.Statement.{statement}
 use Rattle.blinder_first.proofs.write.Tie as tie
 

@@ -1,24 +1,15 @@
-use mathlib.Core.Path.{_≡_, refl, sym, ap, _∙_}
-use mathlib.Core.List.{List, _++_}
-use Prim.Native.Nat.{ℕ, _+_, _*_, _-_, _/_, _%_, _≤_, _<_}
+use mathlib.Core.Path.{_≡_, sym, ap, _∙_}
+use Prim.Native.Nat.{_+_, _*_, _-_}
 use native.Mathlib.Omega.{arith}
-use lib.ListN.{length, getD, set, take, drop}
+use lib.ListN.{length, length-take, length-drop}
 use borrow.Author.Needs.{needs}
-use Rattle.session.proofs.Shape.{few, unknowns}
-use Rattle.session.proofs.Slot.{slot-part, slot-part-length, slot-written, half-body, in-use-length}
-use Rattle.protocol.specs.Tape.{slotAt, blinder, wordsInUse}
-use Rattle.protocol.specs.Bounds.{system}
-use Rattle.steps.proofs.Fits.{received-fits}
-use Rattle.blinder_first.proofs.Coins.{dry-refused, dry-passed, enough, coins-part, part-then, sum-length}
-use Rattle.protocol.specs.Drawing.{residuesOf}
-use Rattle.drawing.proofs.Then.{drawn-count}
-use lib.ListN.{length-take, length-drop}
+use Rattle.blinder_first.proofs.Coins.{sum-length}
 use lib.Seq.{length-take-le}
 use Rattle.algebra.specs.Product.{sendX, sendR}
-use Rattle.algebra.specs.Matrix.{matAdd}
 use Rattle.algebra.proofs.Lists.{add-residues}
 use Rattle.protocol.proofs.Residues.{over-length}
 use Rattle.blinder_first.specs.Shape.{firstSent}
+use Rattle.checks.proofs.Written.{part-then}
 use Rattle.blinder_first.proofs.write_message.Statement.{statement}
 use Rattle.blinder_first.proofs.write_message.Tie as tie
 

@@ -4,10 +4,11 @@ use Prim.Native.Nat.{ℕ, _+_, _*_, _-_, _≤_}
 use native.Mathlib.Omega.{arith}
 use lib.ListN.{length}
 use borrow.Author.Needs.{needs}
-use Rattle.columns.proofs.Rows.{row-fits, beside-length, beside-none, beside-next, tail-part, turn}
+use Rattle.columns.proofs.Rows.{row-fits, beside-length, beside-none, beside-next}
 use Rattle.algebra.specs.Columns.{beside}
 use Rattle.algebra.specs.Words.{over}
 use Rattle.matrix.specs.Fill.{firstWords}
+use Rattle.checks.proofs.Written.{tail-part, part-then}
 use Rattle.columns.proofs.write_beside.Statement.{statement}
 use Rattle.columns.proofs.write_beside.Tie as tie
 
@@ -80,7 +81,7 @@ loop-less c = search needs
 loop-again : tie.Need-loop-again Inv-loop μ-loop
 loop-again c = let a = c .before .before .before .before .before .before .before .before .before .before .before .args in let l = c .before .before .before .before .before .before .before .loop in let f = row-fits (l .i) (a .m) (a .p) (c .before .before .before .before .before .before .loop-test .taken) in let g = row-fits (l .i) (a .m) (a .r) (c .before .before .before .before .before .before .loop-test .taken) in let h = row-fits (l .i) (a .m) (a .p + a .r) (c .before .before .before .before .before .before .loop-test .taken) in (
   search needs,
-  turn (l .i * (a .p + a .r)) (beside (l .i) (a .p) (a .r) (a .a .now) (a .b .now)) (firstWords (a .p) _ ++ firstWords (a .r) _) (l .out) (a .out .now) _ (l .inv .1) (beside-length (l .i) (a .p) (a .r) (a .a .now) (a .b .now)) (search needs) (c .before .before .write-row .ensures)
+  part-then (beside (l .i) (a .p) (a .r) (a .a .now) (a .b .now)) (firstWords (a .p) _ ++ firstWords (a .r) _) (a .out .now) (l .out) _ (l .i * (a .p + a .r)) (beside-length (l .i) (a .p) (a .r) (a .a .now) (a .b .now)) (search needs) (l .inv .1) (c .before .before .write-row .ensures)
       ∙ ap (λ (x : List ℕ). over x (a .out .now)) (rw (tail-part (l .i * a .p) (a .a .now), tail-part (l .i * a .r) (a .b .now)) (beside-next (l .i) (a .p) (a .r) (a .a .now) (a .b .now))),
   search needs,
 )

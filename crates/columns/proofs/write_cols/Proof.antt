@@ -4,11 +4,12 @@ use Prim.Native.Nat.{ℕ, _+_, _*_, _-_, _≤_}
 use native.Mathlib.Omega.{arith}
 use lib.ListN.{length}
 use borrow.Author.Needs.{needs}
-use Rattle.columns.proofs.Rows.{row-fits, cols-none, cols-next, tail-part, turn}
+use Rattle.columns.proofs.Rows.{row-fits, cols-none, cols-next}
 use Rattle.algebra.specs.Columns.{cols}
 use Rattle.algebra.specs.Words.{over}
 use Rattle.algebra.proofs.Columns.{cols-length}
 use Rattle.matrix.specs.Fill.{firstWords}
+use Rattle.checks.proofs.Written.{tail-part, part-then}
 use Rattle.columns.proofs.write_cols.Statement.{statement}
 use Rattle.columns.proofs.write_cols.Tie as tie
 
@@ -66,7 +67,7 @@ loop-less c = search needs
 loop-again : tie.Need-loop-again Inv-loop μ-loop
 loop-again c = let f = row-fits (c .before .before .before .before .before .before .loop .i) (c .before .before .before .before .before .before .before .before .before .args .m) (c .before .before .before .before .before .before .before .before .before .args .w) (c .before .before .before .before .before .loop-test .taken) in let g = row-fits (c .before .before .before .before .before .before .loop .i) (c .before .before .before .before .before .before .before .before .before .args .m) (c .before .before .before .before .before .before .before .before .before .args .p) (c .before .before .before .before .before .loop-test .taken) in let a = c .before .before .before .before .before .before .before .before .before .args in let l = c .before .before .before .before .before .before .loop in (
   search needs,
-  turn (l .i * a .p) (cols (l .i) (a .w) (a .s) (a .p) (a .a .now)) (firstWords (a .p) _) (l .out) (a .out .now) _ (l .inv .1) (cols-length (l .i) (a .w) (a .s) (a .p) (a .a .now)) (search needs) (c .before .before .write-copy .ensures)
+  part-then (cols (l .i) (a .w) (a .s) (a .p) (a .a .now)) (firstWords (a .p) _) (a .out .now) (l .out) _ (l .i * a .p) (cols-length (l .i) (a .w) (a .s) (a .p) (a .a .now)) (search needs) (l .inv .1) (c .before .before .write-copy .ensures)
       ∙ ap (λ (r : List ℕ). over r (a .out .now)) (ap (λ (x : List ℕ). cols (l .i) (a .w) (a .s) (a .p) (a .a .now) ++ firstWords (a .p) x) (tail-part (l .i * a .w + a .s) (a .a .now)) ∙ cols-next (l .i) (a .w) (a .s) (a .p) (a .a .now)),
   search needs,
 )

@@ -1,6 +1,7 @@
 use borrow.Author.Needs.{needs}
-use Rattle.columns.proofs.Rows.{turn, words-count}
+use Rattle.columns.proofs.Rows.{words-count}
 use Rattle.matrix.specs.Fill.{firstWords}
+use Rattle.checks.proofs.Written.{part-then}
 use Rattle.columns.proofs.write_row.Statement.{statement}
 use Rattle.columns.proofs.write_row.Tie as tie
 
@@ -26,7 +27,7 @@ same-length : tie.Need-same-length
 same-length c = search needs
 
 returns : tie.Need-returns
-returns c = turn (c .before .before .before .before .before .before .before .before .before .before .before .args .p) (firstWords (c .before .before .before .before .before .before .before .before .before .before .before .args .p) (c .before .before .before .before .before .before .before .before .before .before .before .args .a .now)) (firstWords (c .before .before .before .before .before .before .before .before .before .before .before .args .r) (c .before .before .before .before .before .before .before .before .before .before .before .args .b .now)) _ (c .before .before .before .before .before .before .before .before .before .before .before .args .out .now) _ (c .before .before .before .before .before .before .write-copy .ensures) (words-count (c .before .before .before .before .before .before .before .before .before .before .before .args .p) (c .before .before .before .before .before .before .before .before .before .before .before .args .a .now)) (search needs) (c .before .before .write-copy2 .ensures)
+returns c = part-then (firstWords (c .before .before .before .before .before .before .before .before .before .before .before .args .p) (c .before .before .before .before .before .before .before .before .before .before .before .args .a .now)) (firstWords (c .before .before .before .before .before .before .before .before .before .before .before .args .r) (c .before .before .before .before .before .before .before .before .before .before .before .args .b .now)) (c .before .before .before .before .before .before .before .before .before .before .before .args .out .now) _ _ (c .before .before .before .before .before .before .before .before .before .before .before .args .p) (words-count (c .before .before .before .before .before .before .before .before .before .before .before .args .p) (c .before .before .before .before .before .before .before .before .before .before .before .args .a .now)) (search needs) (c .before .before .before .before .before .before .write-copy .ensures) (c .before .before .write-copy2 .ensures)
 
 pub write-row-spec : {M : Type 1} → statement M
 write-row-spec =

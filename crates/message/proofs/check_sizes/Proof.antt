@@ -15,29 +15,29 @@ returns : tie.Need-returns
 unfolding inOrder messageSizes
 returns c = search chain
 
-sides-fit-requires : tie.Need-sides-fit-requires
-sides-fit-requires c κs = search needs
+kind-sides-fit-requires : tie.Need-kind-sides-fit-requires
+kind-sides-fit-requires c κs = search needs
 
 returns-2 : tie.Need-returns-2
 unfolding inOrder messageSizes
-returns-2 c = search (chain, fails (c .before .sides-fit .ensures) (c .if2 .taken))
+returns-2 c = search (chain, fails (c .before .kind-sides-fit .ensures) (c .if2 .taken))
 
 returns-3 : tie.Need-returns-3
 unfolding inOrder messageSizes
-returns-3 c = search (chain, holds (c .before .before .before .sides-fit .ensures) (c .before .before .if2 .left))
+returns-3 c = search (chain, holds (c .before .before .before .kind-sides-fit .ensures) (c .before .before .if2 .left))
 
-size-requires : tie.Need-size-requires
-size-requires c κs = let a = c .before .before .before .before .before .before .before .before .before .args .a in few (kindSort (a .kind)) (a .terms .m) (a .terms .k) (a .terms .p) (holds (c .before .before .before .sides-fit .ensures) (c .before .before .if2 .left))
+message-size-requires : tie.Need-message-size-requires
+message-size-requires c κs = let a = c .before .before .before .before .before .before .before .before .before .args .a in few (kindSort (a .kind)) (a .terms .m) (a .terms .k) (a .terms .p) (holds (c .before .before .before .kind-sides-fit .ensures) (c .before .before .if2 .left))
 
 returns-4 : tie.Need-returns-4
 unfolding inOrder messageSizes
-returns-4 c = search (chain, holds (c .before .before .before .before .before .sides-fit .ensures) (c .before .before .before .before .if2 .left), ne-eqb _ _ (rw (c .before .size .ensures) at (c .if4 .taken)))
+returns-4 c = search (chain, holds (c .before .before .before .before .before .kind-sides-fit .ensures) (c .before .before .before .before .if2 .left), ne-eqb _ _ (rw (c .before .message-size .ensures) at (c .if4 .taken)))
 
 returns-5 : tie.Need-returns-5
 unfolding inOrder messageSizes
-returns-5 c = search (chain, holds (c .before .before .before .before .before .sides-fit .ensures) (c .before .before .before .before .if2 .left), eq-eqb _ _ (c .if4 .left ∙ c .before .size .ensures))
+returns-5 c = search (chain, holds (c .before .before .before .before .before .kind-sides-fit .ensures) (c .before .before .before .before .if2 .left), eq-eqb _ _ (c .if4 .left ∙ c .before .message-size .ensures))
 
 pub check-sizes-spec : {M : Type 1} → statement M
 check-sizes-spec =
     tie.close
-    (tie.spec returns sides-fit-requires returns-2 returns-3 size-requires returns-4 returns-5)
+    (tie.spec returns kind-sides-fit-requires returns-2 returns-3 message-size-requires returns-4 returns-5)

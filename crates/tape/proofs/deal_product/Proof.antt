@@ -2,16 +2,16 @@
 use mathlib.Core.Path.{sym, ap, _∙_}
 use Prim.Native.Nat.{ℕ, _+_, _*_, _≤_}
 use native.Mathlib.Omega.{arith}
-use lib.ListN.{length}
+use lib.ListN.{length, length-take, length-drop}
 use borrow.Author.Needs.{needs}
-use lib.ListN.{length-take, length-drop}
 use Rattle.checks.specs.InOrder.{checked}
 use Rattle.protocol.specs.Drawing.{residuesOf, wordsRead}
 use Rattle.protocol.specs.Deal.{productRequest}
-use Rattle.tape.proofs.Known.{deal-fits, deal-enough, shape-masks, product-count, left-count, right-count}
-use Rattle.tape.proofs.Words.{part-written}
+use Rattle.tape.proofs.Known.{deal-fits, deal-enough, shape-masks, product-count}
 use Rattle.tape.proofs.Halves.{first-count, second-count, product-first, product-second}
 use Rattle.tape.proofs.Leaving.{deal-refused, deal-done}
+use Rattle.checks.proofs.Written.{part-written}
+use Rattle.checks.proofs.Place.{left-size, right-size}
 use Rattle.tape.proofs.deal_product.Statement.{statement}
 use Rattle.tape.proofs.deal_product.Tie as tie
 
@@ -85,8 +85,8 @@ product-requires-2 c κs =
     let count = product-count (c .before .before .before .before .before .before .before .before .before .before .args .tape) (c .before .before .before .before .before .before .before .before .before .before .args .q) (c .before .before .before .before .before .before .before .before .before .before .args .m) (c .before .before .before .before .before .before .before .before .before .before .args .k) (c .before .before .before .before .before .before .before .before .before .before .args .p) (c .before .before .before .before .before .before .before .before .before .before .args .words .now) in (
       g,
       omega (arith, n, count),
-      simp (length-take, length-drop) (omega (arith, s .left .inside, s .left .room, left-count (c .before .before .before .before .before .before .before .before .before .before .args .m) (c .before .before .before .before .before .before .before .before .before .before .args .k) (c .before .before .before .before .before .before .before .before .before .before .args .p))),
-      simp (length-take, length-drop) (omega (arith, s .right .inside, s .right .room, right-count (c .before .before .before .before .before .before .before .before .before .before .args .m) (c .before .before .before .before .before .before .before .before .before .before .args .k) (c .before .before .before .before .before .before .before .before .before .before .args .p))),
+      simp (length-take, length-drop) (omega (arith, s .left .inside, s .left .room, left-size (c .before .before .before .before .before .before .before .before .before .before .args .m) (c .before .before .before .before .before .before .before .before .before .before .args .k) (c .before .before .before .before .before .before .before .before .before .before .args .p))),
+      simp (length-take, length-drop) (omega (arith, s .right .inside, s .right .room, right-size (c .before .before .before .before .before .before .before .before .before .before .args .m) (c .before .before .before .before .before .before .before .before .before .before .args .k) (c .before .before .before .before .before .before .before .before .before .before .args .p))),
     )
 
 same-length-3 : tie.Need-same-length-3
@@ -105,8 +105,8 @@ returns-2 c =
     let enough : a .m * a .k + (a .k * a .p + a .m * a .p) ≤ length (residuesOf (a .q) (a .words .now)) = omega (arith, n, count) in
     let e = c .before .before .before .before .product2 .ensures in
     deal-done (c .before .before .before .before .before .before .before .before .before .before .before .before .before .before .before .args .first .now) (c .before .before .before .before .before .before .before .before .before .before .before .before .before .before .before .args .second .now) (c .before .before .before .before .before .before .before .before .before .before .before .before .before .before .before .args .size) (c .before .before .before .before .before .before .before .before .before .before .before .before .before .before .before .args .index) (productRequest (c .before .before .before .before .before .before .before .before .before .before .before .before .before .before .before .args .tape) (c .before .before .before .before .before .before .before .before .before .before .before .before .before .before .before .args .q) (c .before .before .before .before .before .before .before .before .before .before .before .before .before .before .before .args .m) (c .before .before .before .before .before .before .before .before .before .before .before .before .before .before .before .args .k) (c .before .before .before .before .before .before .before .before .before .before .before .before .before .before .before .args .p) (c .before .before .before .before .before .before .before .before .before .before .before .before .before .before .before .args .words .now)) (sym (c .before .before .before .before .before .before .before .before .before .product .ensures) ∙ ap checked (c .before .before .before .before .before .before .before .enum-told .given .1)) (s .left .inside) (s .right .inside)
-    (omega (arith, s .left .room, left-count (c .before .before .before .before .before .before .before .before .before .before .before .before .before .before .before .args .m) (c .before .before .before .before .before .before .before .before .before .before .before .before .before .before .before .args .k) (c .before .before .before .before .before .before .before .before .before .before .before .before .before .before .before .args .p), ap length (product-first (c .before .before .before .before .before .before .before .before .before .before .before .before .before .before .before .args .tape) (c .before .before .before .before .before .before .before .before .before .before .before .before .before .before .before .args .q) (c .before .before .before .before .before .before .before .before .before .before .before .before .before .before .before .args .m) (c .before .before .before .before .before .before .before .before .before .before .before .before .before .before .before .args .k) (c .before .before .before .before .before .before .before .before .before .before .before .before .before .before .before .args .p) (c .before .before .before .before .before .before .before .before .before .before .before .before .before .before .before .args .words .now)), first-count (c .before .before .before .before .before .before .before .before .before .before .before .before .before .before .before .args .tape .0) 0 (c .before .before .before .before .before .before .before .before .before .before .before .before .before .before .before .args .q) (c .before .before .before .before .before .before .before .before .before .before .before .before .before .before .before .args .m) (c .before .before .before .before .before .before .before .before .before .before .before .before .before .before .before .args .k) (c .before .before .before .before .before .before .before .before .before .before .before .before .before .before .before .args .p) (c .before .before .before .before .before .before .before .before .before .before .before .before .before .before .before .args .words .now) enough))
-    (omega (arith, s .right .room, right-count (c .before .before .before .before .before .before .before .before .before .before .before .before .before .before .before .args .m) (c .before .before .before .before .before .before .before .before .before .before .before .before .before .before .before .args .k) (c .before .before .before .before .before .before .before .before .before .before .before .before .before .before .before .args .p), ap length (product-second (c .before .before .before .before .before .before .before .before .before .before .before .before .before .before .before .args .tape) (c .before .before .before .before .before .before .before .before .before .before .before .before .before .before .before .args .q) (c .before .before .before .before .before .before .before .before .before .before .before .before .before .before .before .args .m) (c .before .before .before .before .before .before .before .before .before .before .before .before .before .before .before .args .k) (c .before .before .before .before .before .before .before .before .before .before .before .before .before .before .before .args .p) (c .before .before .before .before .before .before .before .before .before .before .before .before .before .before .before .args .words .now)), second-count (c .before .before .before .before .before .before .before .before .before .before .before .before .before .before .before .args .tape .0) 0 (c .before .before .before .before .before .before .before .before .before .before .before .before .before .before .before .args .q) (c .before .before .before .before .before .before .before .before .before .before .before .before .before .before .before .args .m) (c .before .before .before .before .before .before .before .before .before .before .before .before .before .before .before .args .k) (c .before .before .before .before .before .before .before .before .before .before .before .before .before .before .before .args .p) (c .before .before .before .before .before .before .before .before .before .before .before .before .before .before .before .args .words .now) enough))
+    (omega (arith, s .left .room, left-size (c .before .before .before .before .before .before .before .before .before .before .before .before .before .before .before .args .m) (c .before .before .before .before .before .before .before .before .before .before .before .before .before .before .before .args .k) (c .before .before .before .before .before .before .before .before .before .before .before .before .before .before .before .args .p), ap length (product-first (c .before .before .before .before .before .before .before .before .before .before .before .before .before .before .before .args .tape) (c .before .before .before .before .before .before .before .before .before .before .before .before .before .before .before .args .q) (c .before .before .before .before .before .before .before .before .before .before .before .before .before .before .before .args .m) (c .before .before .before .before .before .before .before .before .before .before .before .before .before .before .before .args .k) (c .before .before .before .before .before .before .before .before .before .before .before .before .before .before .before .args .p) (c .before .before .before .before .before .before .before .before .before .before .before .before .before .before .before .args .words .now)), first-count (c .before .before .before .before .before .before .before .before .before .before .before .before .before .before .before .args .tape .0) 0 (c .before .before .before .before .before .before .before .before .before .before .before .before .before .before .before .args .q) (c .before .before .before .before .before .before .before .before .before .before .before .before .before .before .before .args .m) (c .before .before .before .before .before .before .before .before .before .before .before .before .before .before .before .args .k) (c .before .before .before .before .before .before .before .before .before .before .before .before .before .before .before .args .p) (c .before .before .before .before .before .before .before .before .before .before .before .before .before .before .before .args .words .now) enough))
+    (omega (arith, s .right .room, right-size (c .before .before .before .before .before .before .before .before .before .before .before .before .before .before .before .args .m) (c .before .before .before .before .before .before .before .before .before .before .before .before .before .before .before .args .k) (c .before .before .before .before .before .before .before .before .before .before .before .before .before .before .before .args .p), ap length (product-second (c .before .before .before .before .before .before .before .before .before .before .before .before .before .before .before .args .tape) (c .before .before .before .before .before .before .before .before .before .before .before .before .before .before .before .args .q) (c .before .before .before .before .before .before .before .before .before .before .before .before .before .before .before .args .m) (c .before .before .before .before .before .before .before .before .before .before .before .before .before .before .before .args .k) (c .before .before .before .before .before .before .before .before .before .before .before .before .before .before .before .args .p) (c .before .before .before .before .before .before .before .before .before .before .before .before .before .before .before .args .words .now)), second-count (c .before .before .before .before .before .before .before .before .before .before .before .before .before .before .before .args .tape .0) 0 (c .before .before .before .before .before .before .before .before .before .before .before .before .before .before .before .args .q) (c .before .before .before .before .before .before .before .before .before .before .before .before .before .before .before .args .m) (c .before .before .before .before .before .before .before .before .before .before .before .before .before .before .before .args .k) (c .before .before .before .before .before .before .before .before .before .before .before .before .before .before .before .args .p) (c .before .before .before .before .before .before .before .before .before .before .before .before .before .before .before .args .words .now) enough))
     (e .0 ∙ ap (λ (i : ℕ). wordsRead (c .before .before .before .before .before .before .before .before .before .before .before .before .before .before .before .args .q) i (c .before .before .before .before .before .before .before .before .before .before .before .before .before .before .before .args .words .now)) count)
     (part-written (c .before .before .before .before .before .before .before .before .before .before .before .before .before .before .before .args .index * c .before .before .before .before .before .before .before .before .before .before .before .before .before .before .before .args .size) _ (c .before .before .before .before .before .before .before .before .before .before .before .before .before .before .before .args .first .now) _ (omega (arith, s .left .inside)) (e .1 .0))
     (part-written (c .before .before .before .before .before .before .before .before .before .before .before .before .before .before .before .args .index * c .before .before .before .before .before .before .before .before .before .before .before .before .before .before .before .args .size) _ (c .before .before .before .before .before .before .before .before .before .before .before .before .before .before .before .args .second .now) _ (omega (arith, s .right .inside)) (e .1 .1))

@@ -2,16 +2,15 @@
 use mathlib.Core.Path.{sym, ap, _∙_}
 use Prim.Native.Nat.{ℕ, _+_, _*_, _≤_}
 use native.Mathlib.Omega.{arith}
-use lib.ListN.{length}
+use lib.ListN.{length, length-take, length-drop}
 use borrow.Author.Needs.{needs}
-use lib.ListN.{length-take, length-drop}
 use Rattle.checks.specs.InOrder.{checked}
 use Rattle.protocol.specs.Drawing.{residuesOf, wordsRead}
 use Rattle.protocol.specs.Deal.{systemRequest}
 use Rattle.tape.proofs.Known.{deal-fits, deal-enough, shape-mask, system-count, blinder-count, solver-count}
-use Rattle.tape.proofs.Words.{part-written}
 use Rattle.tape.proofs.Systems.{blinder-words, solver-words}
 use Rattle.tape.proofs.Leaving.{deal-refused, deal-done}
+use Rattle.checks.proofs.Written.{part-written}
 use Rattle.tape.proofs.deal_system.Statement.{statement}
 use Rattle.tape.proofs.deal_system.Tie as tie
 

@@ -1,21 +1,14 @@
-use mathlib.Core.Path.{_≡_, refl, sym, ap, _∙_}
-use mathlib.Core.List.{List, _++_}
-use Prim.Native.Nat.{ℕ, _+_, _*_, _-_, _/_, _%_, _≤_, _<_}
+use mathlib.Core.Path.{_≡_, sym, ap, _∙_}
 use native.Mathlib.Omega.{arith}
-use lib.ListN.{length, getD, set, take, drop}
 use borrow.Author.Needs.{needs}
-use Rattle.session.proofs.Join.{also, hands-on, goes-past}
-use mathlib.Core.List.{[], _∷_}
-use Rattle.blinder_later.specs.Groups.{writtenSize, laterTurn, laterWords, laterStep}
-use Rattle.protocol.specs.System.{keptTests, keptM, keptY, sideSize}
-use Rattle.session.proofs.Shape.{few, unknowns}
-use Rattle.session.proofs.Slot.{slot-part, slot-part-length, slot-written, half-body, spent-keeps}
-use Rattle.protocol.specs.Tape.{slotAt, blinder, wordsSpent}
-use Rattle.protocol.specs.Bounds.{system}
+use Rattle.session.proofs.Join.{hands-on, goes-past}
+use Rattle.session.proofs.Slot.{slot-part, slot-part-length}
+use Rattle.protocol.specs.Tape.{slotAt, blinder}
 use Rattle.steps.proofs.Fits.{received-fits}
-use Rattle.blinder_later.proofs.Known.{scratch-lent, last-tests, last-known, last-shape}
-use Rattle.checks.specs.InOrder.{checked, after}
-use Rattle.blinder_later.proofs.Order.{is-open, open-phases, closed-judged}
+use Rattle.blinder_later.proofs.Known.{scratch-lent}
+use Rattle.checks.specs.InOrder.{checked}
+use Rattle.blinder_later.proofs.Order.{open-phases, closed-judged}
+use Rattle.session.proofs.Phases.{is-open}
 use Rattle.blinder_later.proofs.check.check.Statement.{statement}
 use Rattle.blinder_later.proofs.check.check.Tie as tie
 

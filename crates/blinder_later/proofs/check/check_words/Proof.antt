@@ -1,21 +1,12 @@
-use mathlib.Core.Path.{_≡_, refl, sym, ap, _∙_}
-use mathlib.Core.List.{List, _++_}
-use Prim.Native.Nat.{ℕ, _+_, _*_, _-_, _/_, _%_, _≤_, _<_}
+use mathlib.Core.Path.{_≡_, sym, _∙_}
 use native.Mathlib.Omega.{arith}
-use lib.ListN.{length, getD, set, take, drop}
+use lib.ListN.{length, length-map}
 use borrow.Author.Needs.{needs}
-use Rattle.session.proofs.Join.{also, hands-on, goes-past}
+use Rattle.session.proofs.Join.{also}
 use mathlib.Core.List.{[], _∷_}
-use Rattle.blinder_later.specs.Groups.{writtenSize, laterTurn, laterWords, laterStep}
-use Rattle.protocol.specs.System.{keptTests, keptM, keptY, sideSize}
-use Rattle.session.proofs.Shape.{few, unknowns}
-use Rattle.session.proofs.Slot.{slot-part, slot-part-length, slot-written, half-body, spent-keeps}
-use Rattle.protocol.specs.Tape.{slotAt, blinder, wordsSpent}
-use Rattle.protocol.specs.Bounds.{system}
-use Rattle.steps.proofs.Fits.{received-fits}
-use Rattle.blinder.proofs.Kept.{side-is, side-bound, square-bound, wide-bound, wide-enough, scratch-sum}
-use Rattle.blinder.proofs.Halves.{half-is}
-use lib.ListN.{length-take, length-drop, length-map}
+use Rattle.blinder_later.specs.Groups.{laterWords}
+use Rattle.protocol.specs.System.{keptTests, keptM, keptY}
+use Rattle.blinder.proofs.Kept.{side-bound, square-bound}
 use lib.Seq.{length-take-le}
 use Rattle.blinder_later.proofs.check.check_words.Statement.{statement}
 use Rattle.blinder_later.proofs.check.check_words.Tie as tie

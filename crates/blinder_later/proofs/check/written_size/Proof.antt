@@ -1,18 +1,7 @@
-use mathlib.Core.Path.{_≡_, refl, sym, ap, _∙_}
-use mathlib.Core.List.{List, _++_}
-use Prim.Native.Nat.{ℕ, _+_, _*_, _-_, _/_, _%_, _≤_, _<_}
-use native.Mathlib.Omega.{arith}
-use lib.ListN.{length, getD, set, take, drop}
 use borrow.Author.Needs.{needs}
-use Rattle.session.proofs.Join.{also, hands-on, goes-past}
-use mathlib.Core.List.{[], _∷_}
-use Rattle.blinder_later.specs.Groups.{writtenSize, laterTurn, laterWords, laterStep}
-use Rattle.protocol.specs.System.{keptTests, keptM, keptY, sideSize}
-use Rattle.session.proofs.Shape.{few, unknowns}
-use Rattle.session.proofs.Slot.{slot-part, slot-part-length, slot-written, half-body, spent-keeps}
-use Rattle.protocol.specs.Tape.{slotAt, blinder, wordsSpent}
+use Rattle.blinder_later.specs.Groups.{writtenSize}
 use Rattle.protocol.specs.Bounds.{system}
-use Rattle.steps.proofs.Fits.{received-fits}
+use Rattle.message.proofs.KindLaws.{few}
 use borrow.Author.Tests.{ne-eqb}
 use Rattle.blinder_later.proofs.check.written_size.Statement.{statement}
 use Rattle.blinder_later.proofs.check.written_size.Tie as tie

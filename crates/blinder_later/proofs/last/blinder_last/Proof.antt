@@ -1,20 +1,12 @@
-use mathlib.Core.Path.{_≡_, refl, sym, ap, _∙_}
-use mathlib.Core.List.{List, _++_}
-use Prim.Native.Nat.{ℕ, _+_, _*_, _-_, _/_, _%_, _≤_, _<_}
+use mathlib.Core.Path.{sym, ap, _∙_}
 use native.Mathlib.Omega.{arith}
-use lib.ListN.{length, getD, set, take, drop}
+use lib.ListN.{length}
 use borrow.Author.Needs.{needs}
-use Rattle.session.proofs.Shape.{few, unknowns}
-use Rattle.session.proofs.Slot.{slot-part, slot-part-length, slot-written, half-body, spent-keeps}
+use Rattle.session.proofs.Slot.{slot-part, slot-part-length, slot-written, spent-keeps}
 use Rattle.protocol.specs.Tape.{slotAt, blinder, wordsSpent}
-use Rattle.protocol.specs.Bounds.{system}
-use Rattle.steps.proofs.Fits.{received-fits}
-use Rattle.blinder_later.proofs.Known.{scratch-lent, last-tests, last-known, last-shape}
-use Rattle.blinder.proofs.Kept.{side-is, side-bound, square-bound, wide-bound, wide-enough, scratch-sum}
-use Rattle.blinder.proofs.Halves.{half-is}
-use Rattle.checks.specs.InOrder.{checked, after}
+use Rattle.blinder_later.proofs.Known.{last-tests, last-known, last-shape}
+use Rattle.checks.specs.InOrder.{checked, judged}
 use mathlib.Core.List.{[]}
-use Rattle.checks.specs.InOrder.{judged}
 use Rattle.session.proofs.Leaving.{refused-leaves}
 use Rattle.blinder_later.proofs.Leaving.{last-done}
 use Rattle.protocol.proofs.Slots.{slot-room}

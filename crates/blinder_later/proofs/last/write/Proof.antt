@@ -1,18 +1,12 @@
-use mathlib.Core.Path.{_≡_, refl, sym, ap, _∙_}
-use mathlib.Core.List.{List, _++_}
-use Prim.Native.Nat.{ℕ, _+_, _*_, _-_, _/_, _%_, _≤_, _<_}
+use mathlib.Core.Path.{_≡_, ap}
+use Prim.Native.Nat.{ℕ, _+_, _*_, _-_, _≤_}
 use native.Mathlib.Omega.{arith}
-use lib.ListN.{length, getD, set, take, drop}
+use lib.ListN.{length, length-take, length-drop}
 use borrow.Author.Needs.{needs}
-use Rattle.session.proofs.Shape.{few, unknowns}
-use Rattle.session.proofs.Slot.{slot-part, slot-part-length, slot-written, half-body, spent-keeps}
-use Rattle.protocol.specs.Tape.{slotAt, blinder, wordsSpent}
-use Rattle.protocol.specs.Bounds.{system}
-use Rattle.steps.proofs.Fits.{received-fits}
-use Rattle.blinder.proofs.Kept.{side-is, side-bound, square-bound, wide-bound, wide-enough, scratch-sum}
+use Rattle.session.proofs.Shape.{unknowns}
+use Rattle.blinder.proofs.Kept.{side-is, side-bound, square-bound, wide-bound, wide-enough}
 use Rattle.blinder.proofs.Halves.{half-is}
-use lib.ListN.{length-take, length-drop, length-map}
-use lib.Seq.{length-take-le}
+use Rattle.message.proofs.KindLaws.{few}
 use Rattle.blinder_later.proofs.last.write.Statement.{statement}
 use Rattle.blinder_later.proofs.last.write.Tie as tie
 

@@ -3,7 +3,7 @@ use borrow.Author.Needs.{needs}
 use Rattle.session.proofs.Join.{also}
 use mathlib.Core.List.{[], _∷_}
 use Rattle.product.specs.Groups.{firstNumbers}
-use Rattle.session.proofs.Shape.{size-1}
+use Rattle.message.proofs.KindLaws.{size-1}
 use Rattle.product.proofs.first.check_numbers.Statement.{statement}
 use Rattle.product.proofs.first.check_numbers.Tie as tie
 

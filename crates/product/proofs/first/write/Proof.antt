@@ -3,9 +3,9 @@ use Prim.Native.Nat.{_*_}
 use native.Mathlib.Omega.{arith}
 use borrow.Author.Needs.{needs}
 use Rattle.protocol.specs.Tape.{right}
-use Rattle.product.proofs.Known.{right-size}
 use Rattle.product.proofs.Halves.{first-matrix}
 use Rattle.algebra.specs.Product.{sendY}
+use Rattle.checks.proofs.Place.{right-size}
 use Rattle.product.proofs.first.write.Statement.{statement}
 use Rattle.product.proofs.first.write.Tie as tie
 

@@ -4,9 +4,10 @@ use borrow.Author.Needs.{needs}
 use Rattle.session.proofs.Join.{hands-on, goes-past}
 use Rattle.session.proofs.Slot.{slot-part, slot-part-length}
 use Rattle.protocol.specs.Tape.{slotAt, left}
-use Rattle.product.proofs.Known.{last-received, is-open}
+use Rattle.product.proofs.Known.{last-received}
 use Rattle.product.proofs.Order.{open-phases, closed-judged}
 use Rattle.checks.specs.InOrder.{checked}
+use Rattle.session.proofs.Phases.{is-open}
 use Rattle.product.proofs.last.check.Statement.{statement}
 use Rattle.product.proofs.last.check.Tie as tie
 

@@ -3,11 +3,12 @@ use Prim.Native.Nat.{_*_}
 use native.Mathlib.Omega.{arith}
 use borrow.Author.Needs.{needs}
 use Rattle.protocol.specs.Tape.{right}
-use Rattle.product.proofs.Known.{right-size}
-use Rattle.product.proofs.Halves.{first-matrix, second-matrix, rest-part}
+use Rattle.product.proofs.Halves.{first-matrix, second-matrix}
 use lib.ListN.{length-take, length-drop}
 use lib.Seq.{length-take-le}
 use Rattle.algebra.specs.Product.{rightShare}
+use Rattle.checks.proofs.Written.{tail-part}
+use Rattle.checks.proofs.Place.{right-size}
 use Rattle.product.proofs.last.write.Statement.{statement}
 use Rattle.product.proofs.last.write.Tie as tie
 
@@ -99,7 +100,7 @@ same-length-2 c = search needs
 
 returns : tie.Need-returns
 unfolding rightShare
-returns c = (c .before .before .spend .ensures, rw (c .before .before .before .before .before .before .before .before .before .before .before .before .before .before .before .before .before .before .times .ensures, c .before .before .before .before .before .before .before .before .before .before .before .before .before .before .before .before .before .times2 .ensures, c .before .before .before .before .before .before .before .before .before .before .before .before .before .before .before .before .times3 .ensures, first-matrix right (c .before .before .before .before .before .before .before .before .before .before .before .before .before .before .before .before .before .before .before .before .before .before .args .t) (c .before .before .before .before .before .before .before .before .before .before .before .before .before .before .before .before .before .before .before .before .before .before .args .slot .now) (c .before .before .before .before .before .before .before .before .before .before .before .before .before .before .before .before .before .before .before .before .before .before .args .t .k * c .before .before .before .before .before .before .before .before .before .before .before .before .before .before .before .before .before .before .before .before .before .before .args .t .p) (c .before .before .before .before .before .before .before .before .before .before .before .before .before .before .before .before .before .before .before .before .before .before .args .t .m * c .before .before .before .before .before .before .before .before .before .before .before .before .before .before .before .before .before .before .before .before .before .before .args .t .p) refl, second-matrix right (c .before .before .before .before .before .before .before .before .before .before .before .before .before .before .before .before .before .before .before .before .before .before .args .t) (c .before .before .before .before .before .before .before .before .before .before .before .before .before .before .before .before .before .before .before .before .before .before .args .slot .now) (c .before .before .before .before .before .before .before .before .before .before .before .before .before .before .before .before .before .before .before .before .before .before .args .t .k * c .before .before .before .before .before .before .before .before .before .before .before .before .before .before .before .before .before .before .before .before .before .before .args .t .p) (c .before .before .before .before .before .before .before .before .before .before .before .before .before .before .before .before .before .before .before .before .before .before .args .t .m * c .before .before .before .before .before .before .before .before .before .before .before .before .before .before .before .before .before .before .before .before .before .before .args .t .p) refl, rest-part (c .before .before .before .before .before .before .before .before .before .before .before .before .before .before .before .before .before .before .before .before .before .before .args .t .m * c .before .before .before .before .before .before .before .before .before .before .before .before .before .before .before .before .before .before .before .before .before .before .args .t .k) (c .before .before .before .before .before .before .before .before .before .before .before .before .before .before .before .before .before .before .before .before .before .before .args .residues .now)) at (c .before .before .before .before .before .before .write-share .ensures))
+returns c = (c .before .before .spend .ensures, rw (c .before .before .before .before .before .before .before .before .before .before .before .before .before .before .before .before .before .before .times .ensures, c .before .before .before .before .before .before .before .before .before .before .before .before .before .before .before .before .before .times2 .ensures, c .before .before .before .before .before .before .before .before .before .before .before .before .before .before .before .before .times3 .ensures, first-matrix right (c .before .before .before .before .before .before .before .before .before .before .before .before .before .before .before .before .before .before .before .before .before .before .args .t) (c .before .before .before .before .before .before .before .before .before .before .before .before .before .before .before .before .before .before .before .before .before .before .args .slot .now) (c .before .before .before .before .before .before .before .before .before .before .before .before .before .before .before .before .before .before .before .before .before .before .args .t .k * c .before .before .before .before .before .before .before .before .before .before .before .before .before .before .before .before .before .before .before .before .before .before .args .t .p) (c .before .before .before .before .before .before .before .before .before .before .before .before .before .before .before .before .before .before .before .before .before .before .args .t .m * c .before .before .before .before .before .before .before .before .before .before .before .before .before .before .before .before .before .before .before .before .before .before .args .t .p) refl, second-matrix right (c .before .before .before .before .before .before .before .before .before .before .before .before .before .before .before .before .before .before .before .before .before .before .args .t) (c .before .before .before .before .before .before .before .before .before .before .before .before .before .before .before .before .before .before .before .before .before .before .args .slot .now) (c .before .before .before .before .before .before .before .before .before .before .before .before .before .before .before .before .before .before .before .before .before .before .args .t .k * c .before .before .before .before .before .before .before .before .before .before .before .before .before .before .before .before .before .before .before .before .before .before .args .t .p) (c .before .before .before .before .before .before .before .before .before .before .before .before .before .before .before .before .before .before .before .before .before .before .args .t .m * c .before .before .before .before .before .before .before .before .before .before .before .before .before .before .before .before .before .before .before .before .before .before .args .t .p) refl, tail-part (c .before .before .before .before .before .before .before .before .before .before .before .before .before .before .before .before .before .before .before .before .before .before .args .t .m * c .before .before .before .before .before .before .before .before .before .before .before .before .before .before .before .before .before .before .before .before .before .before .args .t .k) (c .before .before .before .before .before .before .before .before .before .before .before .before .before .before .before .before .before .before .before .before .before .before .args .residues .now)) at (c .before .before .before .before .before .before .write-share .ensures))
 
 pub write-spec : {M : Type 1} → statement M
 write-spec =

@@ -3,7 +3,7 @@ use borrow.Author.Needs.{needs}
 use Rattle.protocol.specs.Drawing.{drawTests}
 use Rattle.protocol.specs.declared.Refusal.the-variants.{Dry}
 use Rattle.session.proofs.Join.{judged-true, judged-false}
-use Rattle.product.proofs.Halves.{read-enough, read-dry}
+use Rattle.drawing.proofs.Then.{dry-few, enough-many}
 use Rattle.product.proofs.left.check_coins.Statement.{statement}
 use Rattle.product.proofs.left.check_coins.Tie as tie
 
@@ -18,11 +18,11 @@ enum-told-2 c = search needs
 
 returns : tie.Need-returns
 unfolding drawTests
-returns c = judged-true Dry (read-enough (c .before .before .before .before .args .q) (c .before .before .before .before .args .n) (c .before .before .before .before .args .words .now) (sym (c .before .before .read .ensures) ∙ c .enum-told .given .1))
+returns c = judged-true Dry ((enough-many (c .before .before .before .before .args .q) (c .before .before .before .before .args .n) (c .before .before .before .before .args .words .now) (sym (c .before .before .read .ensures) ∙ c .enum-told .given .1)) .0)
 
 returns-2 : tie.Need-returns-2
 unfolding drawTests
-returns-2 c = judged-false Dry (read-dry (c .before .before .before .before .args .q) (c .before .before .before .before .args .n) (c .before .before .before .before .args .words .now) (sym (c .before .before .read .ensures) ∙ c .enum-told2 .given .1))
+returns-2 c = judged-false Dry (dry-few (c .before .before .before .before .args .q) (c .before .before .before .before .args .n) (c .before .before .before .before .args .words .now) (sym (c .before .before .read .ensures) ∙ c .enum-told2 .given .1))
 
 pub check-coins-spec : {M : Type 1} → statement M
 check-coins-spec = tie.close (tie.spec read-requires enum-told enum-told-2 returns returns-2)

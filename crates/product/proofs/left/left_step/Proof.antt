@@ -2,15 +2,15 @@ use mathlib.Core.Path.{sym, ap, _∙_}
 use native.Mathlib.Omega.{arith}
 use lib.ListN.{length}
 use borrow.Author.Needs.{needs}
-use Rattle.session.proofs.Shape.{size-1}
 use Rattle.session.proofs.Slot.{slot-part, slot-part-length, slot-written, spent-keeps}
 use Rattle.protocol.specs.Tape.{slotAt, left, wordsSpent}
 use Rattle.product.proofs.Known.{left-known, left-shape}
 use Rattle.session.proofs.Leaving.{refused-leaves}
-use Rattle.product.proofs.Leaving.{whole-message, left-done}
+use Rattle.product.proofs.Leaving.{left-done}
 use Rattle.protocol.proofs.Slots.{slot-room}
 use Rattle.protocol.specs.Product.{leftEffect, leftStep}
 use Rattle.checks.specs.InOrder.{checked}
+use Rattle.message.proofs.KindLaws.{size-1, whole-message}
 use mathlib.Core.List.{[]}
 use Rattle.product.proofs.left.left_step.Statement.{statement}
 use Rattle.product.proofs.left.left_step.Tie as tie

@@ -3,11 +3,10 @@ use Prim.Native.Nat.{_≤_}
 use native.Mathlib.Omega.{arith}
 use lib.ListN.{length}
 use borrow.Author.Needs.{needs}
-use Rattle.session.proofs.Shape.{few}
-use Rattle.product.proofs.Known.{left-size}
-use Rattle.product.proofs.Halves.{coins-part}
 use Rattle.protocol.specs.Drawing.{residuesOf}
-use Rattle.drawing.proofs.Then.{drawn-count}
+use Rattle.drawing.proofs.Then.{drawn-count, coins-part}
+use Rattle.checks.proofs.Place.{left-size}
+use Rattle.message.proofs.KindLaws.{few}
 use Rattle.product.proofs.left.write.Statement.{statement}
 use Rattle.product.proofs.left.write.Tie as tie
 

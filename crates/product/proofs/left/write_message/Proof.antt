@@ -4,9 +4,11 @@ use native.Mathlib.Omega.{arith}
 use lib.ListN.{length}
 use borrow.Author.Needs.{needs}
 use Rattle.protocol.specs.Tape.{left}
-use Rattle.product.proofs.Halves.{first-matrix, second-matrix, part-then, over-length}
+use Rattle.product.proofs.Halves.{first-matrix, second-matrix}
 use Rattle.algebra.specs.Product.{sendX, sendR}
 use Rattle.algebra.proofs.Lists.{add-residues}
+use Rattle.checks.proofs.Written.{part-then}
+use Rattle.protocol.proofs.Residues.{over-length}
 use Rattle.product.proofs.left.write_message.Statement.{statement}
 use Rattle.product.proofs.left.write_message.Tie as tie
 

@@ -1,17 +1,12 @@
-use mathlib.Core.Path.{_≡_, refl, sym, ap, _∙_}
-use mathlib.Core.List.{List, _++_}
-use Prim.Native.Nat.{ℕ, _+_, _*_, _-_, _/_, _%_, _≤_, _<_}
-use native.Mathlib.Omega.{arith}
-use lib.ListN.{length, getD, set, take, drop}
+use mathlib.Core.Path.{refl, sym, ap, _∙_}
 use borrow.Author.Needs.{needs}
-use Rattle.session.specs.Groups.{modulusTests, kindTests, numberTests, placeTests, idTests, countTests, sameTests}
-use Rattle.session.proofs.Join.{judged-join, judged-cons, judged-phases}
-use Rattle.session.proofs.Shape.{product-kind, system-kind, sides-of, side-fits, few, ids-fit, size-1, size-2, size-3, size-4, size-5}
+use Rattle.session.specs.Groups.{numberTests, idTests, countTests}
+use Rattle.session.proofs.Shape.{ids-fit}
 use Rattle.checks.specs.InOrder.{checked}
-use Rattle.session.proofs.Phases.{sizes-phases, head-phases, no-place}
+use Rattle.session.proofs.Phases.{head-phases}
 use Rattle.session.proofs.Join.{hands-on, goes-past}
-use Rattle.session.specs.Ends.{role, sort}
 use Rattle.protocol.specs.Message.{kindSort}
+use Rattle.message.proofs.KindLaws.{few}
 use Rattle.session.proofs.numbers.check_head.Statement.{statement}
 use Rattle.session.proofs.numbers.check_head.Tie as tie
 

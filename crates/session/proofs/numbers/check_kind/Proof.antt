@@ -1,16 +1,11 @@
-use mathlib.Core.Path.{_≡_, refl, sym, ap, _∙_}
-use mathlib.Core.List.{List, _++_}
-use Prim.Native.Nat.{ℕ, _+_, _*_, _-_, _/_, _%_, _≤_, _<_}
-use native.Mathlib.Omega.{arith}
-use lib.ListN.{length, getD, set, take, drop}
 use borrow.Author.Needs.{needs}
-use Rattle.session.specs.Groups.{modulusTests, kindTests, numberTests, placeTests, idTests, countTests, sameTests}
-use Rattle.session.proofs.Join.{judged-join, judged-cons, judged-phases}
+use Rattle.session.specs.Groups.{kindTests}
+use Rattle.session.proofs.Join.{judged-cons}
 use Rattle.session.proofs.numbers.check_kind.Statement.{statement}
 use Rattle.session.proofs.numbers.check_kind.Tie as tie
 
-kind-fits-requires : tie.Need-kind-fits-requires
-kind-fits-requires c κs = search needs
+kind-known-requires : tie.Need-kind-known-requires
+kind-known-requires c κs = search needs
 
 need-requires : tie.Need-need-requires
 need-requires c κs = search needs
@@ -35,13 +30,13 @@ worst-requires-2 c κs = search needs
 
 returns : tie.Need-returns
 unfolding kindTests
-returns c = simp (c .worst2 .ensures, c .before .worst .ensures, c .before .before .before .before .before .before .need .ensures, c .before .before .before .before .need2 .ensures, c .before .before .need3 .ensures, c .before .before .before .before .before .before .before .kind-fits .ensures, c .before .before .before .before .before .modulus-fits .ensures, c .before .before .before .kind-field-fits .ensures, judged-cons)
+returns c = simp (c .worst2 .ensures, c .before .worst .ensures, c .before .before .before .before .before .before .need .ensures, c .before .before .before .before .need2 .ensures, c .before .before .need3 .ensures, c .before .before .before .before .before .before .before .kind-known .ensures, c .before .before .before .before .before .modulus-fits .ensures, c .before .before .before .kind-field-fits .ensures, judged-cons)
 
 pub check-kind-spec : {M : Type 1} → statement M
 check-kind-spec =
     tie.close
     (tie.spec
-    kind-fits-requires
+    kind-known-requires
     need-requires
     modulus-fits-requires
     need-requires-2

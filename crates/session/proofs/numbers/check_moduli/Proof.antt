@@ -40,8 +40,8 @@ worst-requires c κs = search needs
 returns : tie.Need-returns
 returns c = also (kindTests _) (modulusTests _ _) (c .worst .ensures) (c .before .before .check-kind .ensures) (c .before .check-modulus .ensures)
 
-kind-fits-requires : tie.Need-kind-fits-requires
-kind-fits-requires c κs = search needs
+kind-known-requires : tie.Need-kind-known-requires
+kind-known-requires c κs = search needs
 
 need-requires : tie.Need-need-requires
 need-requires c κs = search needs
@@ -87,7 +87,7 @@ simply c =
       c .before .before .before .before .before .before .need .ensures,
       c .before .before .before .before .need2 .ensures,
       c .before .before .need3 .ensures,
-      c .before .before .before .before .before .before .before .kind-fits .ensures,
+      c .before .before .before .before .before .before .before .kind-known .ensures,
       c .before .before .before .before .before .modulus-fits .ensures,
       c .before .before .before .fields-fit .ensures,
       judged-cons,
@@ -105,7 +105,7 @@ check-moduli-spec =
     check-modulus-requires
     worst-requires
     returns
-    kind-fits-requires
+    kind-known-requires
     need-requires
     modulus-fits-requires
     need-requires-2

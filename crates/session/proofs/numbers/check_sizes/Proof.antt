@@ -1,18 +1,11 @@
-use mathlib.Core.Path.{_≡_, refl, sym, ap, _∙_}
-use mathlib.Core.List.{List, _++_}
-use Prim.Native.Nat.{ℕ, _+_, _*_, _-_, _/_, _%_, _≤_, _<_}
-use native.Mathlib.Omega.{arith}
-use lib.ListN.{length, getD, set, take, drop}
+use mathlib.Core.Path.{sym, ap, _∙_}
 use borrow.Author.Needs.{needs}
-use Rattle.session.specs.Groups.{modulusTests, kindTests, numberTests, placeTests, idTests, countTests, sameTests}
-use Rattle.session.proofs.Join.{judged-join, judged-cons, judged-phases}
-use Rattle.session.proofs.Shape.{product-kind, system-kind, sides-of, side-fits, few, ids-fit, size-1, size-2, size-3, size-4, size-5}
+use Rattle.session.specs.Groups.{numberTests, placeTests, idTests}
+use Rattle.session.proofs.Join.{judged-cons, hands-on, goes-past}
+use Rattle.session.proofs.Shape.{ids-fit}
 use Rattle.checks.specs.InOrder.{checked}
-use Rattle.session.proofs.Phases.{sizes-phases, head-phases, no-place}
-use Rattle.session.proofs.Join.{hands-on, goes-past}
+use Rattle.session.proofs.Phases.{sizes-phases, no-place}
 use Rattle.session.specs.Ends.{role, sort}
-use Rattle.protocol.specs.Message.{kindSort}
-use Rattle.checks.proofs.InOrder.{verdict-all}
 use Rattle.session.proofs.numbers.check_sizes.Statement.{statement}
 use Rattle.session.proofs.numbers.check_sizes.Tie as tie
 

@@ -8,7 +8,7 @@ use Rattle.algebra.specs.Count.{both}
 use Rattle.algebra.specs.Prime.{isPrime}
 use Rattle.protocol.specs.Bounds.{Sort, product, system, fieldFits}
 use Rattle.session.specs.Ends.{sort}
-use Rattle.session.proofs.Shape.{product-kind, system-kind}
+use Rattle.message.proofs.KindLaws.{product-kind, system-kind}
 use Rattle.session.proofs.numbers.fields_fit.Statement.{statement}
 use Rattle.session.proofs.numbers.fields_fit.Tie as tie
 

@@ -1,10 +1,6 @@
-use mathlib.Core.Path.{_≡_, refl, sym, ap, _∙_}
-use mathlib.Core.List.{List, _++_}
-use Prim.Native.Nat.{ℕ, _+_, _*_, _-_, _/_, _%_, _≤_, _<_}
 use native.Mathlib.Omega.{arith}
-use lib.ListN.{length, getD, set, take, drop}
 use borrow.Author.Needs.{needs}
-use Rattle.session.proofs.Shape.{product-kind, system-kind, sides-of, side-fits, few, ids-fit, size-1, size-2, size-3, size-4, size-5}
+use Rattle.session.proofs.Shape.{sides-of}
 use Rattle.session.specs.Ends.{sort}
 use Rattle.protocol.specs.Tape.{tapeSize, bodySize}
 use Rattle.session.proofs.numbers.half_size.Statement.{statement}

@@ -1,11 +1,5 @@
-use mathlib.Core.Path.{_≡_, refl, sym, ap, _∙_}
-use mathlib.Core.List.{List, _++_}
-use Prim.Native.Nat.{ℕ, _+_, _*_, _-_, _/_, _%_, _≤_, _<_}
-use native.Mathlib.Omega.{arith}
-use lib.ListN.{length, getD, set, take, drop}
 use borrow.Author.Needs.{needs}
-use Rattle.session.proofs.Slot.{slot-part, slot-part-length, slot-written, in-use-set, in-use-length, part-written, zeroed-spent, half-body, body-part, spent-is, spent-keeps}
-use Rattle.session.specs.Ends.{role, sort}
+use Rattle.session.proofs.Slot.{zeroed-spent}
 use Rattle.session.proofs.tape.write_spent.Statement.{statement}
 use Rattle.session.proofs.tape.write_spent.Tie as tie
 

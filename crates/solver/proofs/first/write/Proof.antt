@@ -3,11 +3,12 @@ use Prim.Native.Nat.{ℕ, _+_, _*_, _-_}
 use native.Mathlib.Omega.{arith}
 use borrow.Author.Needs.{needs}
 use Rattle.solver.proofs.Known.{few, solver-size}
-use Rattle.solver.proofs.Halves.{y0-part, over-part, first-sent}
+use Rattle.solver.proofs.Halves.{y0-part, first-sent}
 use Rattle.protocol.specs.Bounds.{columns}
 use Rattle.protocol.specs.System.{sideSize}
 use Rattle.algebra.specs.Columns.{beside}
-use Rattle.columns.proofs.Rows.{beside-length, count-after}
+use Rattle.columns.proofs.Rows.{beside-length}
+use Rattle.checks.proofs.Written.{after-over, over-part}
 use lib.ListN.{length-take, length-drop}
 use lib.Seq.{length-take-le}
 use Rattle.solver.proofs.first.write.Statement.{statement}
@@ -37,11 +38,11 @@ write-beside-requires c κs = let p = c .before .before .before .before .before 
 
 array-share-prefix-y : tie.Need-array-share-prefix-y
 unfolding columns
-array-share-prefix-y c = let p = c .before .before .before .before .before .before .before .before .before .before .pre in let f = few (c .before .before .before .before .before .before .before .before .before .before .args .t) (p .sides) in let w : c .before .before .before .before .before .before .before .before .before .before .args .t .m * (c .before .before .before .before .before .before .before .before .before .before .args .t .m + (c .before .before .before .before .before .before .before .before .before .before .args .t .p - c .before .before .before .before .before .before .before .before .before .before .args .t .m)) ≡ c .before .before .before .before .before .before .before .before .before .before .args .t .m * c .before .before .before .before .before .before .before .before .before .before .args .t .p = ap (λ (n : ℕ). c .before .before .before .before .before .before .before .before .before .before .args .t .m * n) (f .whole) in let b = beside-length (c .before .before .before .before .before .before .before .before .before .before .args .t .m) (c .before .before .before .before .before .before .before .before .before .before .args .t .m) (c .before .before .before .before .before .before .before .before .before .before .args .t .p - c .before .before .before .before .before .before .before .before .before .before .args .t .m) (c .before .before .before .before .before .before .before .before .before .before .args .l .now) (c .before .before .before .before .before .before .before .before .before .before .args .x .now) in let n = count-after (beside (c .before .before .before .before .before .before .before .before .before .before .args .t .m) (c .before .before .before .before .before .before .before .before .before .before .args .t .m) (columns (c .before .before .before .before .before .before .before .before .before .before .args .t .m) (c .before .before .before .before .before .before .before .before .before .before .args .t .p)) (c .before .before .before .before .before .before .before .before .before .before .args .l .now) (c .before .before .before .before .before .before .before .before .before .before .args .x .now)) _ (c .before .write-beside .ensures) (omega (arith, b, w, f .mp)) in omega (arith, n, f .mp, c .before .before .before .times .ensures)
+array-share-prefix-y c = let p = c .before .before .before .before .before .before .before .before .before .before .pre in let f = few (c .before .before .before .before .before .before .before .before .before .before .args .t) (p .sides) in let w : c .before .before .before .before .before .before .before .before .before .before .args .t .m * (c .before .before .before .before .before .before .before .before .before .before .args .t .m + (c .before .before .before .before .before .before .before .before .before .before .args .t .p - c .before .before .before .before .before .before .before .before .before .before .args .t .m)) ≡ c .before .before .before .before .before .before .before .before .before .before .args .t .m * c .before .before .before .before .before .before .before .before .before .before .args .t .p = ap (λ (n : ℕ). c .before .before .before .before .before .before .before .before .before .before .args .t .m * n) (f .whole) in let b = beside-length (c .before .before .before .before .before .before .before .before .before .before .args .t .m) (c .before .before .before .before .before .before .before .before .before .before .args .t .m) (c .before .before .before .before .before .before .before .before .before .before .args .t .p - c .before .before .before .before .before .before .before .before .before .before .args .t .m) (c .before .before .before .before .before .before .before .before .before .before .args .l .now) (c .before .before .before .before .before .before .before .before .before .before .args .x .now) in let n = after-over (beside (c .before .before .before .before .before .before .before .before .before .before .args .t .m) (c .before .before .before .before .before .before .before .before .before .before .args .t .m) (columns (c .before .before .before .before .before .before .before .before .before .before .args .t .m) (c .before .before .before .before .before .before .before .before .before .before .args .t .p)) (c .before .before .before .before .before .before .before .before .before .before .args .l .now) (c .before .before .before .before .before .before .before .before .before .before .args .x .now)) _ (c .before .write-beside .ensures) (omega (arith, b, w, f .mp)) in omega (arith, n, f .mp, c .before .before .before .times .ensures)
 
 slice-aggregate-write-difference : tie.Need-slice-aggregate-write-difference
 unfolding columns
-slice-aggregate-write-difference c = let p = c .before .before .before .before .before .before .before .before .before .before .before .pre in let f = few (c .before .before .before .before .before .before .before .before .before .before .before .args .t) (p .sides) in let w : c .before .before .before .before .before .before .before .before .before .before .before .args .t .m * (c .before .before .before .before .before .before .before .before .before .before .before .args .t .m + (c .before .before .before .before .before .before .before .before .before .before .before .args .t .p - c .before .before .before .before .before .before .before .before .before .before .before .args .t .m)) ≡ c .before .before .before .before .before .before .before .before .before .before .before .args .t .m * c .before .before .before .before .before .before .before .before .before .before .before .args .t .p = ap (λ (n : ℕ). c .before .before .before .before .before .before .before .before .before .before .before .args .t .m * n) (f .whole) in let b = beside-length (c .before .before .before .before .before .before .before .before .before .before .before .args .t .m) (c .before .before .before .before .before .before .before .before .before .before .before .args .t .m) (c .before .before .before .before .before .before .before .before .before .before .before .args .t .p - c .before .before .before .before .before .before .before .before .before .before .before .args .t .m) (c .before .before .before .before .before .before .before .before .before .before .before .args .l .now) (c .before .before .before .before .before .before .before .before .before .before .before .args .x .now) in let n = count-after (beside (c .before .before .before .before .before .before .before .before .before .before .before .args .t .m) (c .before .before .before .before .before .before .before .before .before .before .before .args .t .m) (columns (c .before .before .before .before .before .before .before .before .before .before .before .args .t .m) (c .before .before .before .before .before .before .before .before .before .before .before .args .t .p)) (c .before .before .before .before .before .before .before .before .before .before .before .args .l .now) (c .before .before .before .before .before .before .before .before .before .before .before .args .x .now)) _ (c .before .before .write-beside .ensures) (omega (arith, b, w, f .mp)) in sym (length-take-le _ _ (omega (arith, n, f .mp, c .before .before .before .before .times .ensures)))
+slice-aggregate-write-difference c = let p = c .before .before .before .before .before .before .before .before .before .before .before .pre in let f = few (c .before .before .before .before .before .before .before .before .before .before .before .args .t) (p .sides) in let w : c .before .before .before .before .before .before .before .before .before .before .before .args .t .m * (c .before .before .before .before .before .before .before .before .before .before .before .args .t .m + (c .before .before .before .before .before .before .before .before .before .before .before .args .t .p - c .before .before .before .before .before .before .before .before .before .before .before .args .t .m)) ≡ c .before .before .before .before .before .before .before .before .before .before .before .args .t .m * c .before .before .before .before .before .before .before .before .before .before .before .args .t .p = ap (λ (n : ℕ). c .before .before .before .before .before .before .before .before .before .before .before .args .t .m * n) (f .whole) in let b = beside-length (c .before .before .before .before .before .before .before .before .before .before .before .args .t .m) (c .before .before .before .before .before .before .before .before .before .before .before .args .t .m) (c .before .before .before .before .before .before .before .before .before .before .before .args .t .p - c .before .before .before .before .before .before .before .before .before .before .before .args .t .m) (c .before .before .before .before .before .before .before .before .before .before .before .args .l .now) (c .before .before .before .before .before .before .before .before .before .before .before .args .x .now) in let n = after-over (beside (c .before .before .before .before .before .before .before .before .before .before .before .args .t .m) (c .before .before .before .before .before .before .before .before .before .before .before .args .t .m) (columns (c .before .before .before .before .before .before .before .before .before .before .before .args .t .m) (c .before .before .before .before .before .before .before .before .before .before .before .args .t .p)) (c .before .before .before .before .before .before .before .before .before .before .before .args .l .now) (c .before .before .before .before .before .before .before .before .before .before .before .args .x .now)) _ (c .before .before .write-beside .ensures) (omega (arith, b, w, f .mp)) in sym (length-take-le _ _ (omega (arith, n, f .mp, c .before .before .before .before .times .ensures)))
 
 sub-write-difference : tie.Need-sub-write-difference
 sub-write-difference c = search needs
@@ -54,7 +55,7 @@ part-write-difference-end c = let p = c .before .before .before .before .before 
 
 write-difference-requires : tie.Need-write-difference-requires
 unfolding columns
-write-difference-requires c κs = let p = c .before .before .before .before .before .before .before .before .before .before .before .before .before .before .pre in let f = few (c .before .before .before .before .before .before .before .before .before .before .before .before .before .before .args .t) (p .sides) in let w : c .before .before .before .before .before .before .before .before .before .before .before .before .before .before .args .t .m * (c .before .before .before .before .before .before .before .before .before .before .before .before .before .before .args .t .m + (c .before .before .before .before .before .before .before .before .before .before .before .before .before .before .args .t .p - c .before .before .before .before .before .before .before .before .before .before .before .before .before .before .args .t .m)) ≡ c .before .before .before .before .before .before .before .before .before .before .before .before .before .before .args .t .m * c .before .before .before .before .before .before .before .before .before .before .before .before .before .before .args .t .p = ap (λ (n : ℕ). c .before .before .before .before .before .before .before .before .before .before .before .before .before .before .args .t .m * n) (f .whole) in let b = beside-length (c .before .before .before .before .before .before .before .before .before .before .before .before .before .before .args .t .m) (c .before .before .before .before .before .before .before .before .before .before .before .before .before .before .args .t .m) (c .before .before .before .before .before .before .before .before .before .before .before .before .before .before .args .t .p - c .before .before .before .before .before .before .before .before .before .before .before .before .before .before .args .t .m) (c .before .before .before .before .before .before .before .before .before .before .before .before .before .before .args .l .now) (c .before .before .before .before .before .before .before .before .before .before .before .before .before .before .args .x .now) in let n = count-after (beside (c .before .before .before .before .before .before .before .before .before .before .before .before .before .before .args .t .m) (c .before .before .before .before .before .before .before .before .before .before .before .before .before .before .args .t .m) (columns (c .before .before .before .before .before .before .before .before .before .before .before .before .before .before .args .t .m) (c .before .before .before .before .before .before .before .before .before .before .before .before .before .before .args .t .p)) (c .before .before .before .before .before .before .before .before .before .before .before .before .before .before .args .l .now) (c .before .before .before .before .before .before .before .before .before .before .before .before .before .before .args .x .now)) _ (c .before .before .before .before .before .write-beside .ensures) (omega (arith, b, w, f .mp)) in (p .some-q, simp length-take (omega (arith, n, f .mp, c .before .before .before .before .before .before .before .times .ensures)), simp (length-take, length-drop) (omega (arith, solver-size (c .before .before .before .before .before .before .before .before .before .before .before .before .before .before .args .t .m) (c .before .before .before .before .before .before .before .before .before .before .before .before .before .before .args .t .k) (c .before .before .before .before .before .before .before .before .before .before .before .before .before .before .args .t .p), f .kp-is, c .before .before .before .before .before .before .before .times .ensures, p .half)), omega (arith, f .kp-is, p .room, c .before .before .before .before .before .before .before .times .ensures))
+write-difference-requires c κs = let p = c .before .before .before .before .before .before .before .before .before .before .before .before .before .before .pre in let f = few (c .before .before .before .before .before .before .before .before .before .before .before .before .before .before .args .t) (p .sides) in let w : c .before .before .before .before .before .before .before .before .before .before .before .before .before .before .args .t .m * (c .before .before .before .before .before .before .before .before .before .before .before .before .before .before .args .t .m + (c .before .before .before .before .before .before .before .before .before .before .before .before .before .before .args .t .p - c .before .before .before .before .before .before .before .before .before .before .before .before .before .before .args .t .m)) ≡ c .before .before .before .before .before .before .before .before .before .before .before .before .before .before .args .t .m * c .before .before .before .before .before .before .before .before .before .before .before .before .before .before .args .t .p = ap (λ (n : ℕ). c .before .before .before .before .before .before .before .before .before .before .before .before .before .before .args .t .m * n) (f .whole) in let b = beside-length (c .before .before .before .before .before .before .before .before .before .before .before .before .before .before .args .t .m) (c .before .before .before .before .before .before .before .before .before .before .before .before .before .before .args .t .m) (c .before .before .before .before .before .before .before .before .before .before .before .before .before .before .args .t .p - c .before .before .before .before .before .before .before .before .before .before .before .before .before .before .args .t .m) (c .before .before .before .before .before .before .before .before .before .before .before .before .before .before .args .l .now) (c .before .before .before .before .before .before .before .before .before .before .before .before .before .before .args .x .now) in let n = after-over (beside (c .before .before .before .before .before .before .before .before .before .before .before .before .before .before .args .t .m) (c .before .before .before .before .before .before .before .before .before .before .before .before .before .before .args .t .m) (columns (c .before .before .before .before .before .before .before .before .before .before .before .before .before .before .args .t .m) (c .before .before .before .before .before .before .before .before .before .before .before .before .before .before .args .t .p)) (c .before .before .before .before .before .before .before .before .before .before .before .before .before .before .args .l .now) (c .before .before .before .before .before .before .before .before .before .before .before .before .before .before .args .x .now)) _ (c .before .before .before .before .before .write-beside .ensures) (omega (arith, b, w, f .mp)) in (p .some-q, simp length-take (omega (arith, n, f .mp, c .before .before .before .before .before .before .before .times .ensures)), simp (length-take, length-drop) (omega (arith, solver-size (c .before .before .before .before .before .before .before .before .before .before .before .before .before .before .args .t .m) (c .before .before .before .before .before .before .before .before .before .before .before .before .before .before .args .t .k) (c .before .before .before .before .before .before .before .before .before .before .before .before .before .before .args .t .p), f .kp-is, c .before .before .before .before .before .before .before .times .ensures, p .half)), omega (arith, f .kp-is, p .room, c .before .before .before .before .before .before .before .times .ensures))
 
 take-up-requires : tie.Need-take-up-requires
 take-up-requires c κs = let p = c .before .before .before .before .before .before .before .before .before .before .before .before .before .before .before .before .before .before .pre in let f = few (c .before .before .before .before .before .before .before .before .before .before .before .before .before .before .before .before .before .before .args .t) (p .sides) in omega (arith, solver-size (c .before .before .before .before .before .before .before .before .before .before .before .before .before .before .before .before .before .before .args .t .m) (c .before .before .before .before .before .before .before .before .before .before .before .before .before .before .before .before .before .before .args .t .k) (c .before .before .before .before .before .before .before .before .before .before .before .before .before .before .before .before .before .before .args .t .p), p .half)

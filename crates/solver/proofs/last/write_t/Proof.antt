@@ -1,11 +1,11 @@
 use mathlib.Core.Path.{sym, ap, _∙_}
 use Prim.Native.Nat.{ℕ, _+_}
 use native.Mathlib.Omega.{arith}
-use lib.ListN.{take, drop}
+use lib.ListN.{take, drop, length-take, length-drop}
 use borrow.Author.Needs.{needs}
 use Rattle.solver.proofs.Known.{few, solver-size}
-use Rattle.solver.proofs.Halves.{v-part, sum-room, joint-sum, joint-side, sum-residues, side-residues, rest-part}
-use lib.ListN.{length-take, length-drop}
+use Rattle.solver.proofs.Halves.{v-part, sum-room, joint-sum, joint-side, sum-residues, side-residues}
+use Rattle.checks.proofs.Written.{tail-part}
 use lib.Seq.{length-take-le}
 use Rattle.solver.proofs.last.write_t.Statement.{statement}
 use Rattle.solver.proofs.last.write_t.Tie as tie
@@ -95,7 +95,7 @@ solve-requires : tie.Need-solve-requires
 solve-requires c κs = let p = c .before .before .before .before .before .before .before .before .before .before .before .before .before .before .before .before .before .before .before .before .before .before .pre .0 in let f = few (c .before .before .before .before .before .before .before .before .before .before .before .before .before .before .before .before .before .before .before .before .before .before .args .t) (p .sides) in let u = joint-sum (c .before .before .before .before .before .before .before .before .before .before .before .before .before .before .before .before .before .before .before .before .before .before .args .t) (c .before .before .before .before .before .before .before .before .before .before .before .before .before .before .before .before .before .before .before .before .before .before .args .slot .now) (c .before .before .before .before .before .before .before .before .before .before .before .before .before .before .before .before .before .before .before .before .before .before .args .residues .now) (c .before .before .before .before .before .before .before .before .before .before .before .before .before .before .before .before .before .times .result) _ (c .before .before .before .before .before .before .before .before .before .before .write-sum .ensures) (c .before .before .before .before .before .before .before .before .before .before .before .before .before .before .before .before .before .times .ensures) (ap (λ (n : ℕ). take n (c .before .before .before .before .before .before .before .before .before .before .before .before .before .before .before .before .before .before .before .before .before .before .args .residues .now)) (c .before .before .before .before .before .before .before .before .before .before .before .before .before .before .before .before .before .times .ensures))
     (v-part (c .before .before .before .before .before .before .before .before .before .before .before .before .before .before .before .before .before .before .before .before .before .before .args .t) (c .before .before .before .before .before .before .before .before .before .before .before .before .before .before .before .before .before .before .before .before .before .before .args .slot .now) (7 + c .before .before .before .before .before .before .before .before .before .before .before .before .before .before .before .times2 .result + c .before .before .before .before .before .before .before .before .before .before .before .before .before .before .times3 .result + c .before .before .before .before .before .before .before .before .before .before .before .before .before .before .before .before .before .times .result) ((7 + c .before .before .before .before .before .before .before .before .before .before .before .before .before .before .before .times2 .result + c .before .before .before .before .before .before .before .before .before .before .before .before .before .before .times3 .result + c .before .before .before .before .before .before .before .before .before .before .before .before .before .before .before .before .before .times .result) + c .before .before .before .before .before .before .before .before .before .before .before .before .before .before .before .before .before .times .result) (omega (arith, c .before .before .before .before .before .before .before .before .before .before .before .before .before .before .before .before .before .times .ensures, c .before .before .before .before .before .before .before .before .before .before .before .before .before .before .before .times2 .ensures, c .before .before .before .before .before .before .before .before .before .before .before .before .before .before .times3 .ensures, f .kp-is, f .mk-is)) (omega (arith, c .before .before .before .before .before .before .before .before .before .before .before .before .before .before .before .before .before .times .ensures, c .before .before .before .before .before .before .before .before .before .before .before .before .before .before .before .times2 .ensures, c .before .before .before .before .before .before .before .before .before .before .before .before .before .before .times3 .ensures, f .mk-is))) in
     let v = joint-side (c .before .before .before .before .before .before .before .before .before .before .before .before .before .before .before .before .before .before .before .before .before .before .args .t) (c .before .before .before .before .before .before .before .before .before .before .before .before .before .before .before .before .before .before .before .before .before .before .args .residues .now) (c .before .before .before .before .before .before .before .before .before .before .before .before .before .before .before .before .before .before .before .before .before .before .args .kept .now) (c .before .before .before .before .before .before .before .before .before .before .before .before .before .before .before .before .side-size .result) _ (c .before .before .before .before .before .write-sum2 .ensures) (c .before .before .before .before .before .before .before .before .before .before .before .before .before .before .before .before .side-size .ensures)
-    (rest-part (c .before .before .before .before .before .before .before .before .before .before .before .before .before .before .before .before .before .times .result) (c .before .before .before .before .before .before .before .before .before .before .before .before .before .before .before .before .before .before .before .before .before .before .args .residues .now) ∙ ap (λ (n : ℕ). drop n (c .before .before .before .before .before .before .before .before .before .before .before .before .before .before .before .before .before .before .before .before .before .before .args .residues .now)) (c .before .before .before .before .before .before .before .before .before .before .before .before .before .before .before .before .before .times .ensures)) (ap (λ (n : ℕ). take n (c .before .before .before .before .before .before .before .before .before .before .before .before .before .before .before .before .before .before .before .before .before .before .args .kept .now)) (c .before .before .before .before .before .before .before .before .before .before .before .before .before .before .before .before .side-size .ensures)) in (
+    (tail-part (c .before .before .before .before .before .before .before .before .before .before .before .before .before .before .before .before .before .times .result) (c .before .before .before .before .before .before .before .before .before .before .before .before .before .before .before .before .before .before .before .before .before .before .args .residues .now) ∙ ap (λ (n : ℕ). drop n (c .before .before .before .before .before .before .before .before .before .before .before .before .before .before .before .before .before .before .before .before .before .before .args .residues .now)) (c .before .before .before .before .before .before .before .before .before .before .before .before .before .before .before .before .before .times .ensures)) (ap (λ (n : ℕ). take n (c .before .before .before .before .before .before .before .before .before .before .before .before .before .before .before .before .before .before .before .before .before .before .args .kept .now)) (c .before .before .before .before .before .before .before .before .before .before .before .before .before .before .before .before .side-size .ensures)) in (
       c .before .before .before .before .before .before .before .before .before .before .before .before .before .before .before .before .before .before .before .before .before .before .pre .1,
       p .small-q,
       f .few,
@@ -111,7 +111,7 @@ returns : tie.Need-returns
 returns c = let p = c .before .before .before .before .before .before .before .before .before .before .before .before .before .before .before .before .before .before .before .before .before .before .before .before .before .pre .0 in let f = few (c .before .before .before .before .before .before .before .before .before .before .before .before .before .before .before .before .before .before .before .before .before .before .before .before .before .args .t) (p .sides) in let u = joint-sum (c .before .before .before .before .before .before .before .before .before .before .before .before .before .before .before .before .before .before .before .before .before .before .before .before .before .args .t) (c .before .before .before .before .before .before .before .before .before .before .before .before .before .before .before .before .before .before .before .before .before .before .before .before .before .args .slot .now) (c .before .before .before .before .before .before .before .before .before .before .before .before .before .before .before .before .before .before .before .before .before .before .before .before .before .args .residues .now) (c .before .before .before .before .before .before .before .before .before .before .before .before .before .before .before .before .before .before .before .before .times .result) _ (c .before .before .before .before .before .before .before .before .before .before .before .before .before .write-sum .ensures) (c .before .before .before .before .before .before .before .before .before .before .before .before .before .before .before .before .before .before .before .before .times .ensures) (ap (λ (n : ℕ). take n (c .before .before .before .before .before .before .before .before .before .before .before .before .before .before .before .before .before .before .before .before .before .before .before .before .before .args .residues .now)) (c .before .before .before .before .before .before .before .before .before .before .before .before .before .before .before .before .before .before .before .before .times .ensures))
     (v-part (c .before .before .before .before .before .before .before .before .before .before .before .before .before .before .before .before .before .before .before .before .before .before .before .before .before .args .t) (c .before .before .before .before .before .before .before .before .before .before .before .before .before .before .before .before .before .before .before .before .before .before .before .before .before .args .slot .now) (7 + c .before .before .before .before .before .before .before .before .before .before .before .before .before .before .before .before .before .before .times2 .result + c .before .before .before .before .before .before .before .before .before .before .before .before .before .before .before .before .before .times3 .result + c .before .before .before .before .before .before .before .before .before .before .before .before .before .before .before .before .before .before .before .before .times .result) ((7 + c .before .before .before .before .before .before .before .before .before .before .before .before .before .before .before .before .before .before .times2 .result + c .before .before .before .before .before .before .before .before .before .before .before .before .before .before .before .before .before .times3 .result + c .before .before .before .before .before .before .before .before .before .before .before .before .before .before .before .before .before .before .before .before .times .result) + c .before .before .before .before .before .before .before .before .before .before .before .before .before .before .before .before .before .before .before .before .times .result) (omega (arith, c .before .before .before .before .before .before .before .before .before .before .before .before .before .before .before .before .before .before .before .before .times .ensures, c .before .before .before .before .before .before .before .before .before .before .before .before .before .before .before .before .before .before .times2 .ensures, c .before .before .before .before .before .before .before .before .before .before .before .before .before .before .before .before .before .times3 .ensures, f .kp-is, f .mk-is)) (omega (arith, c .before .before .before .before .before .before .before .before .before .before .before .before .before .before .before .before .before .before .before .before .times .ensures, c .before .before .before .before .before .before .before .before .before .before .before .before .before .before .before .before .before .before .times2 .ensures, c .before .before .before .before .before .before .before .before .before .before .before .before .before .before .before .before .before .times3 .ensures, f .mk-is))) in
     let v = joint-side (c .before .before .before .before .before .before .before .before .before .before .before .before .before .before .before .before .before .before .before .before .before .before .before .before .before .args .t) (c .before .before .before .before .before .before .before .before .before .before .before .before .before .before .before .before .before .before .before .before .before .before .before .before .before .args .residues .now) (c .before .before .before .before .before .before .before .before .before .before .before .before .before .before .before .before .before .before .before .before .before .before .before .before .before .args .kept .now) (c .before .before .before .before .before .before .before .before .before .before .before .before .before .before .before .before .before .before .before .side-size .result) _ (c .before .before .before .before .before .before .before .before .write-sum2 .ensures) (c .before .before .before .before .before .before .before .before .before .before .before .before .before .before .before .before .before .before .before .side-size .ensures)
-    (rest-part (c .before .before .before .before .before .before .before .before .before .before .before .before .before .before .before .before .before .before .before .before .times .result) (c .before .before .before .before .before .before .before .before .before .before .before .before .before .before .before .before .before .before .before .before .before .before .before .before .before .args .residues .now) ∙ ap (λ (n : ℕ). drop n (c .before .before .before .before .before .before .before .before .before .before .before .before .before .before .before .before .before .before .before .before .before .before .before .before .before .args .residues .now)) (c .before .before .before .before .before .before .before .before .before .before .before .before .before .before .before .before .before .before .before .before .times .ensures)) (ap (λ (n : ℕ). take n (c .before .before .before .before .before .before .before .before .before .before .before .before .before .before .before .before .before .before .before .before .before .before .before .before .before .args .kept .now)) (c .before .before .before .before .before .before .before .before .before .before .before .before .before .before .before .before .before .before .before .side-size .ensures)) in
+    (tail-part (c .before .before .before .before .before .before .before .before .before .before .before .before .before .before .before .before .before .before .before .before .times .result) (c .before .before .before .before .before .before .before .before .before .before .before .before .before .before .before .before .before .before .before .before .before .before .before .before .before .args .residues .now) ∙ ap (λ (n : ℕ). drop n (c .before .before .before .before .before .before .before .before .before .before .before .before .before .before .before .before .before .before .before .before .before .before .before .before .before .args .residues .now)) (c .before .before .before .before .before .before .before .before .before .before .before .before .before .before .before .before .before .before .before .before .times .ensures)) (ap (λ (n : ℕ). take n (c .before .before .before .before .before .before .before .before .before .before .before .before .before .before .before .before .before .before .before .before .before .before .before .before .before .args .kept .now)) (c .before .before .before .before .before .before .before .before .before .before .before .before .before .before .before .before .before .before .before .side-size .ensures)) in
     (rw u at (c .before .before .solve .ensures .0), rw (u, v) at (c .before .before .solve .ensures .1))
 
 pub write-t-spec : {M : Type 1} → statement M

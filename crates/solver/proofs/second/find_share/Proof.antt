@@ -1,14 +1,14 @@
 use mathlib.Core.Path.{refl, sym, ap, _∙_}
 use Prim.Native.Nat.{ℕ, _+_}
 use native.Mathlib.Omega.{arith}
-use lib.ListN.{take, drop}
+use lib.ListN.{take, drop, length-take, length-drop}
 use borrow.Author.Needs.{needs}
 use Rattle.solver.proofs.Known.{few, solver-size}
-use Rattle.solver.proofs.Halves.{y0-part, b0-part, share-found, rest-part}
-use lib.ListN.{length-take, length-drop}
+use Rattle.solver.proofs.Halves.{y0-part, b0-part, share-found}
 use lib.Seq.{length-take-le}
 use Rattle.protocol.specs.Bounds.{columns}
 use Rattle.solver.specs.Formulas.{shareOf}
+use Rattle.checks.proofs.Written.{tail-part}
 use Rattle.solver.proofs.second.find_share.Statement.{statement}
 use Rattle.solver.proofs.second.find_share.Tie as tie
 
@@ -90,7 +90,7 @@ unfolding shareOf
 returns c = let p = c .before .before .before .before .before .before .before .before .before .before .before .before .before .before .before .pre .0 in let f = few (c .before .before .before .before .before .before .before .before .before .before .before .before .before .before .before .args .t) (p .sides) in share-found (c .before .before .before .before .before .before .before .before .before .before .before .before .before .before .before .args .t .q) (c .before .before .before .before .before .before .before .before .before .before .before .before .before .before .before .args .t .m) (c .before .before .before .before .before .before .before .before .before .before .before .before .before .before .before .args .t .p) (columns (c .before .before .before .before .before .before .before .before .before .before .before .before .before .before .before .args .t .m) (c .before .before .before .before .before .before .before .before .before .before .before .before .before .before .before .args .t .p)) _ _ _ _ (c .before .before .before .before .before .before .before .before .before .before .before .before .before .before .before .args .out .now) (c .before .before .write-share .ensures)
     (ap (λ (n : ℕ). take n (c .before .before .before .before .before .before .before .before .before .before .before .before .before .before .before .args .residues .now)) (c .before .before .before .before .before .before .before .before .before .before .before .times .ensures))
     (y0-part (c .before .before .before .before .before .before .before .before .before .before .before .before .before .before .before .args .t) (c .before .before .before .before .before .before .before .before .before .before .before .before .before .before .before .args .slot .now) 7 (7 + c .before .before .before .before .before .before .before .before .before .before .times2 .result) refl (omega (arith, c .before .before .before .before .before .before .before .before .before .before .times2 .ensures, f .kp-is)))
-    (rest-part (c .before .before .before .before .before .before .before .before .before .before .before .times .result) (c .before .before .before .before .before .before .before .before .before .before .before .before .before .before .before .args .residues .now) ∙ ap (λ (n : ℕ). drop n (c .before .before .before .before .before .before .before .before .before .before .before .before .before .before .before .args .residues .now)) (c .before .before .before .before .before .before .before .before .before .before .before .times .ensures))
+    (tail-part (c .before .before .before .before .before .before .before .before .before .before .before .times .result) (c .before .before .before .before .before .before .before .before .before .before .before .before .before .before .before .args .residues .now) ∙ ap (λ (n : ℕ). drop n (c .before .before .before .before .before .before .before .before .before .before .before .before .before .before .before .args .residues .now)) (c .before .before .before .before .before .before .before .before .before .before .before .times .ensures))
     (b0-part (c .before .before .before .before .before .before .before .before .before .before .before .before .before .before .before .args .t) (c .before .before .before .before .before .before .before .before .before .before .before .before .before .before .before .args .slot .now) (7 + c .before .before .before .before .before .before .before .before .before .before .times2 .result) (7 + c .before .before .before .before .before .before .before .before .before .before .times2 .result + c .before .before .before .before .before .before .before .before .before .before .times2 .result) (omega (arith, c .before .before .before .before .before .before .before .before .before .before .times2 .ensures, f .kp-is)) (omega (arith, c .before .before .before .before .before .before .before .before .before .before .times2 .ensures)))
     (f .whole)
 

@@ -3,10 +3,10 @@ use native.Mathlib.Omega.{arith}
 use lib.ListN.{length}
 use borrow.Author.Needs.{needs}
 use Rattle.solver.proofs.Known.{few}
-use Rattle.solver.proofs.Halves.{over-part, share-length}
+use Rattle.solver.proofs.Halves.{share-length}
 use lib.Seq.{length-take-le}
-use Rattle.columns.proofs.Rows.{count-after}
 use Rattle.solver.specs.Formulas.{shareOf}
+use Rattle.checks.proofs.Written.{after-over, over-part}
 use Rattle.solver.proofs.second.write.Statement.{statement}
 use Rattle.solver.proofs.second.write.Tie as tie
 
@@ -20,28 +20,28 @@ find-share-requires : tie.Need-find-share-requires
 find-share-requires c κs = let p = c .before .before .before .before .before .pre .0 in let f = few (c .before .before .before .before .before .args .t) (p .sides) in (p, c .before .before .before .before .before .pre .1, omega (arith, f .mp))
 
 array-share-prefix-share : tie.Need-array-share-prefix-share
-array-share-prefix-share c = let p = c .before .before .before .before .before .before .before .pre .0 in let f = few (c .before .before .before .before .before .before .before .args .t) (p .sides) in let l = share-length (c .before .before .before .before .before .before .before .args .t) (c .before .before .before .before .before .before .before .args .slot .now) (c .before .before .before .before .before .before .before .args .residues .now) (f .whole) in let z = count-after (shareOf (c .before .before .before .before .before .before .before .args .t) (c .before .before .before .before .before .before .before .args .slot .now) (c .before .before .before .before .before .before .before .args .residues .now)) _ (c .before .find-share .ensures) (omega (arith, l, f .mp)) in omega (arith, z, f .mp, c .before .before .before .times .ensures)
+array-share-prefix-share c = let p = c .before .before .before .before .before .before .before .pre .0 in let f = few (c .before .before .before .before .before .before .before .args .t) (p .sides) in let l = share-length (c .before .before .before .before .before .before .before .args .t) (c .before .before .before .before .before .before .before .args .slot .now) (c .before .before .before .before .before .before .before .args .residues .now) (f .whole) in let z = after-over (shareOf (c .before .before .before .before .before .before .before .args .t) (c .before .before .before .before .before .before .before .args .slot .now) (c .before .before .before .before .before .before .before .args .residues .now)) _ (c .before .find-share .ensures) (omega (arith, l, f .mp)) in omega (arith, z, f .mp, c .before .before .before .times .ensures)
 
 slice-aggregate-write-f : tie.Need-slice-aggregate-write-f
-slice-aggregate-write-f c = let p = c .before .before .before .before .before .before .before .before .pre .0 in let f = few (c .before .before .before .before .before .before .before .before .args .t) (p .sides) in let l = share-length (c .before .before .before .before .before .before .before .before .args .t) (c .before .before .before .before .before .before .before .before .args .slot .now) (c .before .before .before .before .before .before .before .before .args .residues .now) (f .whole) in let z = count-after (shareOf (c .before .before .before .before .before .before .before .before .args .t) (c .before .before .before .before .before .before .before .before .args .slot .now) (c .before .before .before .before .before .before .before .before .args .residues .now)) _ (c .before .before .find-share .ensures) (omega (arith, l, f .mp)) in sym (length-take-le _ _ (omega (arith, z, f .mp, c .before .before .before .before .times .ensures)))
+slice-aggregate-write-f c = let p = c .before .before .before .before .before .before .before .before .pre .0 in let f = few (c .before .before .before .before .before .before .before .before .args .t) (p .sides) in let l = share-length (c .before .before .before .before .before .before .before .before .args .t) (c .before .before .before .before .before .before .before .before .args .slot .now) (c .before .before .before .before .before .before .before .before .args .residues .now) (f .whole) in let z = after-over (shareOf (c .before .before .before .before .before .before .before .before .args .t) (c .before .before .before .before .before .before .before .before .args .slot .now) (c .before .before .before .before .before .before .before .before .args .residues .now)) _ (c .before .before .find-share .ensures) (omega (arith, l, f .mp)) in sym (length-take-le _ _ (omega (arith, z, f .mp, c .before .before .before .before .times .ensures)))
 
 write-f-requires : tie.Need-write-f-requires
-write-f-requires c κs = let p = c .before .before .before .before .before .before .before .before .before .pre .0 in let f = few (c .before .before .before .before .before .before .before .before .before .args .t) (p .sides) in let l = share-length (c .before .before .before .before .before .before .before .before .before .args .t) (c .before .before .before .before .before .before .before .before .before .args .slot .now) (c .before .before .before .before .before .before .before .before .before .args .residues .now) (f .whole) in let z = count-after (shareOf (c .before .before .before .before .before .before .before .before .before .args .t) (c .before .before .before .before .before .before .before .before .before .args .slot .now) (c .before .before .before .before .before .before .before .before .before .args .residues .now)) _ (c .before .before .before .find-share .ensures) (omega (arith, l, f .mp)) in let e = over-part (c .before .before .before .before .before .times .result) (shareOf (c .before .before .before .before .before .before .before .before .before .args .t) (c .before .before .before .before .before .before .before .before .before .args .slot .now) (c .before .before .before .before .before .before .before .before .before .args .residues .now)) _ (c .before .before .before .find-share .ensures) (l ∙ sym (c .before .before .before .before .before .times .ensures)) in (p, ap length e ∙ l, c .before .before .before .before .before .before .before .before .before .pre .2)
+write-f-requires c κs = let p = c .before .before .before .before .before .before .before .before .before .pre .0 in let f = few (c .before .before .before .before .before .before .before .before .before .args .t) (p .sides) in let l = share-length (c .before .before .before .before .before .before .before .before .before .args .t) (c .before .before .before .before .before .before .before .before .before .args .slot .now) (c .before .before .before .before .before .before .before .before .before .args .residues .now) (f .whole) in let z = after-over (shareOf (c .before .before .before .before .before .before .before .before .before .args .t) (c .before .before .before .before .before .before .before .before .before .args .slot .now) (c .before .before .before .before .before .before .before .before .before .args .residues .now)) _ (c .before .before .before .find-share .ensures) (omega (arith, l, f .mp)) in let e = over-part (c .before .before .before .before .before .times .result) (shareOf (c .before .before .before .before .before .before .before .before .before .args .t) (c .before .before .before .before .before .before .before .before .before .args .slot .now) (c .before .before .before .before .before .before .before .before .before .args .residues .now)) _ (c .before .before .before .find-share .ensures) (l ∙ sym (c .before .before .before .before .before .times .ensures)) in (p, ap length e ∙ l, c .before .before .before .before .before .before .before .before .before .pre .2)
 
 array-share-prefix-share-2 : tie.Need-array-share-prefix-share-2
-array-share-prefix-share-2 c = let p = c .before .before .before .before .before .before .before .before .before .before .before .before .pre .0 in let f = few (c .before .before .before .before .before .before .before .before .before .before .before .before .args .t) (p .sides) in let l = share-length (c .before .before .before .before .before .before .before .before .before .before .before .before .args .t) (c .before .before .before .before .before .before .before .before .before .before .before .before .args .slot .now) (c .before .before .before .before .before .before .before .before .before .before .before .before .args .residues .now) (f .whole) in let z = count-after (shareOf (c .before .before .before .before .before .before .before .before .before .before .before .before .args .t) (c .before .before .before .before .before .before .before .before .before .before .before .before .args .slot .now) (c .before .before .before .before .before .before .before .before .before .before .before .before .args .residues .now)) _ (c .before .before .before .before .before .before .find-share .ensures) (omega (arith, l, f .mp)) in omega (arith, z, f .mp, c .before .before .before .before .before .before .before .before .times .ensures)
+array-share-prefix-share-2 c = let p = c .before .before .before .before .before .before .before .before .before .before .before .before .pre .0 in let f = few (c .before .before .before .before .before .before .before .before .before .before .before .before .args .t) (p .sides) in let l = share-length (c .before .before .before .before .before .before .before .before .before .before .before .before .args .t) (c .before .before .before .before .before .before .before .before .before .before .before .before .args .slot .now) (c .before .before .before .before .before .before .before .before .before .before .before .before .args .residues .now) (f .whole) in let z = after-over (shareOf (c .before .before .before .before .before .before .before .before .before .before .before .before .args .t) (c .before .before .before .before .before .before .before .before .before .before .before .before .args .slot .now) (c .before .before .before .before .before .before .before .before .before .before .before .before .args .residues .now)) _ (c .before .before .before .before .before .before .find-share .ensures) (omega (arith, l, f .mp)) in omega (arith, z, f .mp, c .before .before .before .before .before .before .before .before .times .ensures)
 
 slice-aggregate-last-column : tie.Need-slice-aggregate-last-column
-slice-aggregate-last-column c = let p = c .before .before .before .before .before .before .before .before .before .before .before .before .before .pre .0 in let f = few (c .before .before .before .before .before .before .before .before .before .before .before .before .before .args .t) (p .sides) in let l = share-length (c .before .before .before .before .before .before .before .before .before .before .before .before .before .args .t) (c .before .before .before .before .before .before .before .before .before .before .before .before .before .args .slot .now) (c .before .before .before .before .before .before .before .before .before .before .before .before .before .args .residues .now) (f .whole) in let z = count-after (shareOf (c .before .before .before .before .before .before .before .before .before .before .before .before .before .args .t) (c .before .before .before .before .before .before .before .before .before .before .before .before .before .args .slot .now) (c .before .before .before .before .before .before .before .before .before .before .before .before .before .args .residues .now)) _ (c .before .before .before .before .before .before .before .find-share .ensures) (omega (arith, l, f .mp)) in sym (length-take-le _ _ (omega (arith, z, f .mp, c .before .before .before .before .before .before .before .before .before .times .ensures)))
+slice-aggregate-last-column c = let p = c .before .before .before .before .before .before .before .before .before .before .before .before .before .pre .0 in let f = few (c .before .before .before .before .before .before .before .before .before .before .before .before .before .args .t) (p .sides) in let l = share-length (c .before .before .before .before .before .before .before .before .before .before .before .before .before .args .t) (c .before .before .before .before .before .before .before .before .before .before .before .before .before .args .slot .now) (c .before .before .before .before .before .before .before .before .before .before .before .before .before .args .residues .now) (f .whole) in let z = after-over (shareOf (c .before .before .before .before .before .before .before .before .before .before .before .before .before .args .t) (c .before .before .before .before .before .before .before .before .before .before .before .before .before .args .slot .now) (c .before .before .before .before .before .before .before .before .before .before .before .before .before .args .residues .now)) _ (c .before .before .before .before .before .before .before .find-share .ensures) (omega (arith, l, f .mp)) in sym (length-take-le _ _ (omega (arith, z, f .mp, c .before .before .before .before .before .before .before .before .before .times .ensures)))
 
 last-column-requires : tie.Need-last-column-requires
-last-column-requires c κs = let p = c .before .before .before .before .before .before .before .before .before .before .before .before .before .pre .0 in let f = few (c .before .before .before .before .before .before .before .before .before .before .before .before .before .args .t) (p .sides) in let l = share-length (c .before .before .before .before .before .before .before .before .before .before .before .before .before .args .t) (c .before .before .before .before .before .before .before .before .before .before .before .before .before .args .slot .now) (c .before .before .before .before .before .before .before .before .before .before .before .before .before .args .residues .now) (f .whole) in let z = count-after (shareOf (c .before .before .before .before .before .before .before .before .before .before .before .before .before .args .t) (c .before .before .before .before .before .before .before .before .before .before .before .before .before .args .slot .now) (c .before .before .before .before .before .before .before .before .before .before .before .before .before .args .residues .now)) _ (c .before .before .before .before .before .before .before .find-share .ensures) (omega (arith, l, f .mp)) in let e = over-part (c .before .before .before .before .before .before .before .before .before .times .result) (shareOf (c .before .before .before .before .before .before .before .before .before .before .before .before .before .args .t) (c .before .before .before .before .before .before .before .before .before .before .before .before .before .args .slot .now) (c .before .before .before .before .before .before .before .before .before .before .before .before .before .args .residues .now)) _ (c .before .before .before .before .before .before .before .find-share .ensures) (l ∙ sym (c .before .before .before .before .before .before .before .before .before .times .ensures)) in (p .sides, ap length e ∙ l)
+last-column-requires c κs = let p = c .before .before .before .before .before .before .before .before .before .before .before .before .before .pre .0 in let f = few (c .before .before .before .before .before .before .before .before .before .before .before .before .before .args .t) (p .sides) in let l = share-length (c .before .before .before .before .before .before .before .before .before .before .before .before .before .args .t) (c .before .before .before .before .before .before .before .before .before .before .before .before .before .args .slot .now) (c .before .before .before .before .before .before .before .before .before .before .before .before .before .args .residues .now) (f .whole) in let z = after-over (shareOf (c .before .before .before .before .before .before .before .before .before .before .before .before .before .args .t) (c .before .before .before .before .before .before .before .before .before .before .before .before .before .args .slot .now) (c .before .before .before .before .before .before .before .before .before .before .before .before .before .args .residues .now)) _ (c .before .before .before .before .before .before .before .find-share .ensures) (omega (arith, l, f .mp)) in let e = over-part (c .before .before .before .before .before .before .before .before .before .times .result) (shareOf (c .before .before .before .before .before .before .before .before .before .before .before .before .before .args .t) (c .before .before .before .before .before .before .before .before .before .before .before .before .before .args .slot .now) (c .before .before .before .before .before .before .before .before .before .before .before .before .before .args .residues .now)) _ (c .before .before .before .before .before .before .before .find-share .ensures) (l ∙ sym (c .before .before .before .before .before .before .before .before .before .times .ensures)) in (p .sides, ap length e ∙ l)
 
 same-length : tie.Need-same-length
 same-length c = search needs
 
 returns : tie.Need-returns
-returns c = let p = c .before .before .before .before .before .before .before .before .before .before .before .before .before .before .pre .0 in let f = few (c .before .before .before .before .before .before .before .before .before .before .before .before .before .before .args .t) (p .sides) in let l = share-length (c .before .before .before .before .before .before .before .before .before .before .before .before .before .before .args .t) (c .before .before .before .before .before .before .before .before .before .before .before .before .before .before .args .slot .now) (c .before .before .before .before .before .before .before .before .before .before .before .before .before .before .args .residues .now) (f .whole) in let z = count-after (shareOf (c .before .before .before .before .before .before .before .before .before .before .before .before .before .before .args .t) (c .before .before .before .before .before .before .before .before .before .before .before .before .before .before .args .slot .now) (c .before .before .before .before .before .before .before .before .before .before .before .before .before .before .args .residues .now)) _ (c .before .before .before .before .before .before .before .before .find-share .ensures) (omega (arith, l, f .mp)) in let e = over-part (c .before .before .before .before .before .before .before .before .before .before .times .result) (shareOf (c .before .before .before .before .before .before .before .before .before .before .before .before .before .before .args .t) (c .before .before .before .before .before .before .before .before .before .before .before .before .before .before .args .slot .now) (c .before .before .before .before .before .before .before .before .before .before .before .before .before .before .args .residues .now)) _ (c .before .before .before .before .before .before .before .before .find-share .ensures) (l ∙ sym (c .before .before .before .before .before .before .before .before .before .before .times .ensures)) in (rw e at (c .last-column .ensures), rw e at (c .before .before .before .before .write-f .ensures))
+returns c = let p = c .before .before .before .before .before .before .before .before .before .before .before .before .before .before .pre .0 in let f = few (c .before .before .before .before .before .before .before .before .before .before .before .before .before .before .args .t) (p .sides) in let l = share-length (c .before .before .before .before .before .before .before .before .before .before .before .before .before .before .args .t) (c .before .before .before .before .before .before .before .before .before .before .before .before .before .before .args .slot .now) (c .before .before .before .before .before .before .before .before .before .before .before .before .before .before .args .residues .now) (f .whole) in let z = after-over (shareOf (c .before .before .before .before .before .before .before .before .before .before .before .before .before .before .args .t) (c .before .before .before .before .before .before .before .before .before .before .before .before .before .before .args .slot .now) (c .before .before .before .before .before .before .before .before .before .before .before .before .before .before .args .residues .now)) _ (c .before .before .before .before .before .before .before .before .find-share .ensures) (omega (arith, l, f .mp)) in let e = over-part (c .before .before .before .before .before .before .before .before .before .before .times .result) (shareOf (c .before .before .before .before .before .before .before .before .before .before .before .before .before .before .args .t) (c .before .before .before .before .before .before .before .before .before .before .before .before .before .before .args .slot .now) (c .before .before .before .before .before .before .before .before .before .before .before .before .before .before .args .residues .now)) _ (c .before .before .before .before .before .before .before .before .find-share .ensures) (l ∙ sym (c .before .before .before .before .before .before .before .before .before .before .times .ensures)) in (rw e at (c .last-column .ensures), rw e at (c .before .before .before .before .write-f .ensures))
 
 pub write-spec : {M : Type 1} → statement M
 write-spec =

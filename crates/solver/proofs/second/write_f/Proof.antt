@@ -3,13 +3,13 @@ use Prim.Native.Nat.{_+_}
 use native.Mathlib.Omega.{arith}
 use borrow.Author.Needs.{needs}
 use Rattle.solver.proofs.Known.{few, solver-size}
-use Rattle.solver.proofs.Halves.{r-part, over-part, f-sent}
+use Rattle.solver.proofs.Halves.{r-part, f-sent}
 use lib.ListN.{length-take, length-drop}
 use lib.Seq.{length-take-le}
 use Rattle.algebra.specs.Columns.{cols}
 use Rattle.algebra.proofs.Columns.{cols-length}
-use Rattle.columns.proofs.Rows.{count-after}
 use Rattle.protocol.specs.Bounds.{columns}
+use Rattle.checks.proofs.Written.{after-over, over-part}
 use Rattle.solver.proofs.second.write_f.Statement.{statement}
 use Rattle.solver.proofs.second.write_f.Tie as tie
 
@@ -56,13 +56,13 @@ part-write-difference-end : tie.Need-part-write-difference-end
 part-write-difference-end c = let p = c .before .before .before .before .before .before .before .before .before .before .before .pre .0 in let f = few (c .before .before .before .before .before .before .before .before .before .before .before .args .t) (p .sides) in omega (arith, solver-size (c .before .before .before .before .before .before .before .before .before .before .before .args .t .m) (c .before .before .before .before .before .before .before .before .before .before .before .args .t .k) (c .before .before .before .before .before .before .before .before .before .before .before .args .t .p), f .kp-is, f .mk-is, c .before .before .before .before .before .before .times .ensures, c .before .before .before .before .before .times2 .ensures, c .before .before .before .before .times3 .ensures, p .half)
 
 array-share-prefix-first : tie.Need-array-share-prefix-first
-array-share-prefix-first c = let p = c .before .before .before .before .before .before .before .before .before .before .before .before .pre .0 in let f = few (c .before .before .before .before .before .before .before .before .before .before .before .before .args .t) (p .sides) in let z = count-after (cols (c .before .before .before .before .before .before .before .before .before .before .before .before .args .t .m) (c .before .before .before .before .before .before .before .before .before .before .before .before .args .t .p) 0 (c .before .before .before .before .before .before .before .before .before .before .before .before .args .t .m) (c .before .before .before .before .before .before .before .before .before .before .before .before .args .share .now)) _ (c .before .before .write-cols .ensures) (omega (arith, cols-length (c .before .before .before .before .before .before .before .before .before .before .before .before .args .t .m) (c .before .before .before .before .before .before .before .before .before .before .before .before .args .t .p) 0 (c .before .before .before .before .before .before .before .before .before .before .before .before .args .t .m) (c .before .before .before .before .before .before .before .before .before .before .before .before .args .share .now), f .mm)) in omega (arith, z, f .mm, c .before .before .before .before .before .before .before .times .ensures)
+array-share-prefix-first c = let p = c .before .before .before .before .before .before .before .before .before .before .before .before .pre .0 in let f = few (c .before .before .before .before .before .before .before .before .before .before .before .before .args .t) (p .sides) in let z = after-over (cols (c .before .before .before .before .before .before .before .before .before .before .before .before .args .t .m) (c .before .before .before .before .before .before .before .before .before .before .before .before .args .t .p) 0 (c .before .before .before .before .before .before .before .before .before .before .before .before .args .t .m) (c .before .before .before .before .before .before .before .before .before .before .before .before .args .share .now)) _ (c .before .before .write-cols .ensures) (omega (arith, cols-length (c .before .before .before .before .before .before .before .before .before .before .before .before .args .t .m) (c .before .before .before .before .before .before .before .before .before .before .before .before .args .t .p) 0 (c .before .before .before .before .before .before .before .before .before .before .before .before .args .t .m) (c .before .before .before .before .before .before .before .before .before .before .before .before .args .share .now), f .mm)) in omega (arith, z, f .mm, c .before .before .before .before .before .before .before .times .ensures)
 
 slice-aggregate-write-difference : tie.Need-slice-aggregate-write-difference
-slice-aggregate-write-difference c = let p = c .before .before .before .before .before .before .before .before .before .before .before .before .before .pre .0 in let f = few (c .before .before .before .before .before .before .before .before .before .before .before .before .before .args .t) (p .sides) in let z = count-after (cols (c .before .before .before .before .before .before .before .before .before .before .before .before .before .args .t .m) (c .before .before .before .before .before .before .before .before .before .before .before .before .before .args .t .p) 0 (c .before .before .before .before .before .before .before .before .before .before .before .before .before .args .t .m) (c .before .before .before .before .before .before .before .before .before .before .before .before .before .args .share .now)) _ (c .before .before .before .write-cols .ensures) (omega (arith, cols-length (c .before .before .before .before .before .before .before .before .before .before .before .before .before .args .t .m) (c .before .before .before .before .before .before .before .before .before .before .before .before .before .args .t .p) 0 (c .before .before .before .before .before .before .before .before .before .before .before .before .before .args .t .m) (c .before .before .before .before .before .before .before .before .before .before .before .before .before .args .share .now), f .mm)) in sym (length-take-le _ _ (omega (arith, z, f .mm, c .before .before .before .before .before .before .before .before .times .ensures)))
+slice-aggregate-write-difference c = let p = c .before .before .before .before .before .before .before .before .before .before .before .before .before .pre .0 in let f = few (c .before .before .before .before .before .before .before .before .before .before .before .before .before .args .t) (p .sides) in let z = after-over (cols (c .before .before .before .before .before .before .before .before .before .before .before .before .before .args .t .m) (c .before .before .before .before .before .before .before .before .before .before .before .before .before .args .t .p) 0 (c .before .before .before .before .before .before .before .before .before .before .before .before .before .args .t .m) (c .before .before .before .before .before .before .before .before .before .before .before .before .before .args .share .now)) _ (c .before .before .before .write-cols .ensures) (omega (arith, cols-length (c .before .before .before .before .before .before .before .before .before .before .before .before .before .args .t .m) (c .before .before .before .before .before .before .before .before .before .before .before .before .before .args .t .p) 0 (c .before .before .before .before .before .before .before .before .before .before .before .before .before .args .t .m) (c .before .before .before .before .before .before .before .before .before .before .before .before .before .args .share .now), f .mm)) in sym (length-take-le _ _ (omega (arith, z, f .mm, c .before .before .before .before .before .before .before .before .times .ensures)))
 
 write-difference-requires : tie.Need-write-difference-requires
-write-difference-requires c κs = let p = c .before .before .before .before .before .before .before .before .before .before .before .before .before .before .pre .0 in let f = few (c .before .before .before .before .before .before .before .before .before .before .before .before .before .before .args .t) (p .sides) in let z = count-after (cols (c .before .before .before .before .before .before .before .before .before .before .before .before .before .before .args .t .m) (c .before .before .before .before .before .before .before .before .before .before .before .before .before .before .args .t .p) 0 (c .before .before .before .before .before .before .before .before .before .before .before .before .before .before .args .t .m) (c .before .before .before .before .before .before .before .before .before .before .before .before .before .before .args .share .now)) _ (c .before .before .before .before .write-cols .ensures) (omega (arith, cols-length (c .before .before .before .before .before .before .before .before .before .before .before .before .before .before .args .t .m) (c .before .before .before .before .before .before .before .before .before .before .before .before .before .before .args .t .p) 0 (c .before .before .before .before .before .before .before .before .before .before .before .before .before .before .args .t .m) (c .before .before .before .before .before .before .before .before .before .before .before .before .before .before .args .share .now), f .mm)) in (p .some-q, simp (length-take, length-drop) (omega (arith, solver-size (c .before .before .before .before .before .before .before .before .before .before .before .before .before .before .args .t .m) (c .before .before .before .before .before .before .before .before .before .before .before .before .before .before .args .t .k) (c .before .before .before .before .before .before .before .before .before .before .before .before .before .before .args .t .p), f .kp-is, f .mk-is, c .before .before .before .before .before .before .before .before .before .times .ensures, c .before .before .before .before .before .before .before .before .times2 .ensures, c .before .before .before .before .before .before .before .times3 .ensures, p .half)), simp length-take (omega (arith, z, f .mm, c .before .before .before .before .before .before .before .before .before .times .ensures)), omega (arith, c .before .before .before .before .before .before .before .before .before .before .before .before .before .before .pre .2, c .before .before .before .before .before .before .before .before .before .times .ensures))
+write-difference-requires c κs = let p = c .before .before .before .before .before .before .before .before .before .before .before .before .before .before .pre .0 in let f = few (c .before .before .before .before .before .before .before .before .before .before .before .before .before .before .args .t) (p .sides) in let z = after-over (cols (c .before .before .before .before .before .before .before .before .before .before .before .before .before .before .args .t .m) (c .before .before .before .before .before .before .before .before .before .before .before .before .before .before .args .t .p) 0 (c .before .before .before .before .before .before .before .before .before .before .before .before .before .before .args .t .m) (c .before .before .before .before .before .before .before .before .before .before .before .before .before .before .args .share .now)) _ (c .before .before .before .before .write-cols .ensures) (omega (arith, cols-length (c .before .before .before .before .before .before .before .before .before .before .before .before .before .before .args .t .m) (c .before .before .before .before .before .before .before .before .before .before .before .before .before .before .args .t .p) 0 (c .before .before .before .before .before .before .before .before .before .before .before .before .before .before .args .t .m) (c .before .before .before .before .before .before .before .before .before .before .before .before .before .before .args .share .now), f .mm)) in (p .some-q, simp (length-take, length-drop) (omega (arith, solver-size (c .before .before .before .before .before .before .before .before .before .before .before .before .before .before .args .t .m) (c .before .before .before .before .before .before .before .before .before .before .before .before .before .before .args .t .k) (c .before .before .before .before .before .before .before .before .before .before .before .before .before .before .args .t .p), f .kp-is, f .mk-is, c .before .before .before .before .before .before .before .before .before .times .ensures, c .before .before .before .before .before .before .before .before .times2 .ensures, c .before .before .before .before .before .before .before .times3 .ensures, p .half)), simp length-take (omega (arith, z, f .mm, c .before .before .before .before .before .before .before .before .before .times .ensures)), omega (arith, c .before .before .before .before .before .before .before .before .before .before .before .before .before .before .pre .2, c .before .before .before .before .before .before .before .before .before .times .ensures))
 
 same-length : tie.Need-same-length
 same-length c = search needs

@@ -1,7 +1,7 @@
 -- `tape::tests/left_size` meets its contract: the counts of its two matrices. Assumes nothing.
 use native.Mathlib.Omega.{arith}
 use borrow.Author.Needs.{needs}
-use Rattle.tape.proofs.Known.{left-count}
+use Rattle.checks.proofs.Place.{left-size}
 use Rattle.tape.proofs.tests.left_size.Statement.{statement}
 use Rattle.tape.proofs.tests.left_size.Tie as tie
 
@@ -18,7 +18,7 @@ add-result-2 : tie.Need-add-result-2
 add-result-2 c = search needs
 
 returns : tie.Need-returns
-returns c = omega (arith, left-count (c .before .before .args .m) (c .before .before .args .k) (c .before .before .args .p))
+returns c = omega (arith, left-size (c .before .before .args .m) (c .before .before .args .k) (c .before .before .args .p))
 
 pub left-size-spec : {M : Type 1} → statement M
 left-size-spec =

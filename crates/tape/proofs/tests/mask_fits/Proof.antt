@@ -2,13 +2,12 @@
 use mathlib.Core.Path.{ap, _∙_}
 use Prim.Native.Nat.{_*_}
 use native.Mathlib.Omega.{arith}
-use lib.ListN.{drop}
+use lib.ListN.{drop, length-take}
 use borrow.Author.Needs.{needs}
-use lib.ListN.{length-take}
 use Rattle.algebra.specs.Elimination.{regular}
 use Rattle.tape.proofs.Known.{square-few}
-use Rattle.tape.proofs.Words.{tail-part}
 use Rattle.tape.proofs.Systems.{mask-buffer, mask-residues}
+use Rattle.checks.proofs.Written.{tail-part}
 use Rattle.tape.proofs.tests.mask_fits.Statement.{statement}
 use Rattle.tape.proofs.tests.mask_fits.Tie as tie
 

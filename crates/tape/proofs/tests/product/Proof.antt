@@ -9,7 +9,8 @@ use Rattle.protocol.specs.Bounds.{product}
 use Rattle.protocol.specs.Deal.{productRequest}
 use Rattle.tape.proofs.Sorted.{deal-judged}
 use Rattle.tape.proofs.Words.{slot-status}
-use Rattle.tape.proofs.Known.{numbers-passed, shape-masks, left-count}
+use Rattle.tape.proofs.Known.{numbers-passed, shape-masks}
+use Rattle.checks.proofs.Place.{left-size}
 use Rattle.tape.proofs.tests.product.Statement.{statement}
 use Rattle.tape.proofs.tests.product.Tie as tie
 
@@ -35,7 +36,7 @@ mul-product-words c = let s = numbers-passed product (c .before .before .before 
 
 shared-slice-read-product-words : tie.Need-shared-slice-read-product-words
 shared-slice-read-product-words c = let s = numbers-passed product (c .before .before .before .before .before .before .before .args .tape .0) (c .before .before .before .before .before .before .before .args .q) (c .before .before .before .before .before .before .before .args .m) (c .before .before .before .before .before .before .before .args .k) (c .before .before .before .before .before .before .before .args .p) (length (c .before .before .before .before .before .before .before .args .first .now)) (length (c .before .before .before .before .before .before .before .args .second .now)) (c .before .before .before .before .before .before .before .args .size) (c .before .before .before .before .before .before .before .args .index) (sym (c .before .before .before .product-numbers .ensures) ∙ ap checked (c .before .enum-told .given .1)) in
-    omega (arith, s .left .inside, s .left .room, left-count (c .before .before .before .before .before .before .before .args .m) (c .before .before .before .before .before .before .before .args .k) (c .before .before .before .before .before .before .before .args .p))
+    omega (arith, s .left .inside, s .left .room, left-size (c .before .before .before .before .before .before .before .args .m) (c .before .before .before .before .before .before .before .args .k) (c .before .before .before .before .before .before .before .args .p))
 
 mul-product-words-2 : tie.Need-mul-product-words-2
 mul-product-words-2 c = let s = numbers-passed product (c .before .before .before .before .before .before .before .args .tape .0) (c .before .before .before .before .before .before .before .args .q) (c .before .before .before .before .before .before .before .args .m) (c .before .before .before .before .before .before .before .args .k) (c .before .before .before .before .before .before .before .args .p) (length (c .before .before .before .before .before .before .before .args .first .now)) (length (c .before .before .before .before .before .before .before .args .second .now)) (c .before .before .before .before .before .before .before .args .size) (c .before .before .before .before .before .before .before .args .index) (sym (c .before .before .before .product-numbers .ensures) ∙ ap checked (c .before .enum-told .given .1)) in
@@ -43,7 +44,7 @@ mul-product-words-2 c = let s = numbers-passed product (c .before .before .befor
 
 shared-slice-read-product-words-2 : tie.Need-shared-slice-read-product-words-2
 shared-slice-read-product-words-2 c = let s = numbers-passed product (c .before .before .before .before .before .before .before .before .args .tape .0) (c .before .before .before .before .before .before .before .before .args .q) (c .before .before .before .before .before .before .before .before .args .m) (c .before .before .before .before .before .before .before .before .args .k) (c .before .before .before .before .before .before .before .before .args .p) (length (c .before .before .before .before .before .before .before .before .args .first .now)) (length (c .before .before .before .before .before .before .before .before .args .second .now)) (c .before .before .before .before .before .before .before .before .args .size) (c .before .before .before .before .before .before .before .before .args .index) (sym (c .before .before .before .before .product-numbers .ensures) ∙ ap checked (c .before .before .enum-told .given .1)) in
-    omega (arith, s .right .inside, s .left .room, left-count (c .before .before .before .before .before .before .before .before .args .m) (c .before .before .before .before .before .before .before .before .args .k) (c .before .before .before .before .before .before .before .before .args .p))
+    omega (arith, s .right .inside, s .left .room, left-size (c .before .before .before .before .before .before .before .before .args .m) (c .before .before .before .before .before .before .before .before .args .k) (c .before .before .before .before .before .before .before .before .args .p))
 
 product-words-requires : tie.Need-product-words-requires
 product-words-requires c κs = let s = numbers-passed product (c .before .before .before .before .before .before .before .before .args .tape .0) (c .before .before .before .before .before .before .before .before .args .q) (c .before .before .before .before .before .before .before .before .args .m) (c .before .before .before .before .before .before .before .before .args .k) (c .before .before .before .before .before .before .before .before .args .p) (length (c .before .before .before .before .before .before .before .before .args .first .now)) (length (c .before .before .before .before .before .before .before .before .args .second .now)) (c .before .before .before .before .before .before .before .before .args .size) (c .before .before .before .before .before .before .before .before .args .index) (sym (c .before .before .before .before .product-numbers .ensures) ∙ ap checked (c .before .before .enum-told .given .1)) in
@@ -52,7 +53,7 @@ product-words-requires c κs = let s = numbers-passed product (c .before .before
 
 returns-2 : tie.Need-returns-2
 returns-2 c = let s = numbers-passed product (c .before .before .before .before .before .before .before .before .before .args .tape .0) (c .before .before .before .before .before .before .before .before .before .args .q) (c .before .before .before .before .before .before .before .before .before .args .m) (c .before .before .before .before .before .before .before .before .before .args .k) (c .before .before .before .before .before .before .before .before .before .args .p) (length (c .before .before .before .before .before .before .before .before .before .args .first .now)) (length (c .before .before .before .before .before .before .before .before .before .args .second .now)) (c .before .before .before .before .before .before .before .before .before .args .size) (c .before .before .before .before .before .before .before .before .before .args .index) (sym (c .before .before .before .before .before .product-numbers .ensures) ∙ ap checked (c .before .before .before .enum-told .given .1)) in
-    let some : 0 < c .before .before .before .before .before .before .before .before .before .args .size = omega (arith, s .left .room, left-count (c .before .before .before .before .before .before .before .before .before .args .m) (c .before .before .before .before .before .before .before .before .before .args .k) (c .before .before .before .before .before .before .before .before .before .args .p)) in
+    let some : 0 < c .before .before .before .before .before .before .before .before .before .args .size = omega (arith, s .left .room, left-size (c .before .before .before .before .before .before .before .before .before .args .m) (c .before .before .before .before .before .before .before .before .before .args .k) (c .before .before .before .before .before .before .before .before .before .args .p)) in
     rw (deal-judged (c .before .before .before .before .before .before .before .before .before .args .first .now) (c .before .before .before .before .before .before .before .before .before .args .second .now) (c .before .before .before .before .before .before .before .before .before .args .size) (c .before .before .before .before .before .before .before .before .before .args .index) (productRequest (c .before .before .before .before .before .before .before .before .before .args .tape) (c .before .before .before .before .before .before .before .before .before .args .q) (c .before .before .before .before .before .before .before .before .before .args .m) (c .before .before .before .before .before .before .before .before .before .args .k) (c .before .before .before .before .before .before .before .before .before .args .p) (c .before .before .before .before .before .before .before .before .before .args .words .now)), sym (c .before .before .before .before .before .product-numbers .ensures) ∙ ap checked (c .before .before .before .enum-told .given .1))
     (rw (slot-status (c .before .before .before .before .before .before .before .before .before .args .first .now) (c .before .before .before .before .before .before .before .before .before .args .size) (c .before .before .before .before .before .before .before .before .before .args .index) some, slot-status (c .before .before .before .before .before .before .before .before .before .args .second .now) (c .before .before .before .before .before .before .before .before .before .args .size) (c .before .before .before .before .before .before .before .before .before .args .index) some) at (c .product-words .ensures))
 

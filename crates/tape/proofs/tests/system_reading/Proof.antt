@@ -4,9 +4,9 @@ use Prim.Native.Nat.{_+_, _*_}
 use native.Mathlib.Omega.{arith}
 use borrow.Author.Needs.{needs}
 use Rattle.tape.proofs.Known.{square-few, side-few}
-use Rattle.tape.proofs.Words.{tail-part}
 use Rattle.drawing.proofs.Then.{read-few}
 use Rattle.tape.proofs.Systems.{dry-first, dry-second, enough-both, first-read}
+use Rattle.checks.proofs.Written.{tail-part}
 use Rattle.tape.proofs.tests.system_reading.Statement.{statement}
 use Rattle.tape.proofs.tests.system_reading.Tie as tie
 

@@ -1,10 +1,9 @@
 -- `tape::write/draw_next` meets its contract: the parts that are lent are tails. Assumes nothing.
 use native.Mathlib.Omega.{arith}
-use lib.ListN.{drop}
+use lib.ListN.{drop, length-take, length-drop}
 use borrow.Author.Needs.{needs}
-use lib.ListN.{length-take, length-drop}
-use Rattle.tape.proofs.Words.{tail-part, part-written}
 use Rattle.drawing.proofs.Then.{read-few}
+use Rattle.checks.proofs.Written.{tail-part, part-written}
 use Rattle.tape.proofs.write.draw_next.Statement.{statement}
 use Rattle.tape.proofs.write.draw_next.Tie as tie
 

@@ -2,14 +2,13 @@
 use mathlib.Core.Path.{_≡_, ap, _∙_}
 use Prim.Native.Nat.{ℕ, _+_, _*_, _≤_}
 use native.Mathlib.Omega.{arith}
-use lib.ListN.{length, drop}
+use lib.ListN.{length, drop, length-drop}
 use borrow.Author.Needs.{needs}
 use Rattle.drawing.proofs.Then.{read-few, next-inside, next-left, next-read, residues-after}
 use Rattle.protocol.specs.Drawing.{residuesOf}
-use lib.ListN.{length-drop}
-use Rattle.tape.proofs.Words.{tail-part}
 use Rattle.tape.proofs.Known.{system-masks}
 use Rattle.tape.proofs.Systems.{system-first, system-second}
+use Rattle.checks.proofs.Written.{tail-part}
 use Rattle.tape.proofs.write.system.Statement.{statement}
 use Rattle.tape.proofs.write.system.Tie as tie
 

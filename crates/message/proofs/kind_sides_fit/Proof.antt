@@ -1,12 +1,8 @@
-use mathlib.Core.Path.{_≡_, refl, sym, ap, _∙_}
-use mathlib.Core.List.{List, _++_}
-use Prim.Native.Nat.{ℕ, _+_, _*_, _-_, _/_, _%_, _≤_, _<_}
-use native.Mathlib.Omega.{arith}
-use lib.ListN.{length, getD, set, take, drop}
+-- `message::kind_sides_fit` meets its contract: by the sort of the kind. Assumes nothing.
 use borrow.Author.Needs.{needs}
-use Rattle.session.proofs.Shape.{product-kind, system-kind, sides-of, side-fits, few, ids-fit, size-1, size-2, size-3, size-4, size-5}
-use Rattle.session.proofs.numbers.kind_sides_fit.Statement.{statement}
-use Rattle.session.proofs.numbers.kind_sides_fit.Tie as tie
+use Rattle.message.proofs.KindLaws.{product-kind, system-kind}
+use Rattle.message.proofs.kind_sides_fit.Statement.{statement}
+use Rattle.message.proofs.kind_sides_fit.Tie as tie
 
 sides-fit-requires : tie.Need-sides-fit-requires
 sides-fit-requires c κs = search needs

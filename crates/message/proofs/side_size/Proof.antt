@@ -1,11 +1,12 @@
+-- `message::side_size` meets its contract: m times what is left of p, or none. Assumes nothing.
 use mathlib.Core.Path.{_≡_}
 use Prim.Native.Nat.{_-_}
 use native.Mathlib.Omega.{arith}
 use borrow.Author.Needs.{needs}
 use Rattle.protocol.specs.System.{sideSize}
 use Rattle.protocol.specs.Bounds.{columns}
-use Rattle.solver.proofs.side_size.Statement.{statement}
-use Rattle.solver.proofs.side_size.Tie as tie
+use Rattle.message.proofs.side_size.Statement.{statement}
+use Rattle.message.proofs.side_size.Tie as tie
 
 returns : tie.Need-returns
 unfolding sideSize columns
