@@ -1,6 +1,7 @@
 // Matrices modulo q, stored row by row in slices of words. Results are written over the first words of a lent slice;
 // the words past the count keep their value.
 //   Matrix   a matrix's sides, and the bounds of 01 on them
+//   rest     the rest of a division, mostly without one
 //   entries  sum, difference, negative, copy and zeros, entry by entry
 //   sum      a sum of products that may pass 64 bits
 //   inner    the inner product
@@ -10,6 +11,7 @@ pub mod entries;
 pub mod formula;
 pub mod inner;
 pub mod product;
+pub mod rest;
 pub mod sum;
 
 pub use entries::add_to;
