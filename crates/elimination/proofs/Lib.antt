@@ -1,11 +1,9 @@
 -- Laws for the proofs of the functions.
--- Prepared  a product by a prepared multiplier (`times-below`, `times-small`, `times-rest`)
 -- Fill      loops that store one element of an array after the other (`Filled`, `Stored`)
 -- Rows      the row operations as stores, the search for a pivot as a loop, and that residues stay residues
 -- Agree     steps on matrices that agree in part; which pivots are found (`found-agreed`)
 -- Turns     the loops over the columns, turn by turn
 -- Loading   words to the array and back
-pub mod Prepared
 pub mod Fill
 pub mod Rows
 pub mod Agree
