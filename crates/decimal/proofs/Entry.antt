@@ -18,7 +18,7 @@ use Rattle.protocol.specs.Line.{numbersOf, numbersInto}
 use Rattle.protocol.proofs.Judge.{accepts}
 use Rattle.decimal.specs.declared.Tally.{Tally}
 use Rattle.decimal.specs.declared.Tally.the-variants as tally
-use Rattle.decimal.specs.Reading.{Stored, Tallied}
+use Rattle.decimal.specs.Reading.{Stored, TalliedBehind, Tallied}
 
 -- words stored from the start on stand over what was there
 pub sets-over : (xs out : List ℕ) → length xs ≤ length out → sets out 0 xs ≡ over xs out
@@ -32,12 +32,13 @@ module _ (o : Option (List ℕ)) (before after : List ℕ) (r : Tally) where
   pub told : (n : ℕ) → Tallied o before after r → r ≡ tally.Numbers n → Stored o n before after
   told n t e = subst (Tallied o before after) e t
 
-pub stored : (o : Option (List ℕ)) (xs before after : List ℕ) (r : Tally) → o ≡ some xs → Tallied o before after r → after ≡ sets before 0 xs
-stored o xs before after (tally.Numbers n) e t = let same : t .values ≡ xs = cc (t .reads) in t .stores ∙ ap (sets before 0) same
-stored o xs before after tally.Wrong e t = absurd (let z : _≡_ {A = ℕ} 0 1 = cc in omega arith)
+pub stored-behind : (skip : ℕ) (o : Option (List ℕ)) (xs before after : List ℕ) (r : Tally) → o ≡ some xs → TalliedBehind skip o before after r
+    → after ≡ sets before 0 (drop skip xs)
+stored-behind skip o xs before after (tally.Numbers n) e t = let same : t .values ≡ xs = cc (t .reads) in t .stores ∙ ap (λ (l : List ℕ). sets before 0 (drop skip l)) same
+stored-behind skip o xs before after tally.Wrong e t = absurd (let z : _≡_ {A = ℕ} 0 1 = cc in omega arith)
 
-pub tallied-as : (o p : Option (List ℕ)) (before after : List ℕ) (r : Tally) → o ≡ p → Tallied p before after r → Tallied o before after r
-tallied-as o p before after r e t = subst (λ (x : Option (List ℕ)). Tallied x before after r) (sym e) t
+pub tallied-as : (skip : ℕ) (o p : Option (List ℕ)) (before after : List ℕ) (r : Tally) → o ≡ p → TalliedBehind skip p before after r → TalliedBehind skip o before after r
+tallied-as skip o p before after r e t = subst (λ (x : Option (List ℕ)). TalliedBehind skip x before after r) (sym e) t
 
 -- ---- the entry
 

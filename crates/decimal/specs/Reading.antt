@@ -2,7 +2,7 @@
 --   grow       a run of digits with the next byte
 --   Ran        a run that has been read as far as it goes
 --   Finds      the number at a position
---   Tallied    the numbers of a line, stored as far as there is room
+--   Tallied    the numbers of a line, stored as far as there is room; TalliedBehind: without the first
 --   countOf, countNumber, wordsAfter   what the entry `numbers` answers and leaves
 -- Assumes nothing.
 use Prim.Native.Nat.{ℕ, _+_, _*_, _-_, _^_, _≤_, _<_}
@@ -11,7 +11,7 @@ use mathlib.Core.Bool.{cond}
 use mathlib.Core.List.{List, [], _∷_}
 use mathlib.Core.Option.{Option, some, none}
 use lib.Dec.{ltb}
-use lib.ListN.{length, getD, drop}
+use lib.ListN.{length, getD, set, drop}
 use lib.Seq.{sets}
 use Rattle.algebra.specs.Words.{over}
 use Rattle.protocol.specs.declared.Numeral.{Numeral}
@@ -56,16 +56,27 @@ abbrev pub Finds : Numeral → List ℕ → ℕ → Found → Type 0
 Finds f s i (Number v j) = (numbers f (drop i s) ≡ prepend v (numbers numeral.Empty (drop j s))) × (i < j) × (j ≤ length s)
 Finds f s i Wrong = numbers f (drop i s) ≡ none
 
--- n numbers, stored from the start of `before` on as far as there is room
-pub record Stored (o : Option (List ℕ)) (n : ℕ) (before after : List ℕ) : Type 0 where
+-- the word of the number at index n, where the first `skip` are not stored
+unfoldable pub setBehind : ℕ → List ℕ → ℕ → ℕ → List ℕ
+setBehind skip l n v = cond (ltb n skip) l (set l (n - skip) v)
+
+-- n numbers, those behind the first `skip` stored from the start of `before` on as far as there is room
+pub record StoredBehind (skip : ℕ) (o : Option (List ℕ)) (n : ℕ) (before after : List ℕ) : Type 0 where
   pub values : List ℕ
   pub reads : o ≡ some values
   pub count : n ≡ length values
-  pub stores : after ≡ sets before 0 values
+  pub stores : after ≡ sets before 0 (drop skip values)
+
+abbrev pub TalliedBehind : ℕ → Option (List ℕ) → (before after : List ℕ) → Tally → Type 0
+TalliedBehind skip o before after (tally.Numbers n) = StoredBehind skip o n before after
+TalliedBehind skip o before after tally.Wrong = o ≡ none
+
+-- all of them stored
+abbrev pub Stored : Option (List ℕ) → ℕ → (before after : List ℕ) → Type 0
+Stored = StoredBehind 0
 
 abbrev pub Tallied : Option (List ℕ) → (before after : List ℕ) → Tally → Type 0
-Tallied o before after (tally.Numbers n) = Stored o n before after
-Tallied o before after tally.Wrong = o ≡ none
+Tallied = TalliedBehind 0
 
 -- ---- the entry `numbers`
 

@@ -1,6 +1,7 @@
 // Lines of 32-bit numbers in decimal, parted by commas and ended by byte 10: from bytes to words and back.
 //   numbers      the entry that reads a line of numbers
 //   load         a line's numbers into the engine's own words, in one pass over the bytes
+//   load_behind  the same without the first numbers
 //   put_numbers  a run of numbers as bytes, in one pass over the numbers
 //   line_length  how many bytes a run of numbers takes
 use protocol::Refusal;
@@ -11,7 +12,7 @@ ghost use lib.ListN.{length, set};
 ghost use lib.Seq.{sets};
 ghost use Rattle.protocol.specs.declared.Numeral.the-variants.{Empty, Value};
 ghost use Rattle.protocol.specs.Line.{endByte, decimal, line, numbers, numbersOf, numbersInto};
-ghost use Rattle.decimal.specs.Reading.{grow, Ended, Ran, Stops, Finds, Tallied, countOf, wordsAfter};
+ghost use Rattle.decimal.specs.Reading.{grow, Ended, Ran, Stops, Finds, setBehind, TalliedBehind, Tallied, countOf, wordsAfter};
 ghost use Rattle.decimal.specs.Writing.{digitAt, high, lineBefore};
 
 // ---- reading
@@ -130,10 +131,20 @@ fn put_word(out: &mut [u32], at: usize, value: u32)
     }
 }
 
-// The numbers of a line's bytes, as many of them stored as there is room for.
-fn scan(s: &[u8], out: &mut [u32]) -> Tally
+// The number at index n of a line whose first `skip` are not stored.
+fn put_behind(out: &mut [u32], skip: usize, n: usize, value: u32)
+    ensures { λ _. ⌜ now (out .exit) ≡ setBehind skip (now (out .entry)) n value ⌝ }
+{
+    if n < skip {
+        return;
+    }
+    put_word(out, n - skip, value);
+}
+
+// The numbers of a line's bytes; those behind the first `skip` are stored, as many as there is room for.
+fn scan(s: &[u8], skip: usize, out: &mut [u32]) -> Tally
     requires { ⌜ Ended (now s) ⌝ }
-    ensures { λ r. ⌜ Tallied (numbers Empty (now (s .entry))) (now (out .entry)) (now (out .exit)) r ⌝ }
+    ensures { λ r. ⌜ TalliedBehind skip (numbers Empty (now (s .entry))) (now (out .entry)) (now (out .exit)) r ⌝ }
 {
     let mut n: usize = 0;
     let mut i: usize = 0;
@@ -142,16 +153,16 @@ fn scan(s: &[u8], out: &mut [u32]) -> Tally
         let Found::Number(v, next) = found else {
             return Tally::Wrong;
         };
-        put_word(out, n, v);
+        put_behind(out, skip, n, v);
         n += 1;
         i = next;
     }
     Tally::Numbers(n)
 }
 
-// The numbers of a whole line, of at most 65,536 bytes, as many of them stored as there is room for.
-pub fn load(s: &[u8], out: &mut [u32]) -> Tally
-    ensures { λ r. ⌜ Tallied (numbersOf (now (s .entry))) (now (out .entry)) (now (out .exit)) r ⌝ }
+// The numbers of a whole line, of at most 65,536 bytes; those behind the first `skip` are stored, as many as there is room for.
+pub fn load_behind(s: &[u8], skip: usize, out: &mut [u32]) -> Tally
+    ensures { λ r. ⌜ TalliedBehind skip (numbersOf (now (s .entry))) (now (out .entry)) (now (out .exit)) r ⌝ }
 {
     let n = s.len();
     if n == 0 {
@@ -163,7 +174,14 @@ pub fn load(s: &[u8], out: &mut [u32]) -> Tally
     if s[n - 1] != 10 {
         return Tally::Wrong;
     }
-    scan(s, out)
+    scan(s, skip, out)
+}
+
+// The numbers of a whole line, as many of them stored as there is room for.
+pub fn load(s: &[u8], out: &mut [u32]) -> Tally
+    ensures { λ r. ⌜ Tallied (numbersOf (now (s .entry))) (now (out .entry)) (now (out .exit)) r ⌝ }
+{
+    load_behind(s, 0, out)
 }
 
 // Reads a line of numbers into a lent slice. Refused by 1, or by 4 where the slice is too short; nothing is stored then.

@@ -13,11 +13,11 @@ use borrow.Author.Tests.{le-leb, lt-leb, leb-true}
 use Rattle.algebra.specs.Count.{both}
 use Rattle.protocol.specs.declared.Head.{Head}
 use Rattle.protocol.specs.declared.Refusal.{Refusal}
-use Rattle.protocol.specs.declared.Refusal.the-variants.{Form, Size}
+use Rattle.protocol.specs.declared.Refusal.the-variants.{Form}
 use Rattle.protocol.specs.Judge.{Test, needs, refused, done, clear, judgeBy, judge}
 use Rattle.protocol.specs.Bounds.{within, shapeTests, termsTests, inputTests, roomTests}
 use Rattle.protocol.specs.Message.{Message, messageTests}
-use Rattle.protocol.specs.Line.{numbersOf, messageFrom, messageLine, mostSent, parseInto, readInto, writeInto, readTests, writeTests}
+use Rattle.protocol.specs.Line.{numbersOf, messageFrom, messageLine, parseInto, readInto, writeInto, readTests, writeTests}
 use Rattle.checks.specs.InOrder.{checked, inOrder, only, sortedBy, sorted, verdict, judged}
 use Rattle.checks.specs.declared.Check.{Check}
 use Rattle.checks.specs.declared.Check.the-variants as check
@@ -59,7 +59,6 @@ abbrev parseTests : ℕ → List ℕ → List Test
 parseTests room xs =
     needs Form (leb 7 (length xs))
     ∷ needs Form (within 1 5 (getD xs 0 0))
-    ∷ needs Size (leb (length (drop 7 xs)) mostSent)
     ∷ roomTests (length (drop 7 xs)) room
 
 module _ (room : ℕ) (s xs : List ℕ) (e : numbersOf s ≡ some xs) (h : 7 ≤ length xs) where
@@ -83,9 +82,9 @@ module _ (room : ℕ) (s xs : List ℕ) (e : numbersOf s ≡ some xs) (h : 7 ≤
   unfolding parseInto
   parse-done v = rw e (accepted-by (parseTests room xs) (messageFrom xs) (parse-judged ∙ v))
 
-pub parse-passed : (kind count room : ℕ) → verdict (parseOrder kind count room) ≡ done tt → (count ≤ mostSent) × (count ≤ room)
+pub parse-passed : (kind count room : ℕ) → verdict (parseOrder kind count room) ≡ done tt → count ≤ room
 unfolding parseOrder
-parse-passed kind count room e = let a = verdict-all _ e in (leb-true count mostSent (a .1 .0), leb-true count room (a .1 .1 .0))
+parse-passed kind count room e = leb-true count room (verdict-all _ e .1 .0)
 
 module _ (room : ℕ) (a : Message) where
   pub write-refused : (r : Refusal) → verdict (inSize (a .head) (a .residues) (length (messageLine a)) room) ≡ refused r → writeInto room a ≡ refused r

@@ -10,11 +10,10 @@ use Rattle.protocol.specs.declared.Head.{Head}
 use Rattle.protocol.specs.declared.Refusal.the-variants.{Form, Size, Residue}
 use Rattle.protocol.specs.Judge.{Test, needs}
 use Rattle.protocol.specs.Bounds.{within, allBelow}
-use Rattle.protocol.specs.Line.{mostSent}
 use Rattle.message.specs.Groups.{headTests}
 
 unfoldable pub parseOrder : (kind count room : ℕ) → List Test
-parseOrder kind count room = needs Form (within 1 5 kind) ∷ needs Size (leb count mostSent) ∷ needs Size (leb count room) ∷ []
+parseOrder kind count room = needs Form (within 1 5 kind) ∷ needs Size (leb count room) ∷ []
 
 unfoldable pub restTests : (q : ℕ) → (residues : List ℕ) → (need room : ℕ) → List Test
 restTests q residues need room = needs Size (leb need room) ∷ needs Residue (allBelow q residues) ∷ []

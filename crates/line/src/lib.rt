@@ -12,11 +12,12 @@ use protocol::TapeId;
 use protocol::Terms;
 ghost use mathlib.Core.Path.{_≡_};
 ghost use mathlib.Core.List.{List};
+ghost use mathlib.Core.Option.{some};
 ghost use Prim.Native.Nat.{ℕ, _+_, _≤_};
 ghost use lib.ListN.{length, take, drop};
 ghost use Rattle.algebra.specs.Words.{over};
 ghost use Rattle.protocol.specs.Message.{Message};
-ghost use Rattle.protocol.specs.Line.{messageFrom, messageLine, parseInto, readInto, writeInto, mostSent};
+ghost use Rattle.protocol.specs.Line.{numbersOf, messageFrom, messageLine, parseInto, readInto, writeInto, mostSent};
 ghost use Rattle.checks.specs.InOrder.{checked, verdict};
 ghost use Rattle.line.specs.Entries.{receivedOf, residuesAfter, receivedBy, writtenOf, bytesAfter, writtenBy, messageWith, headNumbers};
 ghost use Rattle.line.specs.Order.{parseOrder, restTests, inSize};
@@ -66,6 +67,18 @@ fn put_residues(words: &[u32], count: usize, out: &mut [u32])
     }
 }
 
+// The residues of the line xs, stored; they stand in the words behind the head where there is room for so many, and else the line is read again.
+fn store(s: &[u8], words: &[u32], count: usize, out: &mut [u32])
+    requires { ⌜ (length (now words) ≡ 3079) × (count ≤ length (now out)) ⌝ }
+    ensures { λ _. ⌜ ((xs : List ℕ) → numbersOf (now (s .entry)) ≡ some xs → length (drop 7 xs) ≡ count → (count ≤ mostSent → take count (drop 7 (now (words .entry))) ≡ drop 7 xs) → now (out .exit) ≡ over (drop 7 xs) (now (out .entry))) ⌝ }
+{
+    if count <= 3072 {
+        put_residues(words, count, out);
+        return;
+    }
+    decimal::load_behind(s, 7, out);
+}
+
 // A refusal, handed on.
 fn refused(c: Check) -> Received
     ensures { λ r. ⌜ r ≡ receivedBy c ⌝ }
@@ -82,9 +95,6 @@ fn check_form(kind: u32, count: usize, room: usize) -> Check
 {
     if !message::kind_known(kind) {
         return Check::Refused(Refusal::Form);
-    }
-    if 3072 < count {
-        return Check::Refused(Refusal::Size);
     }
     if room < count {
         return Check::Refused(Refusal::Size);
@@ -138,7 +148,7 @@ pub fn parse(s: &[u8], out: &mut [u32]) -> Received
     let Check::Passed = check else {
         return refused(check);
     };
-    put_residues(&words, count, out);
+    store(s, &words, count, out);
     Received::Message(head, count)
 }
 

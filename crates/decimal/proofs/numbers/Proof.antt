@@ -4,7 +4,7 @@ use Prim.Native.Nat.{_≤_}
 use native.Mathlib.Omega.{arith}
 use lib.ListN.{length, replicate}
 use borrow.Author.Needs.{needs}
-use Rattle.decimal.proofs.Entry.{into-none, into-short, into-done, told, told-wrong, stored, sets-over}
+use Rattle.decimal.proofs.Entry.{into-none, into-short, into-done, told, told-wrong, stored-behind, sets-over}
 use Rattle.protocol.specs.Line.{numbersOf}
 use Rattle.decimal.specs.declared.Count.the-variants as count
 use Rattle.decimal.proofs.numbers.Statement.{statement}
@@ -35,7 +35,7 @@ same-length : tie.Need-same-length
 same-length c = search needs
 
 returns-3 : tie.Need-returns-3
-returns-3 c = let s = c .before .before .before .before .before .before .before .before .before .before .before .before .before .args .s .now in let out = c .before .before .before .before .before .before .before .before .before .before .before .before .before .args .out .now in let t = told (numbersOf s) (replicate 1 0) _ (c .before .before .before .before .before .before .before .before .before .load .result) _ (c .before .before .before .before .before .before .before .before .before .load .ensures) (c .before .before .before .before .before .before .first .given .1) in let h : length (t .values) ≤ length out = omega (arith, t .count, c .before .before .before .before .if1 .left) in let e = into-done (length out) s (t .values) (t .reads) h in rw e (ap count.Words (t .count), stored (numbersOf s) (t .values) out (c .before .before .load2 .last .1 .0) (c .before .before .load2 .result) (t .reads) (c .before .before .load2 .ensures) ∙ sets-over (t .values) out h)
+returns-3 c = let s = c .before .before .before .before .before .before .before .before .before .before .before .before .before .args .s .now in let out = c .before .before .before .before .before .before .before .before .before .before .before .before .before .args .out .now in let t = told (numbersOf s) (replicate 1 0) _ (c .before .before .before .before .before .before .before .before .before .load .result) _ (c .before .before .before .before .before .before .before .before .before .load .ensures) (c .before .before .before .before .before .before .first .given .1) in let h : length (t .values) ≤ length out = omega (arith, t .count, c .before .before .before .before .if1 .left) in let e = into-done (length out) s (t .values) (t .reads) h in rw e (ap count.Words (t .count), stored-behind 0 (numbersOf s) (t .values) out (c .before .before .load2 .last .1 .0) (c .before .before .load2 .result) (t .reads) (c .before .before .load2 .ensures) ∙ sets-over (t .values) out h)
 
 pub numbers-spec : {M : Type 1} → statement M
 numbers-spec =

@@ -9,13 +9,13 @@ use Rattle.decimal.proofs.scan.Statement.{statement}
 use Rattle.decimal.proofs.scan.Tie as tie
 
 abbrev Inv-loop : tie.InvT-loop
-Inv-loop s out₀ n₀ i₀ out n i = Scanning s out₀ out n i × Ended s
+Inv-loop s skip out₀ n₀ i₀ out n i = Scanning skip s out₀ out n i × Ended s
 
 abbrev μ-loop : tie.MeasureT-loop
-μ-loop s out₀ n₀ i₀ out n i = length s - i
+μ-loop s skip out₀ n₀ i₀ out n i = length s - i
 
 loop-holds : tie.Need-loop-holds Inv-loop μ-loop
-loop-holds c = (scan-start _ _, c .before .before .pre)
+loop-holds c = (scan-start _ _ _, c .before .before .pre)
 
 number-at-requires : tie.Need-number-at-requires Inv-loop μ-loop
 number-at-requires c κs = (c .loop-test .taken, c .before .loop .inv .1)
@@ -27,13 +27,13 @@ enum-told : tie.Need-enum-told Inv-loop μ-loop
 enum-told c = search needs
 
 same-length : tie.Need-same-length Inv-loop μ-loop
-same-length c = scan-same _ _ _ _ _ (c .before .before .before .before .loop .inv .0)
+same-length c = scan-same _ _ _ _ _ _ (c .before .before .before .before .loop .inv .0)
 
 returns : tie.Need-returns Inv-loop μ-loop
-returns c = found-wrong _ _ _ _ _ (c .before .before .before .before .loop .inv .0) (c .before .before .number-at .result) (c .before .before .number-at .ensures) (c .enum-told .given .1)
+returns c = found-wrong _ _ _ _ _ _ (c .before .before .before .before .loop .inv .0) (c .before .before .number-at .result) (c .before .before .number-at .ensures) (c .enum-told .given .1)
 
-put-word-requires : tie.Need-put-word-requires Inv-loop μ-loop
-put-word-requires c κs = search needs
+put-behind-requires : tie.Need-put-behind-requires Inv-loop μ-loop
+put-behind-requires c κs = search needs
 
 add-n : tie.Need-add-n Inv-loop μ-loop
 add-n c = let i = c .before .before .before .before .before .before .before .before .before .loop .inv .0 in omega (arith, i .few, i .inside)
@@ -42,13 +42,13 @@ loop-less : tie.Need-loop-less Inv-loop μ-loop
 loop-less c = let f = found-further _ _ (c .before .before .before .before .before .before .before .number-at .result) _ _ (c .before .before .before .before .before .before .before .number-at .ensures) (c .before .before .before .before .before .found .given .1) in omega (arith, f .0, f .1)
 
 loop-again : tie.Need-loop-again Inv-loop μ-loop
-loop-again c = (rw (c .before .before .put-word .ensures) (found-number _ _ _ _ _ (c .before .before .before .before .before .before .before .before .before .loop .inv .0) (c .before .before .before .before .before .before .before .number-at .result) _ _ (c .before .before .before .before .before .before .before .number-at .ensures) (c .before .before .before .before .before .found .given .1)), c .before .before .before .before .before .before .before .before .before .loop .inv .1)
+loop-again c = (rw (c .before .before .put-behind .ensures) (found-number _ _ _ _ _ _ (c .before .before .before .before .before .before .before .before .before .loop .inv .0) (c .before .before .before .before .before .before .before .number-at .result) _ _ (c .before .before .before .before .before .before .before .number-at .ensures) (c .before .before .before .before .before .found .given .1)), c .before .before .before .before .before .before .before .before .before .loop .inv .1)
 
 same-length-2 : tie.Need-same-length-2 Inv-loop μ-loop
-same-length-2 c = scan-same _ _ _ _ _ (c .before .loop .inv .0)
+same-length-2 c = scan-same _ _ _ _ _ _ (c .before .loop .inv .0)
 
 returns-2 : tie.Need-returns-2 Inv-loop μ-loop
-returns-2 c = scan-done _ _ _ _ _ (c .before .loop .inv .0) (c .loop-test .left)
+returns-2 c = scan-done _ _ _ _ _ _ (c .before .loop .inv .0) (c .loop-test .left)
 
 pub scan-spec : {M : Type 1} → statement M
 scan-spec =
@@ -62,7 +62,7 @@ scan-spec =
     enum-told
     same-length
     returns
-    put-word-requires
+    put-behind-requires
     add-n
     loop-less
     loop-again

@@ -20,11 +20,7 @@ returns-2 c = rw (holds (c .before .before .kind-known .ensures) (c .before .if1
 
 returns-3 : tie.Need-returns-3
 unfolding inOrder parseOrder
-returns-3 c = rw (holds (c .before .before .before .kind-known .ensures) (c .before .before .if1 .left), le-leb _ _ (c .before .if2 .left), lt-leb _ _ (c .if3 .taken))
-
-returns-4 : tie.Need-returns-4
-unfolding inOrder parseOrder
-returns-4 c = rw (holds (c .before .before .before .kind-known .ensures) (c .before .before .if1 .left), le-leb _ _ (c .before .if2 .left), le-leb _ _ (c .if3 .left))
+returns-3 c = rw (holds (c .before .before .kind-known .ensures) (c .before .if1 .left), le-leb _ _ (c .if2 .left))
 
 pub check-form-spec : {M : Type 1} → statement M
-check-form-spec = tie.close (tie.spec kind-known-requires returns returns-2 returns-3 returns-4)
+check-form-spec = tie.close (tie.spec kind-known-requires returns returns-2 returns-3)

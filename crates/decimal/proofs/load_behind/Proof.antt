@@ -1,4 +1,4 @@
--- `decimal::load` meets its contract: the line is as long as one may be, and byte 10 ends it. Assumes nothing.
+-- `decimal::load_behind` meets its contract: the line is as long as one may be, and byte 10 ends it. Assumes nothing.
 use mathlib.Core.Path.{_∙_}
 use native.Mathlib.Omega.{arith}
 use borrow.Author.Needs.{needs}
@@ -6,8 +6,8 @@ use Rattle.decimal.proofs.Bytes.{needs-end, whole, whole-none}
 use mathlib.Core.Logic.{inl, inr}
 use Rattle.decimal.proofs.Entry.{tallied-as}
 use Rattle.protocol.specs.declared.Numeral.the-variants.{Empty}
-use Rattle.decimal.proofs.load.Statement.{statement}
-use Rattle.decimal.proofs.load.Tie as tie
+use Rattle.decimal.proofs.load_behind.Statement.{statement}
+use Rattle.decimal.proofs.load_behind.Tie as tie
 
 returns : tie.Need-returns
 returns c = whole-none (c .before .before .before .args .s .now) (inl (omega arith))
@@ -31,10 +31,10 @@ same-length : tie.Need-same-length
 same-length c = search needs
 
 returns-4 : tie.Need-returns-4
-returns-4 c = let s = c .before .before .before .before .before .before .before .before .before .before .args .s .now in let e = whole s (omega arith) (c .before .before .before .before .before .before .if2 .left) in tallied-as _ _ (c .before .before .before .before .before .before .before .before .before .before .args .out .now) (c .before .before .scan .last .1 .0) (c .before .before .scan .result) e (c .before .before .scan .ensures)
+returns-4 c = let s = c .before .before .before .before .before .before .before .before .before .before .args .s .now in let e = whole s (omega arith) (c .before .before .before .before .before .before .if2 .left) in tallied-as _ _ _ (c .before .before .before .before .before .before .before .before .before .before .args .out .now) (c .before .before .scan .last .1 .1 .0) (c .before .before .scan .result) e (c .before .before .scan .ensures)
 
-pub load-spec : {M : Type 1} → statement M
-load-spec =
+pub load-behind-spec : {M : Type 1} → statement M
+load-behind-spec =
     tie.close
     (tie.spec
     returns

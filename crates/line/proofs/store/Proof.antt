@@ -1,0 +1,33 @@
+-- `line::store` meets its contract: the residues come from the words that were loaded, or from the line itself. Assumes nothing.
+use mathlib.Core.Path.{_≡_, ap, _∙_}
+use mathlib.Core.List.{List}
+use Prim.Native.Nat.{ℕ}
+use native.Mathlib.Omega.{arith}
+use lib.ListN.{drop}
+use borrow.Author.Needs.{needs}
+use Rattle.algebra.specs.Words.{over}
+use Rattle.protocol.specs.Line.{numbersOf}
+use Rattle.decimal.proofs.Entry.{stored-behind, sets-over}
+use Rattle.line.proofs.store.Statement.{statement}
+use Rattle.line.proofs.store.Tie as tie
+
+put-residues-requires : tie.Need-put-residues-requires
+put-residues-requires c κs = (omega (arith, c .before .before .before .before .before .pre .0, c .before .if1 .taken), c .before .before .before .before .before .pre .1)
+
+same-length : tie.Need-same-length
+same-length c = search needs
+
+returns : tie.Need-returns
+returns c = λ xs e n w. c .before .before .put-residues .ensures ∙ ap (λ (l : List ℕ). over l (c .before .before .before .before .before .before .before .before .args .out .now)) (w (c .before .before .before .before .if1 .taken))
+
+load-behind-requires : tie.Need-load-behind-requires
+load-behind-requires c κs = search needs
+
+same-length-2 : tie.Need-same-length-2
+same-length-2 c = search needs
+
+returns-2 : tie.Need-returns-2
+returns-2 c = λ xs e n w. stored-behind 7 (numbersOf _) xs _ _ (c .before .before .load-behind .result) e (c .before .before .load-behind .ensures) ∙ sets-over (drop 7 xs) _ (omega (arith, n))
+
+pub store-spec : {M : Type 1} → statement M
+store-spec = tie.close (tie.spec put-residues-requires same-length returns load-behind-requires same-length-2 returns-2)
