@@ -22,7 +22,7 @@ use Rattle.protocol.specs.Message.{messageSize}
 use Rattle.protocol.specs.View.{View, facing, coinLayout, kindsSent, Finished}
 use Rattle.protocol.specs.Completion.{messagesOf, coinsFit, completions, Taken, Counted, solutionFor, answerSeen, Secret}
 use Rattle.protocol.proofs.Tests.{TermsFit}
-use Rattle.protocol.proofs.SystemSteps.{systemTerms}
+use Rattle.protocol.proofs.SystemEnds.{systemTerms}
 use Rattle.protocol.proofs.CompletionLaws.{halfSlot, viewOf, nothing-received}
 use Rattle.protocol.proofs.CompletionProduct.{left-one, right-one}
 use Rattle.protocol.proofs.CompletionSolver.{solver-open, solver-same}

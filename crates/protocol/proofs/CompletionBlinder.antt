@@ -35,7 +35,7 @@ use Rattle.protocol.specs.Deal.{Dealt}
 use Rattle.protocol.specs.Message.{messageLayout, messageSize}
 use Rattle.protocol.specs.System.{scratchLayout}
 use Rattle.protocol.specs.Completion.{dealing, dealtSlot, dealtTogether, blinderMessages, eqLists, isCompletion, completions, Taken}
-use Rattle.protocol.proofs.SystemSteps.{systemTerms, columns-are}
+use Rattle.protocol.proofs.SystemEnds.{systemTerms, columns-are}
 use Rattle.protocol.proofs.Halves.{Holding}
 use Rattle.protocol.proofs.Tests.{TermsFit}
 use Rattle.protocol.proofs.CompletionDealt.{blinder-dealt, solver-held}

@@ -23,7 +23,7 @@ use Rattle.protocol.specs.Message.{messageLayout, messageSize}
 use Rattle.protocol.specs.System.{scratchLayout}
 use Rattle.protocol.specs.Completion.{blinderMessages, Taken}
 use Rattle.protocol.proofs.Tests.{TermsFit}
-use Rattle.protocol.proofs.SystemSteps.{systemTerms}
+use Rattle.protocol.proofs.SystemEnds.{systemTerms}
 use Rattle.protocol.proofs.CompletionLaws.{first-of, second-of, halfSlot, dealt-alone, viewOf}
 use Rattle.protocol.proofs.CompletionSystem.{solver-sends-all, blinder-sends-all}
 use Rattle.protocol.proofs.Completion.{Kept}

@@ -35,7 +35,7 @@ use Rattle.protocol.specs.Deal.{Dealt}
 use Rattle.protocol.specs.Message.{messageLayout, messageSize}
 use Rattle.protocol.specs.System.{sideSize}
 use Rattle.protocol.specs.Completion.{dealing, dealtSlot, solverMessages, blinderMessages, eqLists, dealtTogether, isCompletion, completions, Taken}
-use Rattle.protocol.proofs.SystemSteps.{systemTerms, columns-are}
+use Rattle.protocol.proofs.SystemEnds.{systemTerms, columns-are}
 use Rattle.protocol.proofs.Tests.{TermsFit}
 use Rattle.protocol.proofs.CompletionDealt.{solver-dealt, blinder-held}
 use Rattle.protocol.proofs.CompletionLaws.{first-of, second-of, third-of, fourth-of, same-count, both-same, dealt-alone, message-fits, first-test, halfSlot, viewOf}
