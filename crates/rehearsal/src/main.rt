@@ -32,6 +32,7 @@ fn ends(bytes: &[u8]) -> usize
 
 // Reads until the fifth line has ended, the input ends, or the bytes are full. The answer is how many bytes came.
 fn read_lines(bytes: &mut [u8]) -> usize
+    requires { ⌜ length (now bytes) ≤ 327680 ⌝ }
     ensures { λ r. ⌜ r ≤ length (now (bytes .exit)) ⌝ }
 {
     let mut n = 0;
