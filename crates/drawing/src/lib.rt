@@ -2,19 +2,40 @@
 //   read  how many words are read for n residues, or that they are too few
 //   draw  the residues, over the start of a lent slice
 ghost use mathlib.Core.Path.{_≡_};
-ghost use Prim.Native.Nat.{_*_, _/_, _<_, _≤_};
+ghost use Prim.Native.Nat.{_*_, _/_, _%_, _<_, _≤_};
 ghost use lib.ListN.{length};
 ghost use Rattle.protocol.specs.Drawing.{residuesOf, drawn, wordsRead};
 ghost use Rattle.algebra.specs.Words.{over};
 ghost use Rattle.drawing.specs.Extent.{readFor};
+
+// How often q goes into 2^32.
+fn share(q: u32) -> u64
+    requires { ⌜ 0 < q ⌝ }
+    ensures { λ r. ⌜ r ≡ 4294967296 / q ⌝ }
+{
+    4294967296 / q as u64
+}
+
+// w modulo q, without a division: w × share / 2^32 is the quotient, or one less.
+fn residue(q: u32, share: u64, w: u32) -> u32
+    requires { ⌜ (0 < q) × (share ≡ 4294967296 / q) ⌝ }
+    ensures { λ r. ⌜ r ≡ w % q ⌝ }
+{
+    let d = q as u64;
+    let times = w as u64 * share / 4294967296;
+    let rest = w as u64 - times * d;
+    if rest < d {
+        return rest as u32;
+    }
+    (rest - d) as u32
+}
 
 // Words below c are kept. It is 2^32 where q divides that.
 fn limit(q: u32) -> u64
     requires { ⌜ 0 < q ⌝ }
     ensures { λ r. ⌜ r ≡ q * (4294967296 / q) ⌝ }
 {
-    let times = 4294967296 / q as u64;
-    q as u64 * times
+    q as u64 * share(q)
 }
 
 // How many words are read up to and with the last one kept, or too few are kept.
@@ -51,12 +72,13 @@ pub fn draw(q: u32, n: usize, words: &[u32], out: &mut [u32]) -> usize
     ensures { λ _. ⌜ now (out .exit) ≡ over (drawn q n (now (words .entry))) (now (out .entry)) ⌝ }
 {
     let below = limit(q);
+    let part = share(q);
     let mut i = 0;
     let mut j = 0;
     while j < n {
         let w = words[i];
         if (w as u64) < below {
-            out[j] = w % q;
+            out[j] = residue(q, part, w);
             j += 1;
         }
         i += 1;

@@ -10,28 +10,31 @@ use Rattle.drawing.proofs.draw.Statement.{statement}
 use Rattle.drawing.proofs.draw.Tie as tie
 
 abbrev Inv-loop : tie.InvT-loop
-Inv-loop q n words out₀ below i₀ j₀ out i j = Drew q n words out₀ i j out
+Inv-loop q n words out₀ below part i₀ j₀ out i j = Drew q n words out₀ i j out
 
 abbrev μ-loop : tie.MeasureT-loop
-μ-loop q n words out₀ below i₀ j₀ out i j = length words - i
+μ-loop q n words out₀ below part i₀ j₀ out i j = length words - i
 
 limit-requires : tie.Need-limit-requires Inv-loop μ-loop
 limit-requires c κs = search needs
+
+share-requires : tie.Need-share-requires Inv-loop μ-loop
+share-requires c κs = search needs
 
 loop-holds : tie.Need-loop-holds Inv-loop μ-loop
 loop-holds c = drew-start _ _ _ _
 
 mul-w : tie.Need-mul-w Inv-loop μ-loop
-mul-w c = let h = drew-inside _ _ _ _ _ _ (c .before .loop .inv) (c .before .before .before .before .before .pre .1) (search needs) in search needs
+mul-w c = let h = drew-inside _ _ _ _ _ _ (c .before .loop .inv) (c .before .before .before .before .before .before .pre .1) (search needs) in search needs
 
 shared-slice-read-w : tie.Need-shared-slice-read-w Inv-loop μ-loop
-shared-slice-read-w c = let h = drew-inside _ _ _ _ _ _ (c .before .before .loop .inv) (c .before .before .before .before .before .before .pre .1) (search needs) in search needs
+shared-slice-read-w c = let h = drew-inside _ _ _ _ _ _ (c .before .before .loop .inv) (c .before .before .before .before .before .before .before .pre .1) (search needs) in search needs
 
 cast-if1 : tie.Need-cast-if1 Inv-loop μ-loop
 cast-if1 c = omega (arith, c .shared-slice-known2 .given (c .before .before .loop .i))
 
-rem-out : tie.Need-rem-out Inv-loop μ-loop
-rem-out c = search needs
+residue-requires : tie.Need-residue-requires Inv-loop μ-loop
+residue-requires c κs = (c .before .before .before .before .before .before .before .before .pre .0, c .before .before .before .before .share .ensures)
 
 mul-out : tie.Need-mul-out Inv-loop μ-loop
 mul-out c = search needs
@@ -43,23 +46,23 @@ add-j : tie.Need-add-j Inv-loop μ-loop
 add-j c = search needs
 
 add-i : tie.Need-add-i Inv-loop μ-loop
-add-i c = let h = drew-inside _ _ _ _ _ _ (c .before .before .before .loop .inv) (c .before .before .before .before .before .before .before .pre .1) (search needs) in search needs
+add-i c = let h = drew-inside _ _ _ _ _ _ (c .before .before .before .loop .inv) (c .before .before .before .before .before .before .before .before .pre .1) (search needs) in search needs
 
 loop-less : tie.Need-loop-less Inv-loop μ-loop
-loop-less c = let h = drew-inside _ _ _ _ _ _ (c .before .before .before .loop .inv) (c .before .before .before .before .before .before .before .pre .1) (search needs) in search needs
+loop-less c = let h = drew-inside _ _ _ _ _ _ (c .before .before .before .loop .inv) (c .before .before .before .before .before .before .before .before .pre .1) (search needs) in search needs
 
 loop-again : tie.Need-loop-again Inv-loop μ-loop
 unfolding residueOf
 loop-again c = ⊎-elim
-    (λ w. rw (w .1, w .2) (drew-kept _ _ _ _ _ _ (c .before .before .before .loop .inv) (c .before .before .before .before .before .before .before .pre .1) (search needs) (c .before .before .before .before .before .before .before .pre .2) (kept-word (c .before .before .before .before .before .before .before .args .q) _ _ (c .before .before .before .before .limit .ensures) (w .0 .taken))))
-    (λ w. rw (w .1, w .2) (drew-thrown _ _ _ _ _ _ (c .before .before .before .loop .inv) (c .before .before .before .before .before .before .before .pre .1) (search needs) (thrown-word (c .before .before .before .before .before .before .before .args .q) _ _ (c .before .before .before .before .limit .ensures) (w .0 .left))))
+    (λ w. rw (w .2, w .3, w .1 .ensures) (drew-kept _ _ _ _ _ _ (c .before .before .before .loop .inv) (c .before .before .before .before .before .before .before .before .pre .1) (search needs) (c .before .before .before .before .before .before .before .before .pre .2) (kept-word (c .before .before .before .before .before .before .before .before .args .q) _ _ (c .before .before .before .before .before .limit .ensures) (w .0 .taken))))
+    (λ w. rw (w .1, w .2) (drew-thrown _ _ _ _ _ _ (c .before .before .before .loop .inv) (c .before .before .before .before .before .before .before .before .pre .1) (search needs) (thrown-word (c .before .before .before .before .before .before .before .before .args .q) _ _ (c .before .before .before .before .before .limit .ensures) (w .0 .left))))
     (c .if1 .came)
 
 same-length : tie.Need-same-length Inv-loop μ-loop
 same-length c = c .before .loop .inv .same
 
 returns : tie.Need-returns Inv-loop μ-loop
-returns c = (drew-read _ _ _ _ _ _ (c .before .loop .inv) (search needs), drew-all _ _ _ _ _ _ (c .before .loop .inv) (search needs) (c .before .before .before .before .before .pre .1))
+returns c = (drew-read _ _ _ _ _ _ (c .before .loop .inv) (search needs), drew-all _ _ _ _ _ _ (c .before .loop .inv) (search needs) (c .before .before .before .before .before .before .pre .1))
 
 pub draw-spec : {M : Type 1} → statement M
 draw-spec =
@@ -68,11 +71,12 @@ draw-spec =
     Inv-loop
     μ-loop
     limit-requires
+    share-requires
     loop-holds
     mul-w
     shared-slice-read-w
     cast-if1
-    rem-out
+    residue-requires
     mul-out
     slice-write-out
     add-j
