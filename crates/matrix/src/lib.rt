@@ -5,11 +5,13 @@
 //   entries  sum, difference, negative, copy and zeros, entry by entry
 //   sum      a sum of products that may pass 64 bits
 //   inner    the inner product
+//   pairs    the product of matrices of narrow words, two columns at once
 //   product  the product of an m by k and a k by p matrix
 //   formula  a product with other matrices added and taken away: what the sessions write
 pub mod entries;
 pub mod formula;
 pub mod inner;
+pub mod pairs;
 pub mod product;
 pub mod rest;
 pub mod sum;
