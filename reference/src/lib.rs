@@ -3,15 +3,18 @@
 //! It is written from the scope's text. Matrices are rows of `u64`, every call first gathers its faults, lowest number first, and nothing is
 //! done for speed.
 
+pub mod calls;
 pub mod dealer;
 pub mod faults;
 pub mod line;
+pub mod machine;
 pub mod matrix;
 pub mod message;
 pub mod pool;
 pub mod product;
 pub mod rehearsal;
 pub mod scores;
+pub mod script;
 pub mod system;
 pub mod words;
 

@@ -1,0 +1,194 @@
+//! Sessions with damaged calls between the right ones.
+
+use super::damage::{single, Damage};
+use super::plan::{matrix_seed, sends, tape_size, Layout, Plan};
+use super::random::Random;
+use super::writer::Writer;
+use crate::machine::*;
+use crate::message::count;
+use crate::Terms;
+
+/// How often a call is damaged before it is made, and how.
+#[derive(Clone, Copy)]
+pub struct Habit {
+    /// One call in so many is preceded by a damaged one.
+    pub damaged: u64,
+    /// One damaged call in so many may be one that is taken.
+    pub taken: u64,
+    /// One call in so many is a drop instead.
+    pub dropped: u64,
+    /// Records are lent in slices that are too short, too.
+    pub short: bool,
+    /// One message in so many goes over a line of bytes.
+    pub posted: u64,
+}
+
+/// A session under way.
+pub struct Live {
+    pub plan: Plan,
+    pub stage: usize,
+}
+
+pub const PRIMES: [u32; 12] = [2, 3, 5, 7, 11, 257, 65_521, 65_537, 16_777_213, 2_147_483_629, 2_147_483_647, 1_431_655_777];
+pub const MODULI: [u32; 10] = [2, 4, 6, 10, 256, 65_536, 1_431_655_766, 2_147_483_646, 2_147_483_647, 1_073_741_824];
+
+/// Sides of a product, within the bounds; large ones fill them.
+pub fn product_terms(random: &mut Random, large: bool) -> Terms {
+    let q = if random.once_in(2) { *random.one_of(&PRIMES) } else { *random.one_of(&MODULI) };
+    let (m, k, p) = match (large, random.below(5)) {
+        (true, 0) => (1, 2048, 1),
+        (true, 1) => (32, 64, 32),
+        (true, 2) => (32, 64, random.from(1, 32)),
+        (true, 3) => (random.from(1, 16), 128, 16),
+        (true, _) => (1, random.from(1024, 2048), 1),
+        _ => (random.from(1, 6), random.from(1, 8), random.from(1, 6)),
+    };
+    Terms::product(random.from(1, 99), random.from(1, 999), q, m, k, p)
+}
+
+pub fn system_terms(random: &mut Random, large: bool) -> Terms {
+    let n = if large { 16 } else { random.from(1, 5) };
+    Terms::system(random.from(1, 99), random.from(1, 999), *random.one_of(&PRIMES), n)
+}
+
+impl Writer {
+    /// Both pools filled with words, and mark 0 at each slot.
+    pub fn lay(&mut self, random: &mut Random, layout: Layout) {
+        for pool in [FIRST, SECOND] {
+            let lent = layout.size * layout.slots + layout.tail;
+            self.say(&[1, pool as u32, 0, lent as u32, random.from(1, 60_000), 0]);
+            for slot in 0..layout.slots {
+                self.put(pool, slot * layout.size, &[0]);
+            }
+        }
+    }
+
+    /// The call that is due, as it should be.
+    pub fn right(&mut self, plan: &Plan, call: u32) -> u32 {
+        self.call(call, &plan.registers(call))
+    }
+
+    /// A damaged call; where it is refused, its words are put back.
+    pub fn damaged(&mut self, damage: &Damage) -> u32 {
+        let old: Vec<u32> = damage.pokes.iter().map(|(array, at, _)| self.word(*array, *at)).collect();
+        for (array, at, value) in &damage.pokes {
+            self.put(*array, *at, &[*value]);
+        }
+        let answer = self.call(damage.call, &damage.registers);
+        if answer != 0 {
+            for ((array, at, _), value) in damage.pokes.iter().zip(old).rev() {
+                self.put(*array, *at, &[value]);
+            }
+        }
+        answer
+    }
+
+    /// One of the damages of a call, or two at once.
+    fn damage(&mut self, random: &mut Random, habit: Habit, plan: &Plan, call: u32) {
+        let mut all = single(plan, call, &self.machine);
+        all.retain(|damage| habit.short || damage.has_whole_records());
+        let taken = random.once_in(habit.taken);
+        for _ in 0..6 {
+            let mut damage = random.one_of(&all).clone();
+            if plan.is_system && random.once_in(8) {
+                if let Some(seed) = matrix_seed(random, plan.terms.q, plan.terms.rows(), false) {
+                    damage.registers[24] = seed;
+                }
+            }
+            if random.once_in(3) {
+                let other = random.one_of(&all);
+                if other.call == call {
+                    damage = damage.and(other, &plan.registers(call));
+                }
+            }
+            if taken || self.tried(damage.call, &damage.registers, &damage.pokes) != 0 {
+                self.damaged(&damage);
+                return;
+            }
+        }
+    }
+
+    /// Both ends that have an open session drop it.
+    fn drop_all(&mut self, plan: &Plan) {
+        let drops: &[u32] = if plan.is_system { &[SOLVER_DROP, BLINDER_DROP] } else { &[RIGHT_DROP] };
+        for drop in drops {
+            self.call(*drop, &plan.registers(*drop));
+        }
+    }
+
+    /// Marks that would stop a dealing are set to 3.
+    pub fn free(&mut self, plan: &Plan) {
+        let at = plan.index * plan.layout.size;
+        for pool in [FIRST, SECOND] {
+            if !matches!(self.word(pool, at), 0 | 3) {
+                self.put(pool, at, &[3]);
+            }
+        }
+    }
+
+    /// The next call of a session. False where it is over.
+    pub fn advance(&mut self, random: &mut Random, habit: Habit, live: &mut Live) -> bool {
+        let Some(call) = live.plan.calls().get(live.stage).copied() else { return false };
+        if random.once_in(habit.damaged) {
+            self.damage(random, habit, &live.plan, call);
+        }
+        if live.stage > 1 && random.once_in(habit.dropped) {
+            self.drop_all(&live.plan);
+            return false;
+        }
+        live.stage += 1;
+        let taken = self.right(&live.plan, call) == 0;
+        if taken && sends(call) != 0 && random.once_in(habit.posted) {
+            self.post(&live.plan, call);
+        }
+        taken
+    }
+
+    /// The message that a call has sent is written as a line and read back.
+    fn post(&mut self, plan: &Plan, call: u32) {
+        let mut r = plan.registers(call);
+        r[20] = count(sends(call), &plan.terms) as u32;
+        r[30] = BYTES as u32;
+        self.call(WRITE, &r);
+        r[30] = self.machine.report[0];
+        self.call(READ, &r);
+    }
+
+    /// Sessions in the slots of a layout, several at a time, until so many have been begun.
+    pub fn sessions(&mut self, random: &mut Random, habit: Habit, count: usize, large: bool, detail: u32) {
+        let mostly = random.once_in(2);
+        let mut made = Vec::new();
+        for _ in 0..count {
+            let is_system = mostly ^ random.once_in(4);
+            made.push((is_system, if is_system { system_terms(random, large) } else { product_terms(random, large) }));
+        }
+        let size = made.iter().map(|(s, t)| tape_size(*s, t)).max().unwrap_or(20) + random.from(0, 3) as usize;
+        let layout = Layout { size, slots: 3.min(POOL / size), tail: random.from(0, 4) as usize };
+        let layout = Layout { tail: layout.tail.min(POOL - size * layout.slots), ..layout };
+        self.lay(random, layout);
+        let mut lives: Vec<Option<Live>> = (0..layout.slots).map(|_| None).collect();
+        let mut waiting = made.into_iter();
+        loop {
+            let index = random.below(layout.slots as u64) as usize;
+            if lives[index].is_none() {
+                match waiting.next() {
+                    Some((s, t)) => {
+                        let pool = random.from(0, 1);
+                        let Some(mut plan) = Plan::new(random, s, t, layout, index, pool) else { continue };
+                        plan.generous = !random.once_in(3);
+                        plan.detail = detail;
+                        self.free(&plan);
+                        lives[index] = Some(Live { plan, stage: 0 });
+                    }
+                    None if lives.iter().all(Option::is_none) => return,
+                    None => continue,
+                }
+            }
+            if let Some(live) = &mut lives[index] {
+                if !self.advance(random, habit, live) {
+                    lives[index] = None;
+                }
+            }
+        }
+    }
+}
