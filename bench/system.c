@@ -3,6 +3,7 @@
 // packages: libflint-dev libntl-dev g++
 // link: -lflint -lntl -lgmp -lstdc++ -lm -lpthread
 #include "timing.h"
+#include "stack.h"
 #include <flint/flint.h>
 #include <flint/nmod_mat.h>
 #include <stdbool.h>
@@ -126,20 +127,6 @@ static void deal(void) {
     for (size_t i = 0; i < square; i++) v[i] = ((uint64_t)v[i] + g[i]) % q;
 }
 
-// The bytes of stack below a call that it wrote.
-static __attribute__((noinline)) size_t painted(bool paint) {
-    unsigned char area[131072];
-    volatile unsigned char *at = area;
-    size_t i;
-    __asm__ volatile("" : "+r"(at));
-    if (paint) {
-        for (i = 0; i < sizeof area; i++) at[i] = 0xa5;
-        return 0;
-    }
-    for (i = 0; i < sizeof area && at[i] == 0xa5; i++) {}
-    return sizeof area - i;
-}
-
 static const char *const names[] = {"1, solver_first", "2, blinder_first", "3, solver_second", "4, blinder_second", "5, solver_last", "6, blinder_last"};
 
 // The median of each step's time in whole sessions.
@@ -164,15 +151,14 @@ static void each(void) {
     memset(times, 0, sizeof times);
 }
 
+static uint64_t numbered(uint32_t number) { return step(number); }
+
 static void stacks(void) {
     char name[64];
     dealt();
     for (int number = 1; number <= 6; number++) {
-        painted(true);
-        step(number);
-        size_t used = painted(false);
         snprintf(name, sizeof name, "stack of step %s", names[number - 1]);
-        printf("%-44s | %10zu bytes, at most 65536%s\n", name, used, used > 65536 ? "  ABOVE" : "");
+        stack_of(name, numbered, number, 65536);
     }
 }
 

@@ -3,6 +3,7 @@
 // packages: libflint-dev
 // link: -lflint -lgmp -lm
 #include "timing.h"
+#include "stack.h"
 #include <flint/flint.h>
 #include <flint/nmod_mat.h>
 #include <flint/ulong_extras.h>
@@ -122,6 +123,14 @@ static void system_of(uint32_t modulo, size_t n) {
     nmod_mat_clear(blind), nmod_mat_clear(r), nmod_mat_clear(g), nmod_mat_clear(v);
 }
 
+static void stacks(void) {
+    memset(first, 0, sizeof first), memset(second, 0, sizeof second);
+    q = 2147483647, m = 32, k = 64, p = 32, size = 7 + 2048 + 1024;
+    stack_of("stack of deal_product, 32 x 64 x 32", our_product, 0, 65536);
+    m = k = 16, p = 17, size = 7 + 2 * 16 * 17 + 2 * 16 * 16;
+    stack_of("stack of deal_system, 16 unknowns", our_system, 0, 65536);
+}
+
 int main(void) {
     static const uint32_t moduli[] = {7, 65537, 2147483647};
     for (size_t i = 0; i < WORDS; i++) words[i] = random32();
@@ -129,5 +138,7 @@ int main(void) {
     for (int i = 0; i < 3; i++) product(moduli[i], 1, 2048, 1), product(moduli[i], 32, 64, 32);
     heading("dealing a system beside");
     system_of(257, 16), system_of(65537, 16), system_of(2147483647, 16);
+    printf("\n");
+    stacks();
     return 0;
 }
