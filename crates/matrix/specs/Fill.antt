@@ -2,9 +2,10 @@
 --   filled      a list with its first n words replaced
 --   firstWords  n words of a list, 0 past its end
 --   negated     the negatives of n words
+--   Below       the first n words of a list are below q
 --   sumAt, differenceAt, wordAt, noneAt, negativeAt   what is stored at a place
 use mathlib.Core.List.{List, _++_}
-use Prim.Native.Nat.{ℕ}
+use Prim.Native.Nat.{ℕ, _<_}
 use lib.ListN.{getD, drop}
 use Rattle.algebra.specs.Residue.{addMod, subMod}
 use Rattle.algebra.specs.Matrix.{tabulate}
@@ -32,3 +33,6 @@ noneAt e = 0
 
 unfoldable pub negativeAt : ℕ → List ℕ → ℕ → ℕ
 negativeAt q a e = subMod q 0 (getD a e 0)
+
+abbrev pub Below : ℕ → ℕ → List ℕ → Type 0
+Below q n a = (j : ℕ) → j < n → getD a j 0 < q

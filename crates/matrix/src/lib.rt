@@ -2,6 +2,7 @@
 // the words past the count keep their value.
 //   Matrix   a matrix's sides, and the bounds of 01 on them
 //   rest     the rest of a division, mostly without one
+//   residues sum and difference of residues, several words at a time
 //   entries  sum, difference, negative, copy and zeros, entry by entry
 //   sum      a sum of products that may pass 64 bits
 //   inner    the inner product
@@ -13,6 +14,7 @@ pub mod formula;
 pub mod inner;
 pub mod pairs;
 pub mod product;
+pub mod residues;
 pub mod rest;
 pub mod sum;
 
