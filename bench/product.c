@@ -1,13 +1,15 @@
 // A whole product session of vectors, dealing aside, beside a trivial exchange of the same vectors: right sends its vector, left
 // multiplies. Both use the engine's own lines and inner product, so that a ratio shows what the protocol costs: two messages instead of
 // one, masks, and three steps with all their checks. The trivial vector goes as the line of a message 1.
-// A turn of the session begins with both halves of its tape copied anew into the pools, which is counted. Then the stack of each entry.
+// A turn of the session begins with both halves of its tape copied anew into the pools, which is counted. The turns go round among several
+// vectors: numbers that come again in every turn have digits that a processor learns to foresee. Then the stack of each entry.
 #include "timing.h"
 #include "stack.h"
 #include <string.h>
 
 #define MOST 2048
 #define WORDS 6000
+#define VECTORS 16
 
 bool bench_deal(uint32_t *first, size_t n_first, uint32_t *second, size_t n_second, size_t size, uint32_t q, uint32_t m, uint32_t k, uint32_t p,
                 const uint32_t *words, size_t n_words);
@@ -26,9 +28,11 @@ uint32_t bench_inner(uint32_t q, const uint32_t *x, size_t n_x, const uint32_t *
 typedef size_t (*reader)(const uint8_t *s, size_t n, uint32_t *out, size_t room);
 
 static uint32_t left_tape[7 + MOST + 1], right_tape[7 + MOST + 1], left_pool[7 + MOST + 1], right_pool[7 + MOST + 1];
-static uint32_t x[MOST], y[MOST], words[WORDS], y1[MOST], got1[MOST], x1r1[MOST + 1], got2[MOST + 1], u[1], v[1], q, k;
+static uint32_t xs[VECTORS][MOST], ys[VECTORS][MOST], *x = xs[0], *y = ys[0], words[WORDS], y1[MOST], got1[MOST], x1r1[MOST + 1], got2[MOST + 1], u[1], v[1], q, k;
 static uint8_t line[65536];
 static size_t size, bytes;
+
+static void choose(uint32_t turn) { x = xs[turn % VECTORS], y = ys[turn % VECTORS]; }
 
 // A message as a line, from one end's words to the other's.
 static bool carry(uint32_t kind, const uint32_t *sent, size_t n, uint32_t *got, reader read) {
@@ -47,29 +51,38 @@ static bool end(const uint32_t *message) { return bench_right_last(right_pool, s
 // A sum of q or more has q taken away.
 static uint64_t sum(bool done) { return done ? (uint64_t)(u[0] + v[0]) % q : q; }
 
-static uint64_t session(uint32_t turn) { return sum(begin() && reply(y1) && end(x1r1)); }
+static uint64_t session(uint32_t turn) {
+    choose(turn);
+    return sum(begin() && reply(y1) && end(x1r1));
+}
 
-static uint64_t session_by(reader read) {
+static uint64_t session_by(uint32_t turn, reader read) {
+    choose(turn);
     return sum(begin() && carry(1, y1, k, got1, read) && reply(got1) && carry(2, x1r1, k + 1, got2, read) && end(got2));
 }
 
-static uint64_t session_parsed(uint32_t turn) { return session_by(bench_parse); }
-static uint64_t session_read(uint32_t turn) { return session_by(bench_read); }
+static uint64_t session_parsed(uint32_t turn) { return session_by(turn, bench_parse); }
+static uint64_t session_read(uint32_t turn) { return session_by(turn, bench_read); }
 
 static uint64_t trivial(uint32_t turn) {
+    choose(turn);
     memcpy(got1, y, k * 4);
     return bench_inner(q, x, k, got1, k);
 }
 
-static uint64_t trivial_by(reader read) { return carry(1, y, k, got1, read) ? bench_inner(q, x, k, got1, k) : q; }
-static uint64_t trivial_parsed(uint32_t turn) { return trivial_by(bench_parse); }
-static uint64_t trivial_read(uint32_t turn) { return trivial_by(bench_read); }
+static uint64_t trivial_by(uint32_t turn, reader read) {
+    choose(turn);
+    return carry(1, y, k, got1, read) ? bench_inner(q, x, k, got1, k) : q;
+}
+static uint64_t trivial_parsed(uint32_t turn) { return trivial_by(turn, bench_parse); }
+static uint64_t trivial_read(uint32_t turn) { return trivial_by(turn, bench_read); }
 
 // Vectors and a dealt tape for q and k.
 static void start(uint32_t length, uint32_t modulus) {
     k = length, q = modulus, size = 7 + k + 1;
     memset(left_tape, 0, sizeof left_tape), memset(right_tape, 0, sizeof right_tape);
-    for (uint32_t i = 0; i < k; i++) x[i] = random32() % q, y[i] = random32() % q;
+    for (size_t t = 0; t < VECTORS; t++)
+        for (uint32_t i = 0; i < k; i++) xs[t][i] = random32() % q, ys[t][i] = random32() % q;
     if (!bench_deal(left_tape, size, right_tape, size, size, q, 1, k, 1, words, WORDS) || session(0) != trivial(0)) puts("wrong"), exit(1);
 }
 

@@ -202,8 +202,9 @@ int main(void) {
     printf("\n");
     stacks();
     stop();
+    // a small modulus: the prime test at a large one takes as long for every n
     for (uint32_t unknowns = 1; unknowns <= N; unknowns *= 2) {
-        start(2147483647, unknowns);
+        start(257, unknowns);
         point("system", unknowns, session, TURNS);
         stop();
     }
