@@ -1,15 +1,16 @@
 // A whole product session of vectors, dealing aside, beside a trivial exchange of the same vectors: right sends its vector, left
 // multiplies. Both use the engine's own lines and inner product, so that a ratio shows what the protocol costs: two messages instead of
 // one, masks, and three steps with all their checks. The trivial vector goes as the line of a message 1.
-// A turn of the session begins with both halves of its tape copied anew into the pools, which is counted. The turns go round among several
-// vectors: numbers that come again in every turn have digits that a processor learns to foresee. Then the stack of each entry.
+// A turn of the session begins with both halves of its tape copied anew into the pools, which is counted. Every turn of a round has vectors
+// of its own: numbers that come again in every turn have digits that a processor learns to foresee, and it learns the one line of the
+// trivial exchange sooner than the two of a session. Then the stack of each entry.
 #include "timing.h"
 #include "stack.h"
 #include <string.h>
 
 #define MOST 2048
 #define WORDS 6000
-#define VECTORS 16
+#define VECTORS 200
 
 bool bench_deal(uint32_t *first, size_t n_first, uint32_t *second, size_t n_second, size_t size, uint32_t q, uint32_t m, uint32_t k, uint32_t p,
                 const uint32_t *words, size_t n_words);
@@ -91,10 +92,10 @@ static void of(uint32_t length, uint32_t modulus) {
     start(length, modulus);
     snprintf(name, sizeof name, "1 x %u x 1, q %u, beside trivial", k, q);
     heading(name);
-    row("with lines (line::parse)", session_parsed, trivial_parsed, 200, 2.2);
-    row("with lines (line::read)", session_read, trivial_read, 200, 2.2);
-    row("no lines beside trivial with lines", session, trivial_parsed, 200, 2.2);
-    row("no lines beside trivial without", session, trivial, 200, 0);
+    row("with lines (line::parse)", session_parsed, trivial_parsed, VECTORS, 2.2);
+    row("with lines (line::read)", session_read, trivial_read, VECTORS, 2.2);
+    row("no lines beside trivial with lines", session, trivial_parsed, VECTORS, 2.2);
+    row("no lines beside trivial without", session, trivial, VECTORS, 0);
 }
 
 static uint64_t stack_first(uint32_t turn) { return begin(); }

@@ -1,8 +1,8 @@
 // What both later steps check; `step` is the kind of the message that the step takes.
 use blinder::scratch_size;
 use checks::Check;
-use checks::all_below;
 use checks::times;
+use matrix::all_below;
 use message::message_size;
 use message::side_size;
 use protocol::BlinderSession;

@@ -4,7 +4,7 @@
 -- Along    sums along lists, places in matrices, and a product from the columns of its second matrix
 -- TwoColumns  a row times two columns at once
 pub mod Fill
-pub mod Tops
+pub mod Below
 pub mod Modular
 pub mod Along
 pub mod Sums

@@ -2,7 +2,7 @@
 // the words past the count keep their value.
 //   Matrix   a matrix's sides, and the bounds of 01 on them
 //   rest     the rest of a division, mostly without one
-//   residues sum and difference of residues, several words at a time
+//   residues words below a bound, and sum and difference of residues: several words at a time
 //   entries  sum, difference, negative, copy and zeros, entry by entry
 //   sum      a sum of products that may pass 64 bits
 //   inner    the inner product
@@ -32,6 +32,7 @@ pub use formula::write_share;
 pub use inner::inner_product;
 pub use product::add_product;
 pub use product::write_product;
+pub use residues::all_below;
 ghost use mathlib.Core.Path.{_≡_};
 ghost use Prim.Native.Nat.{_*_};
 ghost use Rattle.protocol.specs.Bounds.{sidesFit, product};

@@ -2,11 +2,11 @@
 --   Placed, first-placed         the numbers of step 1
 --   last-received                the numbers of step 3
 --   first-known, left-known, last-known   a step that is accepted
---   left-shape, last-shape       what the writers ask
+--   masks, left-shape, last-shape   what the writers ask
 -- Assumes nothing.
 use mathlib.Core.Path.{_≡_, sym, _∙_}
 use mathlib.Core.Bool.{true}
-use mathlib.Core.List.{List}
+use mathlib.Core.List.{List, [], _∷_}
 use Prim.Native.Nat.{ℕ, _+_, _*_, _≤_}
 use native.Mathlib.Omega.{arith}
 use lib.ListN.{length}
@@ -16,10 +16,14 @@ use Rattle.protocol.specs.declared.Head.{Head}
 use Rattle.protocol.specs.declared.RightSession.{RightSession}
 use Rattle.protocol.specs.Judge.{done}
 use Rattle.protocol.specs.Bounds.{sidesFit}
-use Rattle.protocol.specs.Tape.{Slot, Role, right, sortOf, tapeSize}
+use Rattle.protocol.specs.Tape.{Slot, Role, right, sortOf, layout, tapeSize, slotWords}
 use Rattle.protocol.specs.Message.{Message}
 use Rattle.protocol.specs.Product.{rightFirstEffect, rightFirstTests, rightFirst, leftEffect, leftTests, leftStep, rightLastEffect, rightLastTests, rightLast}
 use Rattle.protocol.proofs.Judge.{passed}
+use Rattle.algebra.specs.Count.{part}
+use Rattle.algebra.specs.Matrix.{Residues}
+use Rattle.algebra.proofs.Parts.{Fits, _then_}
+use Rattle.protocol.proofs.Tests.{FirstFits}
 use Rattle.protocol.proofs.StepTests.{RightFirstFits, right-first, LeftFits, left-step, RightLastFits, right-last}
 use Rattle.checks.specs.InOrder.{judged}
 use Rattle.checks.proofs.InOrder.{accepted-by}
@@ -29,7 +33,7 @@ use Rattle.session.specs.Groups.{modulusTests, numberTests, placeTests}
 use Rattle.steps.specs.Groups.{receivedNumbers}
 use Rattle.steps.proofs.Fits.{Received, received-fits}
 use Rattle.product.specs.Groups.{firstNumbers, lastNumbers}
-use Rattle.product.specs.Shape.{LeftShape, LastShape}
+use Rattle.product.specs.Shape.{Masks, LeftShape, LastShape}
 use Rattle.session.proofs.Join.{first-passed}
 use Rattle.message.proofs.KindLaws.{size-1, size-2}
 
@@ -70,6 +74,18 @@ unfolding rightLast
 last-known x s a share h = right-last x s a share .means (accepted-by (rightLastTests x s a share) (rightLastEffect x s a) h) .0
 
 -- ---- what the writers ask
+
+-- of a half's two matrices, the first
+first-of : {q a b : ℕ} {ls : List (List ℕ)} → Fits q (a ∷ b ∷ []) ls → Residues q a (part 0 ls)
+first-of (r then _) = r
+
+pub masks : (role : Role) (t : Terms) (s : Slot) (a b : ℕ) (input : List ℕ) {words : List ℕ} → layout role (t .m) (t .k) (t .p) ≡ a ∷ b ∷ [] → FirstFits role t s
+    → Residues (t .q) a input → words ≡ slotWords s → Masks role t a input words
+masks role t s a b input sizes f r e = record {
+  small-q = omega (arith, f .terms .small);
+  plain = r;
+  mask = rw (e) (first-of (rw sizes at (f .matrices-fit)));
+}
 
 pub left-shape : (t : Terms) (s : Slot) (x words : List ℕ) (a : Message) (room share slot : ℕ) → LeftFits t s x words a room share → slot ≡ s .size
     → LeftShape t (length x) (length (a .residues)) slot room

@@ -1,10 +1,10 @@
 // Step 1: right sends Y1 = Y − Y0, and its half is in use.
 use crate::RightAnswer;
 use checks::Check;
-use checks::all_below;
 use checks::answer_of;
 use checks::times;
-use matrix::write_difference;
+use matrix::all_below;
+use matrix::residues::subtract_residues;
 use protocol::Answer;
 use protocol::Head;
 use protocol::Refusal;
@@ -22,7 +22,7 @@ use steps::no_head;
 ghost use mathlib.Core.Path.{_≡_};
 ghost use mathlib.Core.Bool.{true};
 ghost use mathlib.Core.List.{[]};
-ghost use Prim.Native.Nat.{_*_, _≤_, _<_};
+ghost use Prim.Native.Nat.{_*_, _≤_};
 ghost use lib.ListN.{length};
 ghost use Rattle.algebra.specs.Count.{part};
 ghost use Rattle.algebra.specs.Words.{over};
@@ -33,6 +33,7 @@ ghost use Rattle.protocol.specs.Product.{noRight, rightFirstTests, rightFirst};
 ghost use Rattle.checks.specs.InOrder.{checked, judged};
 ghost use Rattle.session.specs.Leaves.{Leaves, leaves};
 ghost use Rattle.product.specs.Groups.{firstNumbers, firstWords};
+ghost use Rattle.product.specs.Shape.{Masks};
 
 fn check_numbers(t: Terms, pool: usize, size: usize, index: usize, y: usize, room: usize) -> Check
     ensures { λ r. ⌜ checked r ≡ judged (firstNumbers t pool size index y room) ⌝ }
@@ -68,13 +69,13 @@ fn check(pool: &[u32], size: usize, index: usize, t: Terms, y: &[u32], room: usi
 }
 
 fn write(t: Terms, y: &[u32], slot: &mut [u32], out: &mut [u32])
-    requires { ⌜ (0 < t .q) × (tapeSize right (t .m) (t .k) (t .p) ≤ length (now slot)) × (length (now y) ≡ t .k * t .p) × (t .k * t .p ≤ length (now out)) ⌝ }
+    requires { ⌜ Masks right t (t .k * t .p) (now y) (now slot) × (tapeSize right (t .m) (t .k) (t .p) ≤ length (now slot)) × (t .k * t .p ≤ length (now out)) ⌝ }
     ensures { λ _. ⌜ now (slot .exit) ≡ wordsInUse (now (slot .entry)) ⌝ }
     ensures { λ _. ⌜ now (out .exit) ≡ over (sendY (t .q) (t .m) (t .k) (t .p) (now (y .entry)) (part 0 (matrices right t (now (slot .entry))))) (now (out .entry)) ⌝ }
 {
     let kp = times(t.k, t.p);
     let end = 7 + kp;
-    write_difference(t.q, kp, y, &slot[7..end], out);
+    subtract_residues(t.q, kp, y, &slot[7..end], out);
     take_up(slot);
 }
 

@@ -1,14 +1,14 @@
 // Step 2: left draws U, sends X1 = X + X0 and R1 = X × Y1 − U − A0, and has the share U. Its half is spent.
 use crate::LeftAnswer;
 use checks::Check;
-use checks::all_below;
 use checks::answer_of;
 use checks::times;
 use drawing::Reading;
 use drawing::draw;
 use drawing::read;
+use matrix::all_below;
+use matrix::residues::add_residues;
 use matrix::write_reply;
-use matrix::write_sum;
 use message::message_size;
 use protocol::Answer;
 use protocol::Head;
@@ -34,7 +34,7 @@ ghost use Rattle.protocol.specs.Product.{leftTests, leftStep};
 ghost use Rattle.checks.specs.InOrder.{checked, judged};
 ghost use Rattle.session.specs.Leaves.{Leaves, leaves};
 ghost use Rattle.product.specs.Groups.{leftLengths, leftWords};
-ghost use Rattle.product.specs.Shape.{LeftShape};
+ghost use Rattle.product.specs.Shape.{Masks, LeftShape};
 
 // The lengths of the input and of the slices that are written; and the message is the one due.
 fn check_lengths(t: Terms, kind: u32, x: usize, room: usize, share: usize) -> Check
@@ -102,14 +102,14 @@ fn check(
 
 // X + X0, and then X × Y1 − U − A0.
 fn write_message(t: Terms, x: &[u32], y1: &[u32], u: &[u32], slot: &[u32], out: &mut [u32])
-    requires { ⌜ LeftShape t (length (now x)) (length (now y1)) (length (now slot)) (length (now out)) × (length (now u) ≡ t .m * t .p) ⌝ }
+    requires { ⌜ LeftShape t (length (now x)) (length (now y1)) (length (now slot)) (length (now out)) × (length (now u) ≡ t .m * t .p) × Masks left t (t .m * t .k) (now x) (now slot) ⌝ }
     ensures { λ _. ⌜ now (out .exit) ≡ over (sendX (t .q) (t .m) (t .k) (t .p) (now (x .entry)) (part 0 (matrices left t (now (slot .entry))))
         ++ sendR (t .q) (t .m) (t .k) (t .p) (now (x .entry)) (now (y1 .entry)) (now (u .entry)) (part 1 (matrices left t (now (slot .entry))))) (now (out .entry)) ⌝ }
 {
     let mk = times(t.m, t.k);
     let middle = 7 + mk;
     let end = middle + times(t.m, t.p);
-    write_sum(t.q, mk, x, &slot[7..middle], out);
+    add_residues(t.q, mk, x, &slot[7..middle], out);
     write_reply(
         t.q,
         t.m as usize,
@@ -133,7 +133,7 @@ fn write(
     out: &mut [u32],
     share: &mut [u32],
 ) -> usize
-    requires { ⌜ LeftShape t (length (now x)) (length (now y1)) (length (now slot)) (length (now out)) × (sidesFit product (t .m) (t .k) (t .p) ≡ true) × (t .m * t .p ≤ length (residuesOf (t .q) (now words))) × (t .m * t .p ≤ length (now share)) ⌝ }
+    requires { ⌜ LeftShape t (length (now x)) (length (now y1)) (length (now slot)) (length (now out)) × (sidesFit product (t .m) (t .k) (t .p) ≡ true) × (t .m * t .p ≤ length (residuesOf (t .q) (now words))) × (t .m * t .p ≤ length (now share)) × Masks left t (t .m * t .k) (now x) (now slot) ⌝ }
     ensures { λ r. ⌜ r ≡ wordsRead (t .q) (t .m * t .p) (now (words .entry)) ⌝ }
     ensures { λ _. ⌜ now (slot .exit) ≡ wordsSpent left t (now (slot .entry)) ⌝ }
     ensures { λ _. ⌜ now (out .exit) ≡ over (sendX (t .q) (t .m) (t .k) (t .p) (now (x .entry)) (part 0 (matrices left t (now (slot .entry))))

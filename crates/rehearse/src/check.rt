@@ -1,10 +1,10 @@
 // What the run's calls need of what the lines say, before any of them is made: first the numbers, then the words.
 use checks::Check;
-use checks::all_below;
 use checks::times;
 use drawing::Reading;
 use drawing::read;
 use matrix::Matrix;
+use matrix::all_below;
 use protocol::Refusal;
 use protocol::Terms;
 use session::End;

@@ -4,7 +4,7 @@ use crate::lowest::need;
 use crate::lowest::worst;
 use crate::numbers::half_size;
 use checks::Check;
-use checks::all_below;
+use matrix::all_below;
 use protocol::Refusal;
 use protocol::Terms;
 ghost use mathlib.Core.Path.{_≡_};

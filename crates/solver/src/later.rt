@@ -1,6 +1,6 @@
 // What the solver checks at its second step and its last: the session is open, the step is due, and the half and the message are its own.
 use checks::Check;
-use checks::all_below;
+use matrix::all_below;
 use message::side_size;
 use protocol::Head;
 use protocol::Refusal;

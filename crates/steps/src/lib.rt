@@ -5,7 +5,7 @@
 //   is_slot        the slot lies in its pool
 //   no_head        the head where nothing is sent
 use checks::Check;
-use checks::all_below;
+use matrix::all_below;
 use protocol::Head;
 use protocol::Refusal;
 use protocol::SessionId;

@@ -1,10 +1,11 @@
-use mathlib.Core.Path.{sym, ap, _∙_}
+use mathlib.Core.Path.{refl, sym, ap, _∙_}
+use Prim.Native.Nat.{_*_}
 use native.Mathlib.Omega.{arith}
 use lib.ListN.{length}
 use borrow.Author.Needs.{needs}
 use Rattle.session.proofs.Slot.{slot-part, slot-part-length, slot-written, half-body, in-use-length}
 use Rattle.protocol.specs.Tape.{slotAt, right, wordsInUse}
-use Rattle.product.proofs.Known.{first-known}
+use Rattle.product.proofs.Known.{first-known, masks}
 use Rattle.session.proofs.Leaving.{refused-leaves}
 use Rattle.product.proofs.Leaving.{first-done}
 use Rattle.protocol.proofs.Slots.{slot-room}
@@ -56,9 +57,15 @@ part-write-end : tie.Need-part-write-end
 part-write-end c = let i = slot-room (slotAt (c .before .before .before .before .before .before .before .before .before .args .pool .now) (c .before .before .before .before .before .before .before .before .before .args .size) (c .before .before .before .before .before .before .before .before .before .args .index)) (first-known (c .before .before .before .before .before .before .before .before .before .args .t) (slotAt (c .before .before .before .before .before .before .before .before .before .args .pool .now) (c .before .before .before .before .before .before .before .before .before .args .size) (c .before .before .before .before .before .before .before .before .before .args .index)) (c .before .before .before .before .before .before .before .before .before .args .y .now) (length (c .before .before .before .before .before .before .before .before .before .args .out .now)) (sym (c .before .before .before .before .check .ensures) ∙ ap checked (c .enum-told .given .1)) .first .half .inside) in search needs
 
 write-requires : tie.Need-write-requires
-write-requires c κs = let f = first-known (c .before .before .before .before .before .before .before .before .before .before .before .args .t) (slotAt (c .before .before .before .before .before .before .before .before .before .before .before .args .pool .now) (c .before .before .before .before .before .before .before .before .before .before .before .args .size) (c .before .before .before .before .before .before .before .before .before .before .before .args .index)) (c .before .before .before .before .before .before .before .before .before .before .before .args .y .now) (length (c .before .before .before .before .before .before .before .before .before .before .before .args .out .now)) (sym (c .before .before .before .before .before .before .check .ensures) ∙ ap checked (c .before .before .enum-told .given .1)) in
-    let i = slot-room (slotAt (c .before .before .before .before .before .before .before .before .before .before .before .args .pool .now) (c .before .before .before .before .before .before .before .before .before .before .before .args .size) (c .before .before .before .before .before .before .before .before .before .before .before .args .index)) (f .first .half .inside) in
-    (omega (arith, f .first .terms .big), omega (arith, f .first .half .room, slot-part-length (c .before .before .before .before .before .before .before .before .before .before .before .args .pool .now) (c .before .before .before .before .before .before .before .before .before .before .before .args .size) (c .before .before .before .before .before .before .before .before .before .before .before .args .index) i), f .y-fits .size, omega (arith, f .message-room, size-1 (c .before .before .before .before .before .before .before .before .before .before .before .args .t)))
+write-requires c κs =
+    let a = c .before .before .before .before .before .before .before .before .before .before .before .args in
+    let s = slotAt (a .pool .now) (a .size) (a .index) in
+    let f = first-known (a .t) s (a .y .now) (length (a .out .now)) (sym (c .before .before .before .before .before .before .check .ensures) ∙ ap checked (c .before .before .enum-told .given .1)) in
+    let i = slot-room s (f .first .half .inside) in (
+      masks right (a .t) s (a .t .k * a .t .p) (a .t .m * a .t .p) (a .y .now) refl (f .first) (f .y-fits) (slot-part (a .pool .now) (a .size) (a .index)),
+      omega (arith, f .first .half .room, slot-part-length (a .pool .now) (a .size) (a .index) i),
+      omega (arith, f .message-room, size-1 (a .t)),
+    )
 
 same-length-2 : tie.Need-same-length-2
 same-length-2 c = search needs

@@ -1,8 +1,10 @@
-use mathlib.Core.Path.{refl}
-use Prim.Native.Nat.{_*_}
+use mathlib.Core.Path.{_≡_, refl}
+use Prim.Native.Nat.{_+_, _-_, _*_}
 use native.Mathlib.Omega.{arith}
+use lib.ListN.{take, drop}
 use borrow.Author.Needs.{needs}
-use Rattle.protocol.specs.Tape.{right}
+use Rattle.algebra.specs.Count.{part}
+use Rattle.protocol.specs.Tape.{right, matrices}
 use Rattle.product.proofs.Halves.{first-matrix}
 use Rattle.algebra.specs.Product.{sendY}
 use Rattle.checks.proofs.Place.{right-size}
@@ -15,17 +17,28 @@ times-requires c κs = search needs
 add-end : tie.Need-add-end
 add-end c = search needs
 
-sub-write-difference : tie.Need-sub-write-difference
-sub-write-difference c = search needs
+sub-subtract-residues : tie.Need-sub-subtract-residues
+sub-subtract-residues c = search needs
 
-part-write-difference-start : tie.Need-part-write-difference-start
-part-write-difference-start c = search needs
+part-subtract-residues-start : tie.Need-part-subtract-residues-start
+part-subtract-residues-start c = search needs
 
-part-write-difference-end : tie.Need-part-write-difference-end
-part-write-difference-end c = omega (arith, right-size (c .before .before .before .before .before .args .t .m) (c .before .before .before .before .before .args .t .k) (c .before .before .before .before .before .args .t .p), c .before .times .ensures, c .before .before .before .before .before .pre .1)
+part-subtract-residues-end : tie.Need-part-subtract-residues-end
+part-subtract-residues-end c = omega (arith, right-size (c .before .before .before .before .before .args .t .m) (c .before .before .before .before .before .args .t .k) (c .before .before .before .before .before .args .t .p), c .before .times .ensures, c .before .before .before .before .before .pre .1)
 
-write-difference-requires : tie.Need-write-difference-requires
-write-difference-requires c κs = search needs
+subtract-residues-requires : tie.Need-subtract-residues-requires
+subtract-residues-requires c κs =
+    let a = c .before .before .before .before .before .before .before .args in
+    let h = c .before .before .before .before .before .before .before .pre .0 in
+    let n : c .before .before .before .times .result ≡ a .t .k * a .t .p = c .before .before .before .times .ensures in
+    let mask : take (7 + c .before .before .before .times .result - 7) (drop 7 (a .slot .now)) ≡ part 0 (matrices right (a .t) (a .slot .now)) = rw n (first-matrix right (a .t) (a .slot .now) (a .t .k * a .t .p) (a .t .m * a .t .p) refl) in (
+      h .small-q,
+      λ j l. h .plain .below j (omega (arith, n)),
+      λ j l. rw mask (h .mask .below j (omega (arith, n))),
+      omega (arith, h .plain .size, n),
+      search needs,
+      search needs,
+    )
 
 take-up-requires : tie.Need-take-up-requires
 take-up-requires c κs = omega (arith, right-size (c .before .before .before .before .before .before .before .before .before .before .before .args .t .m) (c .before .before .before .before .before .before .before .before .before .before .before .args .t .k) (c .before .before .before .before .before .before .before .before .before .before .before .args .t .p), c .before .before .before .before .before .before .before .before .before .before .before .pre .1)
@@ -38,7 +51,7 @@ same-length-2 c = search needs
 
 returns : tie.Need-returns
 unfolding sendY
-returns c = (c .before .before .take-up .ensures, rw (c .before .before .before .before .before .before .before .before .before .before .times .ensures, first-matrix right (c .before .before .before .before .before .before .before .before .before .before .before .before .before .before .args .t) (c .before .before .before .before .before .before .before .before .before .before .before .before .before .before .args .slot .now) (c .before .before .before .before .before .before .before .before .before .before .before .before .before .before .args .t .k * c .before .before .before .before .before .before .before .before .before .before .before .before .before .before .args .t .p) (c .before .before .before .before .before .before .before .before .before .before .before .before .before .before .args .t .m * c .before .before .before .before .before .before .before .before .before .before .before .before .before .before .args .t .p) refl) at (c .before .before .before .before .before .before .write-difference .ensures))
+returns c = (c .before .before .take-up .ensures, rw (c .before .before .before .before .before .before .before .before .before .before .times .ensures, first-matrix right (c .before .before .before .before .before .before .before .before .before .before .before .before .before .before .args .t) (c .before .before .before .before .before .before .before .before .before .before .before .before .before .before .args .slot .now) (c .before .before .before .before .before .before .before .before .before .before .before .before .before .before .args .t .k * c .before .before .before .before .before .before .before .before .before .before .before .before .before .before .args .t .p) (c .before .before .before .before .before .before .before .before .before .before .before .before .before .before .args .t .m * c .before .before .before .before .before .before .before .before .before .before .before .before .before .before .args .t .p) refl) at (c .before .before .before .before .before .before .subtract-residues .ensures))
 
 pub write-spec : {M : Type 1} → statement M
 write-spec =
@@ -46,10 +59,10 @@ write-spec =
     (tie.spec
     times-requires
     add-end
-    sub-write-difference
-    part-write-difference-start
-    part-write-difference-end
-    write-difference-requires
+    sub-subtract-residues
+    part-subtract-residues-start
+    part-subtract-residues-end
+    subtract-residues-requires
     take-up-requires
     same-length
     same-length-2

@@ -1,13 +1,15 @@
-use mathlib.Core.Path.{sym, ap, _∙_}
+use mathlib.Core.Path.{refl, sym, ap, _∙_}
+use Prim.Native.Nat.{_*_}
 use native.Mathlib.Omega.{arith}
 use lib.ListN.{length}
 use borrow.Author.Needs.{needs}
 use Rattle.session.proofs.Slot.{slot-part, slot-part-length, slot-written, spent-keeps}
 use Rattle.protocol.specs.Tape.{slotAt, left, wordsSpent}
-use Rattle.product.proofs.Known.{left-known, left-shape}
+use Rattle.product.proofs.Known.{left-known, left-shape, masks}
 use Rattle.session.proofs.Leaving.{refused-leaves}
 use Rattle.product.proofs.Leaving.{left-done}
 use Rattle.protocol.proofs.Slots.{slot-room}
+use Rattle.protocol.specs.Message.{Message}
 use Rattle.protocol.specs.Product.{leftEffect, leftStep}
 use Rattle.checks.specs.InOrder.{checked}
 use Rattle.message.proofs.KindLaws.{size-1, whole-message}
@@ -56,9 +58,17 @@ part-write-end : tie.Need-part-write-end
 part-write-end c = let i = slot-room (slotAt (c .before .before .before .before .before .before .before .before .before .before .args .pool .now) (c .before .before .before .before .before .before .before .before .before .before .args .size) (c .before .before .before .before .before .before .before .before .before .before .args .index)) (left-known (c .before .before .before .before .before .before .before .before .before .before .args .t) (slotAt (c .before .before .before .before .before .before .before .before .before .before .args .pool .now) (c .before .before .before .before .before .before .before .before .before .before .args .size) (c .before .before .before .before .before .before .before .before .before .before .args .index)) (c .before .before .before .before .before .before .before .before .before .before .args .x .now) (c .before .before .before .before .before .before .before .before .before .before .args .words .now) (record { head = c .before .before .before .before .before .before .before .before .before .before .args .a; residues = c .before .before .before .before .before .before .before .before .before .before .args .residues .now }) (length (c .before .before .before .before .before .before .before .before .before .before .args .out .now)) (length (c .before .before .before .before .before .before .before .before .before .before .args .share .now)) (sym (c .before .before .check .ensures) ∙ ap checked (c .enum-told .given .1)) .first .half .inside) in search needs
 
 write-requires : tie.Need-write-requires
-write-requires c κs = let f = left-known (c .before .before .before .before .before .before .before .before .before .before .before .before .before .args .t) (slotAt (c .before .before .before .before .before .before .before .before .before .before .before .before .before .args .pool .now) (c .before .before .before .before .before .before .before .before .before .before .before .before .before .args .size) (c .before .before .before .before .before .before .before .before .before .before .before .before .before .args .index)) (c .before .before .before .before .before .before .before .before .before .before .before .before .before .args .x .now) (c .before .before .before .before .before .before .before .before .before .before .before .before .before .args .words .now) (record { head = c .before .before .before .before .before .before .before .before .before .before .before .before .before .args .a; residues = c .before .before .before .before .before .before .before .before .before .before .before .before .before .args .residues .now }) (length (c .before .before .before .before .before .before .before .before .before .before .before .before .before .args .out .now)) (length (c .before .before .before .before .before .before .before .before .before .before .before .before .before .args .share .now)) (sym (c .before .before .before .before .before .check .ensures) ∙ ap checked (c .before .before .before .enum-told .given .1)) in
-    let i = slot-room (slotAt (c .before .before .before .before .before .before .before .before .before .before .before .before .before .args .pool .now) (c .before .before .before .before .before .before .before .before .before .before .before .before .before .args .size) (c .before .before .before .before .before .before .before .before .before .before .before .before .before .args .index)) (f .first .half .inside) in
-    (left-shape (c .before .before .before .before .before .before .before .before .before .before .before .before .before .args .t) (slotAt (c .before .before .before .before .before .before .before .before .before .before .before .before .before .args .pool .now) (c .before .before .before .before .before .before .before .before .before .before .before .before .before .args .size) (c .before .before .before .before .before .before .before .before .before .before .before .before .before .args .index)) (c .before .before .before .before .before .before .before .before .before .before .before .before .before .args .x .now) (c .before .before .before .before .before .before .before .before .before .before .before .before .before .args .words .now) (record { head = c .before .before .before .before .before .before .before .before .before .before .before .before .before .args .a; residues = c .before .before .before .before .before .before .before .before .before .before .before .before .before .args .residues .now }) (length (c .before .before .before .before .before .before .before .before .before .before .before .before .before .args .out .now)) (length (c .before .before .before .before .before .before .before .before .before .before .before .before .before .args .share .now)) _ f (slot-part-length (c .before .before .before .before .before .before .before .before .before .before .before .before .before .args .pool .now) (c .before .before .before .before .before .before .before .before .before .before .before .before .before .args .size) (c .before .before .before .before .before .before .before .before .before .before .before .before .before .args .index) i), f .first .terms .sides, f .enough, f .share-room)
+write-requires c κs =
+    let a = c .before .before .before .before .before .before .before .before .before .before .before .before .before .args in
+    let s = slotAt (a .pool .now) (a .size) (a .index) in
+    let message : Message = record { head = a .a; residues = a .residues .now } in
+    let f = left-known (a .t) s (a .x .now) (a .words .now) message (length (a .out .now)) (length (a .share .now)) (sym (c .before .before .before .before .before .check .ensures) ∙ ap checked (c .before .before .before .enum-told .given .1)) in
+    let i = slot-room s (f .first .half .inside) in
+    let shape =
+    left-shape (a .t) s (a .x .now) (a .words .now) message (length (a .out .now)) (length (a .share .now)) _ f
+    (slot-part-length (a .pool .now) (a .size) (a .index) i) in
+    let mask = masks left (a .t) s (a .t .m * a .t .k) (a .t .m * a .t .p) (a .x .now) refl (f .first) (f .x-fits) (slot-part (a .pool .now) (a .size) (a .index)) in
+    (shape, f .first .terms .sides, f .enough, f .share-room, mask)
 
 same-length-2 : tie.Need-same-length-2
 same-length-2 c = search needs

@@ -29,7 +29,7 @@ write-message-requires : tie.Need-write-message-requires
 write-message-requires c κs =
     let few : c .before .before .before .before .before .before .before .times .result ≤ length (residuesOf (c .before .before .before .before .before .before .before .before .before .before .before .before .before .before .args .t .q) (c .before .before .before .before .before .before .before .before .before .before .before .before .before .before .args .words .now)) = omega (arith, c .before .before .before .before .before .before .before .times .ensures, c .before .before .before .before .before .before .before .before .before .before .before .before .before .before .pre .2) in
     let u = coins-part _ _ (c .before .before .before .before .before .before .before .before .before .before .before .before .before .before .args .words .now) _ _ few (c .before .before .before .before .before .draw .ensures .1) in
-    (c .before .before .before .before .before .before .before .before .before .before .before .before .before .before .pre .0, ap length u ∙ (drawn-count _ _ _ few ∙ c .before .before .before .before .before .before .before .times .ensures))
+    (c .before .before .before .before .before .before .before .before .before .before .before .before .before .before .pre .0, ap length u ∙ (drawn-count _ _ _ few ∙ c .before .before .before .before .before .before .before .times .ensures), c .before .before .before .before .before .before .before .before .before .before .before .before .before .before .pre .4)
 
 spend-requires : tie.Need-spend-requires
 spend-requires c κs = (c .before .before .before .before .before .before .before .before .before .before .before .before .before .before .before .before .before .before .pre .1, omega (arith, c .before .before .before .before .before .before .before .before .before .before .before .before .before .before .before .before .before .before .pre .0 .half, left-size (c .before .before .before .before .before .before .before .before .before .before .before .before .before .before .before .before .before .before .args .t .m) (c .before .before .before .before .before .before .before .before .before .before .before .before .before .before .before .before .before .before .args .t .k) (c .before .before .before .before .before .before .before .before .before .before .before .before .before .before .before .before .before .before .args .t .p)))

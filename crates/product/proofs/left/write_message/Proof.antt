@@ -4,12 +4,13 @@ use Prim.Native.Nat.{ℕ, _+_, _-_, _*_}
 use native.Mathlib.Omega.{arith}
 use lib.ListN.{length, take, drop}
 use borrow.Author.Needs.{needs}
-use Rattle.protocol.specs.Tape.{left}
+use Rattle.algebra.specs.Count.{part}
+use Rattle.protocol.specs.Tape.{left, matrices}
 use Rattle.product.proofs.Halves.{first-matrix, second-matrix}
 use Rattle.algebra.specs.Matrix.{matAdd}
 use Rattle.algebra.specs.Words.{over}
 use Rattle.algebra.specs.Product.{sendX, sendR}
-use Rattle.algebra.proofs.Lists.{add-residues}
+use Rattle.algebra.proofs.Lists.{add-residues as sum-residues}
 use Rattle.checks.proofs.Written.{part-then}
 use Rattle.protocol.proofs.Residues.{over-length}
 use Rattle.product.proofs.left.write_message.Statement.{statement}
@@ -27,17 +28,28 @@ times-requires-2 c κs = search needs
 add-end : tie.Need-add-end
 add-end c = search needs
 
-sub-write-sum : tie.Need-sub-write-sum
-sub-write-sum c = search needs
+sub-add-residues : tie.Need-sub-add-residues
+sub-add-residues c = search needs
 
-part-write-sum-start : tie.Need-part-write-sum-start
-part-write-sum-start c = search needs
+part-add-residues-start : tie.Need-part-add-residues-start
+part-add-residues-start c = search needs
 
-part-write-sum-end : tie.Need-part-write-sum-end
-part-write-sum-end c = search needs
+part-add-residues-end : tie.Need-part-add-residues-end
+part-add-residues-end c = search needs
 
-write-sum-requires : tie.Need-write-sum-requires
-write-sum-requires c κs = search needs
+add-residues-requires : tie.Need-add-residues-requires
+add-residues-requires c κs =
+    let a = c .before .before .before .before .before .before .before .before .before .args in
+    let h = c .before .before .before .before .before .before .before .before .before .pre .2 in
+    let n : c .before .before .before .times .result ≡ a .t .m * a .t .k = c .before .before .before .times .ensures in
+    let mask : take (7 + c .before .before .before .times .result - 7) (drop 7 (a .slot .now)) ≡ part 0 (matrices left (a .t) (a .slot .now)) = rw n (first-matrix left (a .t) (a .slot .now) (a .t .m * a .t .k) (a .t .m * a .t .p) refl) in (
+      h .small-q,
+      λ j l. h .plain .below j (omega (arith, n)),
+      λ j l. rw mask (h .mask .below j (omega (arith, n))),
+      search needs,
+      search needs,
+      search needs,
+    )
 
 cast-write-reply : tie.Need-cast-write-reply
 cast-write-reply c = search needs
@@ -82,10 +94,10 @@ returns : tie.Need-returns
 unfolding sendX sendR
 returns c =
     let mask = ap (λ (n : ℕ). take (7 + n - 7) (drop 7 (c .before .before .before .before .before .before .before .before .before .before .before .before .before .before .before .before .before .before .before .before .args .slot .now))) (c .before .before .before .before .before .before .before .before .before .before .before .before .before .before .times .ensures) ∙ first-matrix left (c .before .before .before .before .before .before .before .before .before .before .before .before .before .before .before .before .before .before .before .before .args .t) (c .before .before .before .before .before .before .before .before .before .before .before .before .before .before .before .before .before .before .before .before .args .slot .now) (c .before .before .before .before .before .before .before .before .before .before .before .before .before .before .before .before .before .before .before .before .args .t .m * c .before .before .before .before .before .before .before .before .before .before .before .before .before .before .before .before .before .before .before .before .args .t .k) (c .before .before .before .before .before .before .before .before .before .before .before .before .before .before .before .before .before .before .before .before .args .t .m * c .before .before .before .before .before .before .before .before .before .before .before .before .before .before .before .before .before .before .before .before .args .t .p) refl in
-    let sent : _≡_ {A = List ℕ} _ (over (matAdd (c .before .before .before .before .before .before .before .before .before .before .before .before .before .before .before .before .before .before .before .before .args .t .q) (c .before .before .before .before .before .before .before .before .before .before .before .before .before .before .times .result) (c .before .before .before .before .before .before .before .before .before .before .before .before .before .before .before .before .before .before .before .before .args .x .now) (take (7 + c .before .before .before .before .before .before .before .before .before .before .before .before .before .before .times .result - 7) (drop 7 (c .before .before .before .before .before .before .before .before .before .before .before .before .before .before .before .before .before .before .before .before .args .slot .now)))) (c .before .before .before .before .before .before .before .before .before .before .before .before .before .before .before .before .before .before .before .before .args .out .now)) = c .before .before .before .before .before .before .before .before .before .before .write-sum .ensures in
+    let sent : _≡_ {A = List ℕ} _ (over (matAdd (c .before .before .before .before .before .before .before .before .before .before .before .before .before .before .before .before .before .before .before .before .args .t .q) (c .before .before .before .before .before .before .before .before .before .before .before .before .before .before .times .result) (c .before .before .before .before .before .before .before .before .before .before .before .before .before .before .before .before .before .before .before .before .args .x .now) (take (7 + c .before .before .before .before .before .before .before .before .before .before .before .before .before .before .times .result - 7) (drop 7 (c .before .before .before .before .before .before .before .before .before .before .before .before .before .before .before .before .before .before .before .before .args .slot .now)))) (c .before .before .before .before .before .before .before .before .before .before .before .before .before .before .before .before .before .before .before .before .args .out .now)) = c .before .before .before .before .before .before .before .before .before .before .add-residues .ensures in
     let e1 = sent ∙ ap₂ (λ (n : ℕ) (a : List ℕ). over (matAdd (c .before .before .before .before .before .before .before .before .before .before .before .before .before .before .before .before .before .before .before .before .args .t .q) n (c .before .before .before .before .before .before .before .before .before .before .before .before .before .before .before .before .before .before .before .before .args .x .now) a) (c .before .before .before .before .before .before .before .before .before .before .before .before .before .before .before .before .before .before .before .before .args .out .now)) (c .before .before .before .before .before .before .before .before .before .before .before .before .before .before .times .ensures) mask in
     let e2 = rw (c .before .before .before .before .before .before .before .before .before .before .before .before .before .before .times .ensures, c .before .before .before .before .before .before .before .before .before .before .before .before .before .times2 .ensures, second-matrix left (c .before .before .before .before .before .before .before .before .before .before .before .before .before .before .before .before .before .before .before .before .args .t) (c .before .before .before .before .before .before .before .before .before .before .before .before .before .before .before .before .before .before .before .before .args .slot .now) (c .before .before .before .before .before .before .before .before .before .before .before .before .before .before .before .before .before .before .before .before .args .t .m * c .before .before .before .before .before .before .before .before .before .before .before .before .before .before .before .before .before .before .before .before .args .t .k) (c .before .before .before .before .before .before .before .before .before .before .before .before .before .before .before .before .before .before .before .before .args .t .m * c .before .before .before .before .before .before .before .before .before .before .before .before .before .before .before .before .before .before .before .before .args .t .p) refl) at (c .before .before .write-reply .ensures) in
-    let full = add-residues (c .before .before .before .before .before .before .before .before .before .before .before .before .before .before .before .before .before .before .before .before .pre .0 .some-q) (c .before .before .before .before .before .before .before .before .before .before .before .before .before .before .before .before .before .before .before .before .args .t .m * c .before .before .before .before .before .before .before .before .before .before .before .before .before .before .before .before .before .before .before .before .args .t .k) (c .before .before .before .before .before .before .before .before .before .before .before .before .before .before .before .before .before .before .before .before .args .x .now) (_) .size in
+    let full = sum-residues (c .before .before .before .before .before .before .before .before .before .before .before .before .before .before .before .before .before .before .before .before .pre .0 .some-q) (c .before .before .before .before .before .before .before .before .before .before .before .before .before .before .before .before .before .before .before .before .args .t .m * c .before .before .before .before .before .before .before .before .before .before .before .before .before .before .before .before .before .before .before .before .args .t .k) (c .before .before .before .before .before .before .before .before .before .before .before .before .before .before .before .before .before .before .before .before .args .x .now) (_) .size in
     rw (c .before .before .before .before .before .before .before .before .before .before .before .before .before .before .times .ensures)
     (part-then _ _ (c .before .before .before .before .before .before .before .before .before .before .before .before .before .before .before .before .before .before .before .before .args .out .now) _ _ (c .before .before .before .before .before .before .before .before .before .before .before .before .before .before .before .before .before .before .before .before .args .t .m * c .before .before .before .before .before .before .before .before .before .before .before .before .before .before .before .before .before .before .before .before .args .t .k) full
     (omega (arith, ap length e1 ∙ over-length _ (c .before .before .before .before .before .before .before .before .before .before .before .before .before .before .before .before .before .before .before .before .args .out .now) (omega (arith, full, c .before .before .before .before .before .before .before .before .before .before .before .before .before .before .before .before .before .before .before .before .pre .0 .room)), c .before .before .before .before .before .before .before .before .before .before .before .before .before .before .before .before .before .before .before .before .pre .0 .room)) e1 e2)
@@ -98,10 +110,10 @@ write-message-spec =
     add-middle
     times-requires-2
     add-end
-    sub-write-sum
-    part-write-sum-start
-    part-write-sum-end
-    write-sum-requires
+    sub-add-residues
+    part-add-residues-start
+    part-add-residues-end
+    add-residues-requires
     cast-write-reply
     cast-write-reply-2
     cast-write-reply-3
