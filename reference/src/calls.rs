@@ -83,16 +83,68 @@ pub trait Calls {
 #[derive(Clone, PartialEq, Eq)]
 pub struct Reference;
 
-fn terms_of(w: &[u32]) -> Terms {
-    Terms { session: w[0], tape: w[1], q: w[2], m: w[3], k: w[4], p: w[5] }
+/// A record that stands as words, in the order of its fields.
+trait Record {
+    const WORDS: usize;
+    fn of(w: &[u32]) -> Self;
+    fn words(&self) -> Vec<u32>;
 }
 
-fn terms_words(t: &Terms) -> [u32; TERMS] {
-    [t.session, t.tape, t.q, t.m, t.k, t.p]
+impl Record for Terms {
+    const WORDS: usize = TERMS;
+
+    fn of(w: &[u32]) -> Self {
+        Terms { session: w[0], tape: w[1], q: w[2], m: w[3], k: w[4], p: w[5] }
+    }
+
+    fn words(&self) -> Vec<u32> {
+        vec![self.session, self.tape, self.q, self.m, self.k, self.p]
+    }
+}
+
+/// The words that every session begins with, and what it keeps.
+fn session_words(terms: &Terms, due: u32, kept: &[&[u32]]) -> Vec<u32> {
+    [&terms.words(), [due].as_slice(), &kept.concat()].concat()
+}
+
+impl Record for Right {
+    const WORDS: usize = RIGHT;
+
+    fn of(w: &[u32]) -> Self {
+        Right { terms: Terms::of(w), due: w[6] }
+    }
+
+    fn words(&self) -> Vec<u32> {
+        session_words(&self.terms, self.due, &[])
+    }
+}
+
+impl Record for Solver {
+    const WORDS: usize = SOLVER;
+
+    fn of(w: &[u32]) -> Self {
+        Solver { terms: Terms::of(w), due: w[6], s: w[7..23].try_into().unwrap() }
+    }
+
+    fn words(&self) -> Vec<u32> {
+        session_words(&self.terms, self.due, &[&self.s])
+    }
+}
+
+impl Record for Blinder {
+    const WORDS: usize = BLINDER;
+
+    fn of(w: &[u32]) -> Self {
+        Blinder { terms: Terms::of(w), due: w[6], m: w[7..263].try_into().unwrap(), y: w[263..279].try_into().unwrap() }
+    }
+
+    fn words(&self) -> Vec<u32> {
+        session_words(&self.terms, self.due, &[&self.m, &self.y])
+    }
 }
 
 fn message_of(a: Taken) -> Message {
-    Message { kind: a.head[0], terms: terms_of(&a.head[1..]), residues: a.residues.to_vec() }
+    Message { kind: a.head[0], terms: Terms::of(&a.head[1..]), residues: a.residues.to_vec() }
 }
 
 fn place(slot: Slot<'_>) -> Place<'_> {
@@ -103,45 +155,71 @@ fn put(words: &[u32], out: &mut [u32]) {
     out[..words.len()].copy_from_slice(words);
 }
 
-fn head(a: &Message, out: &mut [u32]) {
-    out[0] = a.kind;
-    put(&terms_words(&a.terms), &mut out[1..]);
-}
-
 fn report(reply: &Reply, out: &mut [u32]) -> u32 {
     out[0] = reply.read as u32;
-    head(&reply.message, &mut out[1..]);
+    out[1] = reply.message.kind;
+    put(&reply.message.terms.words(), &mut out[2..]);
     reply.number
 }
 
-fn right_of(w: &[u32]) -> Right {
-    Right { terms: terms_of(w), due: w[6] }
+/// What a step leaves that sends a message or has a result, and not both.
+fn leave<S: Record>((reply, s): (Reply, S), out: &mut [u32], session: &mut [u32], shown: &mut [u32]) -> u32 {
+    put(&reply.message.residues, out);
+    put(&reply.result, out);
+    put(&s.words(), session);
+    report(&reply, shown)
 }
 
-fn put_right(s: &Right, out: &mut [u32]) {
-    put(&terms_words(&s.terms), out);
-    out[6] = s.due;
+/// A first step, which is handed its terms and the room for its message.
+fn begin<S: Record>(
+    terms: &[u32],
+    out: &mut [u32],
+    session: &mut [u32],
+    shown: &mut [u32],
+    step: impl FnOnce(Terms, usize) -> (Reply, S),
+) -> u32 {
+    if terms.len() < TERMS || session.len() < S::WORDS || shown.len() < REPORT {
+        return SHORT;
+    }
+    leave(step(Terms::of(terms), out.len()), out, session, shown)
 }
 
-fn solver_of(w: &[u32]) -> Solver {
-    Solver { terms: terms_of(w), due: w[6], s: w[7..23].try_into().unwrap() }
+/// A later step or a drop, which is handed its session.
+fn go_on<S: Record>(session: &mut [u32], out: &mut [u32], shown: &mut [u32], step: impl FnOnce(S) -> (Reply, S)) -> u32 {
+    if session.len() < S::WORDS || shown.len() < REPORT {
+        return SHORT;
+    }
+    leave(step(S::of(session)), out, session, shown)
 }
 
-fn put_solver(s: &Solver, out: &mut [u32]) {
-    put(&terms_words(&s.terms), out);
-    out[6] = s.due;
-    put(&s.s, &mut out[7..]);
+/// A later step that takes a message, with the room for what it writes.
+fn take<S: Record>(
+    session: &mut [u32],
+    a: Taken,
+    out: &mut [u32],
+    shown: &mut [u32],
+    step: impl FnOnce(S, &Message, usize) -> (Reply, S),
+) -> u32 {
+    if a.head.len() < HEAD {
+        return SHORT;
+    }
+    let room = out.len();
+    go_on(session, out, shown, |s| step(s, &message_of(a), room))
 }
 
-fn blinder_of(w: &[u32]) -> Blinder {
-    Blinder { terms: terms_of(w), due: w[6], m: w[7..263].try_into().unwrap(), y: w[263..279].try_into().unwrap() }
-}
-
-fn put_blinder(s: &Blinder, out: &mut [u32]) {
-    put(&terms_words(&s.terms), out);
-    out[6] = s.due;
-    put(&s.m, &mut out[7..]);
-    put(&s.y, &mut out[263..]);
+/// A dealing into two pools, which is handed the words of its terms.
+fn dealt(
+    first: Slot,
+    second: &mut [u32],
+    terms: &[u32],
+    shown: &mut [u32],
+    deal: impl FnOnce(&mut Place, &mut Place, Terms) -> Reply,
+) -> u32 {
+    if terms.len() < TERMS || shown.len() < REPORT {
+        return SHORT;
+    }
+    let mut other = Place { pool: second, length: first.size, index: first.index };
+    report(&deal(&mut place(first), &mut other, Terms::of(terms)), shown)
 }
 
 /// A count and a head where a line was read or written, zeros where it was refused.
@@ -163,29 +241,15 @@ fn received(answer: Result<Message, u32>, out: &mut [u32], shown: &mut [u32]) ->
 
 impl Calls for Reference {
     fn deal_product(first: Slot, second: &mut [u32], terms: &[u32], raw: &[u32], shown: &mut [u32]) -> u32 {
-        if terms.len() < TERMS || shown.len() < REPORT {
-            return SHORT;
-        }
-        let mut other = Place { pool: second, length: first.size, index: first.index };
-        report(&deal_product(&mut place(first), &mut other, terms[1], terms[2], terms[3], terms[4], terms[5], raw), shown)
+        dealt(first, second, terms, shown, |a, b, t| deal_product(a, b, t.tape, t.q, t.m, t.k, t.p, raw))
     }
 
     fn deal_system(first: Slot, second: &mut [u32], terms: &[u32], raw: &[u32], shown: &mut [u32]) -> u32 {
-        if terms.len() < TERMS || shown.len() < REPORT {
-            return SHORT;
-        }
-        let mut other = Place { pool: second, length: first.size, index: first.index };
-        report(&deal_system(&mut place(first), &mut other, terms[1], terms[2], terms[3], raw), shown)
+        dealt(first, second, terms, shown, |a, b, t| deal_system(a, b, t.tape, t.q, t.m, raw))
     }
 
     fn right_first(slot: Slot, terms: &[u32], y: &[u32], out: &mut [u32], session: &mut [u32], shown: &mut [u32]) -> u32 {
-        if terms.len() < TERMS || session.len() < RIGHT || shown.len() < REPORT {
-            return SHORT;
-        }
-        let (reply, s) = right_first(terms_of(terms), &mut place(slot), y, out.len());
-        put(&reply.message.residues, out);
-        put_right(&s, session);
-        report(&reply, shown)
+        begin(terms, out, session, shown, |t, room| right_first(t, &mut place(slot), y, room))
     }
 
     fn left_step(
@@ -201,68 +265,34 @@ impl Calls for Reference {
         if terms.len() < TERMS || a.head.len() < HEAD || shown.len() < REPORT {
             return SHORT;
         }
-        let reply = left_step(terms_of(terms), &mut place(slot), x, raw, &message_of(a), out.len(), share.len());
+        let reply = left_step(Terms::of(terms), &mut place(slot), x, raw, &message_of(a), out.len(), share.len());
         put(&reply.message.residues, out);
         put(&reply.result, share);
         report(&reply, shown)
     }
 
     fn right_last(slot: Slot, session: &mut [u32], a: Taken, share: &mut [u32], shown: &mut [u32]) -> u32 {
-        if session.len() < RIGHT || a.head.len() < HEAD || shown.len() < REPORT {
-            return SHORT;
-        }
-        let (reply, s) = right_last(right_of(session), &mut place(slot), &message_of(a), share.len());
-        put(&reply.result, share);
-        put_right(&s, session);
-        report(&reply, shown)
+        take(session, a, share, shown, |s, a, room| right_last(s, &mut place(slot), a, room))
     }
 
     fn right_drop(slot: Slot, session: &mut [u32], shown: &mut [u32]) -> u32 {
-        if session.len() < RIGHT || shown.len() < REPORT {
-            return SHORT;
-        }
-        let (reply, s) = right_drop(right_of(session), &mut place(slot));
-        put_right(&s, session);
-        report(&reply, shown)
+        go_on(session, &mut [], shown, |s| right_drop(s, &mut place(slot)))
     }
 
     fn solver_first(slot: Slot, terms: &[u32], l: &[u32], x: &[u32], out: &mut [u32], session: &mut [u32], shown: &mut [u32]) -> u32 {
-        if terms.len() < TERMS || session.len() < SOLVER || shown.len() < REPORT {
-            return SHORT;
-        }
-        let (reply, s) = solver_first(terms_of(terms), &mut place(slot), l, x, out.len());
-        put(&reply.message.residues, out);
-        put_solver(&s, session);
-        report(&reply, shown)
+        begin(terms, out, session, shown, |t, room| solver_first(t, &mut place(slot), l, x, room))
     }
 
     fn solver_second(slot: Slot, session: &mut [u32], a: Taken, out: &mut [u32], shown: &mut [u32]) -> u32 {
-        if session.len() < SOLVER || a.head.len() < HEAD || shown.len() < REPORT {
-            return SHORT;
-        }
-        let (reply, s) = solver_second(solver_of(session), &mut place(slot), &message_of(a), out.len());
-        put(&reply.message.residues, out);
-        put_solver(&s, session);
-        report(&reply, shown)
+        take(session, a, out, shown, |s, a, room| solver_second(s, &mut place(slot), a, room))
     }
 
     fn solver_last(slot: Slot, session: &mut [u32], a: Taken, out: &mut [u32], shown: &mut [u32]) -> u32 {
-        if session.len() < SOLVER || a.head.len() < HEAD || shown.len() < REPORT {
-            return SHORT;
-        }
-        let (reply, s) = solver_last(solver_of(session), &mut place(slot), &message_of(a), out.len());
-        put(&reply.message.residues, out);
-        put_solver(&s, session);
-        report(&reply, shown)
+        take(session, a, out, shown, |s, a, room| solver_last(s, &mut place(slot), a, room))
     }
 
     fn solver_drop(slot: Slot, session: &mut [u32], shown: &mut [u32]) -> u32 {
-        if session.len() < SOLVER || shown.len() < REPORT {
-            return SHORT;
-        }
-        let (reply, s) = solver_drop(solver_of(session), &mut place(slot));
-        put_solver(&s, session);
-        report(&reply, shown)
+        go_on(session, &mut [], shown, |s| solver_drop(s, &mut place(slot)))
     }
 
     fn blinder_first(
@@ -277,42 +307,22 @@ impl Calls for Reference {
         session: &mut [u32],
         shown: &mut [u32],
     ) -> u32 {
-        if terms.len() < TERMS || a.head.len() < HEAD || session.len() < BLINDER || shown.len() < REPORT {
+        if a.head.len() < HEAD {
             return SHORT;
         }
-        let (reply, s) = blinder_first(terms_of(terms), &mut place(slot), scratch, m, y, raw, &message_of(a), out.len());
-        put(&reply.message.residues, out);
-        put_blinder(&s, session);
-        report(&reply, shown)
+        begin(terms, out, session, shown, |t, room| blinder_first(t, &mut place(slot), scratch, m, y, raw, &message_of(a), room))
     }
 
     fn blinder_second(slot: Slot, scratch: &[u32], session: &mut [u32], a: Taken, out: &mut [u32], shown: &mut [u32]) -> u32 {
-        if session.len() < BLINDER || a.head.len() < HEAD || shown.len() < REPORT {
-            return SHORT;
-        }
-        let (reply, s) = blinder_second(blinder_of(session), &mut place(slot), scratch, &message_of(a), out.len());
-        put(&reply.message.residues, out);
-        put_blinder(&s, session);
-        report(&reply, shown)
+        take(session, a, out, shown, |s, a, room| blinder_second(s, &mut place(slot), scratch, a, room))
     }
 
     fn blinder_last(slot: Slot, scratch: &mut [u32], session: &mut [u32], a: Taken, out: &mut [u32], shown: &mut [u32]) -> u32 {
-        if session.len() < BLINDER || a.head.len() < HEAD || shown.len() < REPORT {
-            return SHORT;
-        }
-        let (reply, s) = blinder_last(blinder_of(session), &mut place(slot), scratch, &message_of(a), out.len());
-        put(&reply.result, out);
-        put_blinder(&s, session);
-        report(&reply, shown)
+        take(session, a, out, shown, |s, a, room| blinder_last(s, &mut place(slot), scratch, a, room))
     }
 
     fn blinder_drop(slot: Slot, scratch: &mut [u32], session: &mut [u32], shown: &mut [u32]) -> u32 {
-        if session.len() < BLINDER || shown.len() < REPORT {
-            return SHORT;
-        }
-        let (reply, s) = blinder_drop(blinder_of(session), &mut place(slot), scratch);
-        put_blinder(&s, session);
-        report(&reply, shown)
+        go_on(session, &mut [], shown, |s| blinder_drop(s, &mut place(slot), scratch))
     }
 
     fn parse(bytes: &[u8], out: &mut [u32], shown: &mut [u32]) -> u32 {
