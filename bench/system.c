@@ -1,12 +1,11 @@
 // A whole session of a system of 16 unknowns on a tape that has been dealt, beside the bare solution of (L + M) z = x + y by FLINT and by NTL;
 // what each step takes, and its deepest stack.
 // packages: libflint-dev libntl-dev g++
+// sources: solution.cpp
 // link: -lflint -lntl -lgmp -lstdc++ -lm -lpthread
 #include "timing.h"
 #include "stack.h"
-#include <flint/flint.h>
-#include <flint/nmod_mat.h>
-#include <stdbool.h>
+#include "solution.h"
 #include <string.h>
 
 #define N 16
@@ -31,23 +30,12 @@ bool bench_solver_last(uint32_t *pool, size_t n_pool, size_t size, uint32_t q, u
 bool bench_blinder_last(uint32_t *pool, size_t n_pool, size_t size, uint32_t *scratch, size_t n_scratch, uint32_t q, uint32_t n, const uint32_t *mm,
                         size_t n_mm, const uint32_t *y, size_t n_y, const uint32_t *residues, size_t n_residues, uint32_t *out, size_t n_out);
 
-// bench/system.cpp
-void ntl_start(uint32_t q, size_t n, const uint32_t *a, const uint32_t *b);
-uint64_t ntl_solve(void);
-
 static uint32_t q, n, words[WORDS]; // n unknowns, 16 at most
 static size_t square, wide, slot;
 static uint32_t l[SQUARE], x[N], mm[SQUARE], y[N];
 static uint32_t blinder_tape[SLOT], solver_tape[SLOT]; // as dealt
 static uint32_t blinder_pool[SLOT], solver_pool[SLOT], scratch[SQUARE + WIDE], kept[N];
 static uint32_t sent1[WIDE], sent2[SQUARE + WIDE], sent3[SQUARE], sent4[SQUARE + N], sent5[N], z[N];
-static nmod_mat_t matrix, right, solution;
-
-static uint64_t sum(const uint32_t *t) {
-    uint64_t s = 0;
-    for (size_t i = 0; i < n; i++) s = s * 31 + t[i];
-    return s;
-}
 
 static bool step(int number) {
     switch (number) {
@@ -74,17 +62,8 @@ static uint64_t session(uint32_t i) {
             printf("step %d is refused\n", number);
             exit(1);
         }
-    return sum(z);
+    return solution_sum(z, n);
 }
-
-static uint64_t flint_solution(uint32_t i) {
-    (void)i;
-    nmod_mat_solve(solution, matrix, right);
-    uint64_t s = 0;
-    for (size_t j = 0; j < n; j++) s = s * 31 + nmod_mat_entry(solution, j, 0);
-    return s;
-}
-static uint64_t ntl_solution(uint32_t i) { (void)i; return ntl_solve(); }
 
 // ---- the tape, by the dealer's rules
 
@@ -166,21 +145,17 @@ static void stacks(void) {
 static void start(uint32_t modulus, uint32_t unknowns) {
     uint32_t joint[SQUARE], side[N];
     q = modulus, n = unknowns, square = n * n, wide = n * (n + 1), slot = 7 + 2 * square + 2 * wide;
-    nmod_mat_init(matrix, n, n, q), nmod_mat_init(right, n, 1, q), nmod_mat_init(solution, n, 1, q);
     do {
         draw_regular(l), draw_regular(mm), draw(x, n), draw(y, n);
-        for (size_t i = 0; i < square; i++) nmod_mat_entry(matrix, i / n, i % n) = joint[i] = ((uint64_t)l[i] + mm[i]) % q;
-        for (size_t i = 0; i < n; i++) nmod_mat_entry(right, i, 0) = side[i] = ((uint64_t)x[i] + y[i]) % q;
-    } while (!nmod_mat_solve(solution, matrix, right));
-    ntl_start(q, n, joint, side);
+        for (size_t i = 0; i < square; i++) joint[i] = ((uint64_t)l[i] + mm[i]) % q;
+        for (size_t i = 0; i < n; i++) side[i] = ((uint64_t)x[i] + y[i]) % q;
+    } while (!others_start(q, n, joint, side));
     deal();
     do {
         for (size_t i = 0; i < WORDS; i++) words[i] = random32();
         dealt();
     } while (!step(1) || !step(2));
 }
-
-static void stop(void) { nmod_mat_clear(matrix), nmod_mat_clear(right), nmod_mat_clear(solution); }
 
 static void at(uint32_t modulus) {
     char name[64];
@@ -191,7 +166,7 @@ static void at(uint32_t modulus) {
     row("NTL zz_p solve, bare", session, ntl_solution, TURNS, 0);
     printf("\n");
     each();
-    stop();
+    others_end();
 }
 
 int main(void) {
@@ -201,12 +176,12 @@ int main(void) {
     start(2147483647, N);
     printf("\n");
     stacks();
-    stop();
+    others_end();
     // a small modulus: the prime test at a large one takes as long for every n
-    for (uint32_t unknowns = 1; unknowns <= N; unknowns *= 2) {
+    for (uint32_t unknowns = 1; unknowns <= N; unknowns++) {
         start(257, unknowns);
         point("system", unknowns, session, TURNS);
-        stop();
+        others_end();
     }
     return 0;
 }

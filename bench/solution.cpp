@@ -1,4 +1,4 @@
-// NTL's part of bench/elimination.c: rank and solution modulo a word-sized prime.
+// NTL's part of bench/solution.h: rank and solution modulo a word-sized prime.
 #include <NTL/mat_lzz_p.h>
 #include <cstddef>
 #include <cstdint>
