@@ -1,6 +1,7 @@
-//! The scripts of the test programs.
+//! The parts of the script that the program `replay_main` performs, one after the other on one machine.
 
 use super::damage::{single, Damage};
+use super::dealings::dealings;
 use super::driver::Habit;
 use super::plan::{matrix_seed, tape_size, Layout, Plan};
 use super::random::Random;
@@ -155,37 +156,50 @@ fn singular_sum(writer: &mut Writer, random: &mut Random, t: Terms) {
     }
 }
 
+/// Products: the largest sides and moduli, and every refusal at every step.
+fn products(writer: &mut Writer) {
+    let random = &mut Random(7);
+    for t in [Terms::product(7, 1, 2_147_483_647, 32, 64, 32), Terms::product(7, 2, 6, 1, 1, 1), Terms::product(7, 3, 2, 3, 2, 2)] {
+        let plan = plan(writer, random, false, t);
+        whole(writer, &plan);
+    }
+    // of 1 by 2 by 2 the messages of both kinds are of one length
+    for t in [Terms::product(3, 4, 10, 2, 3, 2), Terms::product(3, 5, 9, 1, 2, 2)] {
+        let plan = plan(writer, random, false, t);
+        refusals(writer, random, &plan);
+    }
+}
+
 /// Systems: 01's run, the largest, the smallest, and every refusal at every step.
-pub fn system() -> Writer {
-    let (mut writer, mut random) = (Writer::default(), Random(8));
-    assert_eq!(the_run(&mut writer, &mut random, 1), [0; 7]);
-    assert_eq!(the_run(&mut writer, &mut random, 3)[5], 10);
+fn systems(writer: &mut Writer) {
+    let random = &mut Random(8);
+    assert_eq!(the_run(writer, random, 1), [0; 7]);
+    assert_eq!(the_run(writer, random, 3)[5], 10);
     for t in [Terms::system(7, 1, 2_147_483_647, 16), Terms::system(7, 2, 3, 1), Terms::system(7, 3, 2, 16)] {
-        let plan = plan(&mut writer, &mut random, true, t);
-        whole(&mut writer, &plan);
+        let plan = plan(writer, random, true, t);
+        whole(writer, &plan);
     }
     // modulo 2 a sum of two units is 0
-    singular_sum(&mut writer, &mut random, Terms::system(7, 4, 2, 1));
-    let plan_two = plan(&mut writer, &mut random, true, Terms::system(3, 5, 7, 2));
-    refusals(&mut writer, &mut random, &plan_two);
-    let plan_three = plan(&mut writer, &mut random, true, Terms::system(3, 6, 3, 3));
-    singular(&mut writer, &mut random, &plan_three);
-    singular_sum(&mut writer, &mut random, Terms::system(11, 12, 2_147_483_647, 4));
-    writer
+    singular_sum(writer, random, Terms::system(7, 4, 2, 1));
+    let plan_two = plan(writer, random, true, Terms::system(3, 5, 7, 2));
+    refusals(writer, random, &plan_two);
+    let plan_three = plan(writer, random, true, Terms::system(3, 6, 3, 3));
+    singular(writer, random, &plan_three);
+    singular_sum(writer, random, Terms::system(11, 12, 2_147_483_647, 4));
 }
 
 /// Drops at every stage, each after all that one change makes of it and is refused; then the slot is dealt anew.
-pub fn drops() -> Writer {
-    let (mut writer, mut random) = (Writer::default(), Random(9));
+fn drops(writer: &mut Writer) {
+    let random = &mut Random(9);
     for (is_system, t) in [(false, Terms::product(5, 8, 10, 2, 3, 2)), (true, Terms::system(5, 8, 7, 2))] {
         let drops: &[u32] = if is_system { &[SOLVER_DROP, BLINDER_DROP] } else { &[RIGHT_DROP] };
-        let plan = plan(&mut writer, &mut random, is_system, t);
+        let plan = plan(writer, random, is_system, t);
         for stage in 0..=plan.calls().len() {
             for call in &plan.calls()[..stage] {
                 writer.right(&plan, *call);
             }
             for drop in drops {
-                refused(&mut writer, &plan, *drop);
+                refused(writer, &plan, *drop);
                 writer.right(&plan, *drop);
                 writer.right(&plan, *drop);
             }
@@ -197,9 +211,8 @@ pub fn drops() -> Writer {
             }
             writer.free(&plan);
         }
-        whole(&mut writer, &plan);
+        whole(writer, &plan);
     }
-    writer
 }
 
 /// The runs of 01 that are executed: the longest inner side and one more, the most unknowns and one more.
@@ -223,12 +236,22 @@ fn bounds(writer: &mut Writer, random: &mut Random) {
 }
 
 /// The runs of 01 that are executed, and a thousand sessions.
-pub fn sessions() -> Writer {
-    let (mut writer, mut random) = (Writer::default(), Random(10));
+fn sessions(writer: &mut Writer) {
+    let random = &mut Random(10);
     let habit = Habit { damaged: 4, taken: 12, dropped: 12, short: false, posted: 6 };
-    bounds(&mut writer, &mut random);
+    bounds(writer, random);
     for block in 0..100 {
-        writer.sessions(&mut random, habit, 10, block % 8 == 0, 0);
+        writer.sessions(random, habit, 10, block % 8 == 0, 0);
     }
+}
+
+/// Dealings at their edges; products and systems with every refusal of their steps; drops; a thousand sessions.
+pub fn all() -> Writer {
+    let mut writer = Writer::default();
+    dealings(&mut writer);
+    products(&mut writer);
+    systems(&mut writer);
+    drops(&mut writer);
+    sessions(&mut writer);
     writer
 }
