@@ -83,34 +83,37 @@ fn print(writer: &mut Writer, plan: &Plan) {
     writer.print(SHARE, 0, 2);
 }
 
-/// 01's run of a system, with this M, and everything printed.
-fn the_run(writer: &mut Writer, random: &mut Random, m: u32) -> Vec<u32> {
-    let t = Terms::system(9, 4, 5, 1);
-    let layout = layout(true, &t);
+/// What a call of a run is handed: raw words, a matrix and a vector.
+type Given<'a> = (&'a [u32], &'a [u32], &'a [u32]);
+
+/// A run with these inputs, and everything printed after each call.
+fn printed_run(writer: &mut Writer, random: &mut Random, is_system: bool, terms: Terms, counts: (u32, u32), given: &[Given]) -> Vec<u32> {
+    let layout = layout(is_system, &terms);
     writer.lay(random, layout);
-    let plan = Plan {
-        is_system: true,
-        terms: t,
-        layout,
-        index: 1,
-        pool: 0,
-        generous: true,
-        detail: 1,
-        dealer: (0, 8),
-        coins: (0, 3),
-        inputs: [(0, 0), (0, 0)],
-    };
-    let given: [(&[u32], u32, u32); 7] =
-        [(&[1, 4, 2, 0, 3, 3, 2, 1], 0, 0), (&[], 2, 3), (&[2, 1, 2], m, 1), (&[], 0, 0), (&[], 0, 0), (&[], 0, 0), (&[], 0, 0)];
+    let (dealer, coins) = ((0, counts.0), (0, counts.1));
+    let plan = Plan { is_system, terms, layout, index: 1, pool: 0, generous: true, detail: 1, dealer, coins, inputs: [(0, 0), (0, 0)] };
     let mut answers = Vec::new();
     for (call, (raw, one, two)) in plan.calls().iter().zip(given) {
         writer.put(INPUTS, RAW, raw);
-        writer.put(INPUTS, ONE, &[one]);
-        writer.put(INPUTS, TWO, &[two]);
+        writer.put(INPUTS, ONE, one);
+        writer.put(INPUTS, TWO, two);
         answers.push(writer.right(&plan, *call));
         print(writer, &plan);
     }
     answers
+}
+
+/// 01's run of a product.
+fn product_run(writer: &mut Writer, random: &mut Random) -> Vec<u32> {
+    let given: [Given; 4] = [(&[1, 4, 6, 3, 2], &[], &[]), (&[], &[2, 6], &[]), (&[5], &[3, 5], &[]), (&[], &[], &[])];
+    printed_run(writer, random, false, Terms::product(9, 4, 7, 1, 2, 1), (5, 1), &given)
+}
+
+/// 01's run of a system, with this M.
+fn system_run(writer: &mut Writer, random: &mut Random, m: u32) -> Vec<u32> {
+    let none: Given = (&[], &[], &[]);
+    let given = [(&[1, 4, 2, 0, 3, 3, 2, 1][..], &[][..], &[][..]), (&[], &[2], &[3]), (&[2, 1, 2], &[m], &[1]), none, none, none, none];
+    printed_run(writer, random, true, Terms::system(9, 4, 5, 1), (8, 3), &given)
 }
 
 /// Singular matrices: the dealer's Q, the solver's L, the blinder's M and P.
@@ -156,9 +159,10 @@ fn singular_sum(writer: &mut Writer, random: &mut Random, t: Terms) {
     }
 }
 
-/// Products: the largest sides and moduli, and every refusal at every step.
+/// Products: 01's run, the largest sides and moduli, and every refusal at every step.
 fn products(writer: &mut Writer) {
     let random = &mut Random(7);
+    assert_eq!(product_run(writer, random), [0; 4]);
     for t in [Terms::product(7, 1, 2_147_483_647, 32, 64, 32), Terms::product(7, 2, 6, 1, 1, 1), Terms::product(7, 3, 2, 3, 2, 2)] {
         let plan = plan(writer, random, false, t);
         whole(writer, &plan);
@@ -173,8 +177,8 @@ fn products(writer: &mut Writer) {
 /// Systems: 01's run, the largest, the smallest, and every refusal at every step.
 fn systems(writer: &mut Writer) {
     let random = &mut Random(8);
-    assert_eq!(the_run(writer, random, 1), [0; 7]);
-    assert_eq!(the_run(writer, random, 3)[5], 10);
+    assert_eq!(system_run(writer, random, 1), [0; 7]);
+    assert_eq!(system_run(writer, random, 3)[5], 10);
     for t in [Terms::system(7, 1, 2_147_483_647, 16), Terms::system(7, 2, 3, 1), Terms::system(7, 3, 2, 16)] {
         let plan = plan(writer, random, true, t);
         whole(writer, &plan);
