@@ -162,7 +162,8 @@ impl<C: Calls> Machine<C> {
             }
             5 => {
                 let start = most(n[1], BYTES);
-                self.bytes[start..][..most(n[2], BYTES - start)].fill(n[3] as u8);
+                let part = &mut self.bytes[start..][..most(n[2], BYTES - start)];
+                part.iter_mut().enumerate().for_each(|(i, b)| *b = n[3 + i % 2] as u8);
             }
             call => {
                 self.put_part(REGISTER, n[1], from(2));

@@ -7,7 +7,7 @@
 //   2,A,I,V..     the words of the array A from index I on get the values V
 //   3,A,I,N       N words of the array A, from index I on, are printed
 //   4,I,V..       the bytes from index I on get the values V
-//   5,I,N,V       N bytes from index I on get the value V
+//   5,I,N,V,W     N bytes from index I on get the values V and W in turn
 //   6             the sums of all arrays are printed
 //   C,R,V..       as 0; then the call C is made
 // Seeds: from a state s, at first the seed, the next is 279470273 s modulo 4294967291. The state modulo M is a residue. The state is a raw

@@ -111,17 +111,22 @@ fn put_each(words: &[u32], out: &mut [u8]) {
     }
 }
 
-pub fn fill_bytes(at: u32, n: u32, b: u32, out: &mut [u8]) {
+// Two bytes in turn.
+pub fn fill_bytes(at: u32, n: u32, one: u32, two: u32, out: &mut [u8]) {
     let len = out.len();
     let start = most(at, len);
     let end = start + most(n, len - start);
-    fill_each(byte_of(b), &mut out[start..end]);
+    fill_each(byte_of(one), byte_of(two), &mut out[start..end]);
 }
 
-fn fill_each(b: u8, out: &mut [u8]) {
+fn in_turn(i: usize, one: u8, two: u8) -> u8 {
+    if i % 2 == 0 { one } else { two }
+}
+
+fn fill_each(one: u8, two: u8, out: &mut [u8]) {
     let n = out.len();
     for i in 0..n {
-        out[i] = b;
+        out[i] = in_turn(i, one, two);
     }
 }
 

@@ -76,7 +76,7 @@ fn on_array(n: &[u32; 64], count: usize, m: &mut [u32]) {
 
 fn on_bytes(n: &[u32; 64], count: usize, bytes: &mut [u8]) {
     if n[0] == 5 {
-        fill_bytes(n[1], n[2], n[3], bytes);
+        fill_bytes(n[1], n[2], n[3], n[4], bytes);
         return;
     }
     let end = end_of(count, 2);

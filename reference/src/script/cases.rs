@@ -3,6 +3,7 @@
 use super::damage::{single, Damage};
 use super::dealings::dealings;
 use super::driver::Habit;
+use super::lines::lines;
 use super::plan::{matrix_seed, tape_size, Layout, Plan};
 use super::random::Random;
 use super::writer::Writer;
@@ -249,10 +250,11 @@ fn sessions(writer: &mut Writer) {
     }
 }
 
-/// Dealings at their edges; products and systems with every refusal of their steps; drops; a thousand sessions.
+/// Dealings at their edges; lines, valid and damaged; products and systems with every refusal of their steps; drops; a thousand sessions.
 pub fn all() -> Writer {
     let mut writer = Writer::default();
     dealings(&mut writer);
+    lines(&mut writer);
     products(&mut writer);
     systems(&mut writer);
     drops(&mut writer);

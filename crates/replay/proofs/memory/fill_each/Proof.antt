@@ -7,13 +7,16 @@ use Rattle.replay.proofs.memory.fill_each.Statement.{statement}
 use Rattle.replay.proofs.memory.fill_each.Tie as tie
 
 abbrev Inv-loop : tie.InvT-loop
-Inv-loop b out₀ n i₀ out i = (length out ≡ length out₀) × (i ≤ n)
+Inv-loop one two out₀ n i₀ out i = (length out ≡ length out₀) × (i ≤ n)
 
 abbrev μ-loop : tie.MeasureT-loop
-μ-loop b out₀ n i₀ out i = n - i
+μ-loop one two out₀ n i₀ out i = n - i
 
 loop-holds : tie.Need-loop-holds Inv-loop μ-loop
 loop-holds c = search needs
+
+in-turn-requires : tie.Need-in-turn-requires Inv-loop μ-loop
+in-turn-requires c κs = search needs
 
 slice-write-out : tie.Need-slice-write-out Inv-loop μ-loop
 slice-write-out c = search needs
@@ -40,6 +43,7 @@ fill-each-spec =
     Inv-loop
     μ-loop
     loop-holds
+    in-turn-requires
     slice-write-out
     add-i
     loop-less
