@@ -58,7 +58,7 @@ fn check_words(t: Terms, x: &[u32], a: Head, residues: &[u32], slot: &[u32]) -> 
 }
 
 // Enough raw words are kept for n coins.
-fn check_coins(q: u32, n: usize, words: &[u32]) -> Check
+pub fn check_coins(q: u32, n: usize, words: &[u32]) -> Check
     requires { ⌜ 0 < q ⌝ }
     ensures { λ r. ⌜ checked r ≡ judged (drawTests q n (now (words .entry))) ⌝ }
 {

@@ -1,10 +1,9 @@
 // What the run's calls need of what the lines say, before any of them is made: first the numbers, then the words.
 use checks::Check;
 use checks::times;
-use drawing::Reading;
-use drawing::read;
 use matrix::Matrix;
 use matrix::all_below;
+use product::left::check_coins;
 use protocol::Refusal;
 use protocol::Terms;
 use session::End;
@@ -13,7 +12,6 @@ use session::lowest::worst;
 use session::numbers::check_modulus;
 ghost use mathlib.Core.Path.{_≡_};
 ghost use Prim.Native.Nat.{_+_, _*_, _≤_, _<_};
-ghost use Rattle.protocol.specs.Drawing.{drawTests};
 ghost use Rattle.checks.specs.InOrder.{checked, judged};
 ghost use Rattle.rehearse.specs.Order.{sizeTests, numberTests, wordTests};
 
@@ -39,17 +37,6 @@ pub fn numbers(t: Terms, x: usize, y: usize) -> Check
     worst(modulus, sizes)
 }
 
-// Enough raw words are kept for n residues.
-fn enough(q: u32, n: usize, words: &[u32]) -> Check
-    requires { ⌜ 0 < q ⌝ }
-    ensures { λ r. ⌜ checked r ≡ judged (drawTests q n (now (words .entry))) ⌝ }
-{
-    match read(q, n, words) {
-        Reading::Enough(_) => Check::Passed,
-        Reading::Dry => Check::Refused(Refusal::Dry),
-    }
-}
-
 pub fn words(t: Terms, x: &[u32], y: &[u32], dealer: &[u32], left: &[u32]) -> Check
     requires { ⌜ (0 < t .q) × (t .m * t .k ≤ 2048) × (t .k * t .p ≤ 2048) × (t .m * t .p ≤ 1024) ⌝ }
     ensures { λ r. ⌜ checked r ≡ judged (wordTests t (now (x .entry)) (now (y .entry)) (now (dealer .entry)) (now (left .entry))) ⌝ }
@@ -58,7 +45,7 @@ pub fn words(t: Terms, x: &[u32], y: &[u32], dealer: &[u32], left: &[u32]) -> Ch
     let masks = times(t.m, t.k) + (times(t.k, t.p) + mp);
     let in_x = need(Refusal::Residue, all_below(t.q, x));
     let in_y = need(Refusal::Residue, all_below(t.q, y));
-    let dealt = enough(t.q, masks, dealer);
-    let coins = enough(t.q, mp, left);
+    let dealt = check_coins(t.q, masks, dealer);
+    let coins = check_coins(t.q, mp, left);
     worst(in_x, worst(in_y, worst(dealt, coins)))
 }

@@ -1,15 +1,13 @@
 // A line of the script, and the loop over all lines.
 // All arrays stand in one memory, in this order: 0 first pool, 1 second pool, 2 scratch, 3 sessions, 4 messages, 5 share, 6 inputs (a
 // matrix, from 2100 a vector, from 2164 raw words), 7 registers.
-use crate::lines;
-use crate::machine;
-use crate::memory::fill_bytes;
-use crate::memory::fill_part;
-use crate::memory::load;
-use crate::memory::put_bytes;
-use crate::memory::put_part;
 use crate::shown;
 use decimal::Count;
+use memory::fill_bytes;
+use memory::fill_part;
+use memory::load;
+use memory::put_bytes;
+use memory::put_part;
 ghost use Prim.Native.Nat.{_≤_, _<_};
 ghost use lib.ListN.{length};
 
@@ -97,12 +95,18 @@ fn call(c: u32, r: &[u32; 32], m: &mut [u32], bytes: &mut [u8], report: &mut [u3
         return 0;
     }
     if c < 12 {
-        return machine::deal(c, r, m, report);
+        return replay_products::deal(c, r, m, report);
+    }
+    if c < 15 {
+        return replay_products::step(c, r, m, report);
+    }
+    if c == 21 {
+        return replay_products::step(c, r, m, report);
     }
     if c < 24 {
-        return machine::step(c, r, m, report);
+        return replay_systems::step(c, r, m, report);
     }
-    lines::line(c, r, m, bytes, report)
+    replay_products::line(c, r, m, bytes, report)
 }
 
 // A call, and the line that it prints.

@@ -1,9 +1,9 @@
 // What is printed: a line of numbers for each call.
-use crate::memory::mixed;
-use crate::memory::most;
-use crate::memory::sum;
-use crate::memory::sum_bytes;
 use libc::STDOUT_FILENO;
+use memory::mixed;
+use memory::most;
+use memory::sum;
+use memory::sum_bytes;
 
 fn text(bytes: &[u8]) {
     io::write_all(STDOUT_FILENO, bytes);

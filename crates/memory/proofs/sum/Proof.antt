@@ -1,8 +1,8 @@
 -- The loop stays inside the slice. Assumes nothing.
 use Prim.Native.Nat.{_-_, _≤_}
 use borrow.Author.Needs.{needs}
-use Rattle.replay.proofs.memory.sum.Statement.{statement}
-use Rattle.replay.proofs.memory.sum.Tie as tie
+use Rattle.memory.proofs.sum.Statement.{statement}
+use Rattle.memory.proofs.sum.Tie as tie
 
 abbrev Inv-loop : tie.InvT-loop
 Inv-loop words n s₀ i₀ s i = i ≤ n

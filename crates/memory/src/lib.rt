@@ -1,4 +1,7 @@
-// Words from seeds, and sums of words.
+// The memory of the machine that replays calls (crate `replay`): words from seeds, copies, bytes, and sums.
+//   places   where things stand in the memory, and a call's numbers in the registers
+pub mod places;
+
 ghost use mathlib.Core.Path.{_≡_};
 ghost use Prim.Native.Nat.{_≤_};
 ghost use lib.ListN.{length};
@@ -145,7 +148,7 @@ pub fn sum(words: &[u32]) -> u32 {
     s
 }
 
-fn wide(b: u8) -> u32 {
+fn word_of(b: u8) -> u32 {
     b as u32
 }
 
@@ -153,7 +156,7 @@ pub fn sum_bytes(bytes: &[u8]) -> u32 {
     let n = bytes.len();
     let mut s = 7;
     for i in 0..n {
-        s = mixed(s, wide(bytes[i]));
+        s = mixed(s, word_of(bytes[i]));
     }
     s
 }

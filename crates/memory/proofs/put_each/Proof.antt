@@ -3,8 +3,8 @@ use Prim.Native.Nat.{_-_, _≤_}
 use mathlib.Core.Path.{_≡_}
 use lib.ListN.{length}
 use borrow.Author.Needs.{needs}
-use Rattle.replay.proofs.memory.put_each.Statement.{statement}
-use Rattle.replay.proofs.memory.put_each.Tie as tie
+use Rattle.memory.proofs.put_each.Statement.{statement}
+use Rattle.memory.proofs.put_each.Tie as tie
 
 abbrev Inv-loop : tie.InvT-loop
 Inv-loop words out₀ i₀ out i = (length out ≡ length out₀) × (i ≤ length words)

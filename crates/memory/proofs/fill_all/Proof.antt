@@ -3,20 +3,26 @@ use Prim.Native.Nat.{_-_, _≤_}
 use mathlib.Core.Path.{_≡_}
 use lib.ListN.{length}
 use borrow.Author.Needs.{needs}
-use Rattle.replay.proofs.memory.fill_each.Statement.{statement}
-use Rattle.replay.proofs.memory.fill_each.Tie as tie
+use Rattle.memory.proofs.fill_all.Statement.{statement}
+use Rattle.memory.proofs.fill_all.Tie as tie
 
 abbrev Inv-loop : tie.InvT-loop
-Inv-loop one two out₀ n i₀ out i = (length out ≡ length out₀) × (i ≤ n)
+Inv-loop seed modulus out₀ n s₀ i₀ out s i = (length out ≡ length out₀) × (i ≤ n)
 
 abbrev μ-loop : tie.MeasureT-loop
-μ-loop one two out₀ n i₀ out i = n - i
+μ-loop seed modulus out₀ n s₀ i₀ out s i = n - i
 
 loop-holds : tie.Need-loop-holds Inv-loop μ-loop
 loop-holds c = search needs
 
-in-turn-requires : tie.Need-in-turn-requires Inv-loop μ-loop
-in-turn-requires c κs = search needs
+next-requires : tie.Need-next-requires Inv-loop μ-loop
+next-requires c κs = search needs
+
+value-requires : tie.Need-value-requires Inv-loop μ-loop
+value-requires c κs = search needs
+
+mul-out : tie.Need-mul-out Inv-loop μ-loop
+mul-out c = search needs
 
 slice-write-out : tie.Need-slice-write-out Inv-loop μ-loop
 slice-write-out c = search needs
@@ -36,14 +42,16 @@ same-length c = search needs
 returns : tie.Need-returns Inv-loop μ-loop
 returns c = search needs
 
-pub fill-each-spec : {M : Type 1} → statement M
-fill-each-spec =
+pub fill-all-spec : {M : Type 1} → statement M
+fill-all-spec =
     tie.close
     (tie.spec
     Inv-loop
     μ-loop
     loop-holds
-    in-turn-requires
+    next-requires
+    value-requires
+    mul-out
     slice-write-out
     add-i
     loop-less

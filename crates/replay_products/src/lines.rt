@@ -1,9 +1,9 @@
 // The calls on bytes: 24 write, 25 parse, 26 read, 27 numbers.
-use crate::machine::message_at;
-use crate::machine::send;
-use crate::memory::load;
-use crate::memory::most;
-use crate::memory::store;
+use memory::load;
+use memory::most;
+use memory::places::message_at;
+use memory::places::send;
+use memory::store;
 
 fn any_line(
     c: u32,
