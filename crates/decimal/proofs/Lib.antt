@@ -4,9 +4,11 @@
 -- Powers  a number by its powers of ten: `upto-turn`, `decimal-high`, `digits-between`
 -- Stores  a run of numbers stored: `part-turn`, `line-append`, `sets-append`
 -- Entry   what the entry `numbers` answers and leaves
+-- Messages  a message's line in two runs: `message-bytes`, `message-stored`
 pub mod Bytes
 pub mod Runs
 pub mod Scans
 pub mod Powers
 pub mod Stores
 pub mod Entry
+pub mod Messages

@@ -1,7 +1,6 @@
 -- Chain          tests made one after the other
 -- FieldLaws      what the answer of `Field::new` says of calls that make its test first
 -- Signed         a score as a machine reads it
--- ScoreLaws      every residue is read back as a score in range
 -- Wrap           sum and difference of residues without a division
 -- Bezout         the extended algorithm of Euclid with signed multipliers
 -- TrialDivision  what trial division shows of a prime
@@ -12,7 +11,6 @@
 pub mod Chain
 pub mod FieldLaws
 pub mod Signed
-pub mod ScoreLaws
 pub mod Wrap
 pub mod Bezout
 pub mod TrialDivision

@@ -1,31 +1,24 @@
--- A message's line in two runs: its head's numbers, and its residues.
---   message-bytes  how many bytes;  message-stored  what two runs of stores leave
+-- A message's line: how many bytes it has, and two runs of stores from the start of a slice.
+--   message-lines, line-stored
 -- Assumes nothing.
-use mathlib.Core.Path.{_≡_, sym, ap, ap₂, _∙_}
-use mathlib.Core.List.{List, _++_}
+use mathlib.Core.Path.{_≡_, ap₂, _∙_}
+use mathlib.Core.List.{List}
 use Prim.Native.Nat.{ℕ, _+_, _≤_}
-use lib.ListN.{length, length-append}
+use lib.ListN.{length}
 use lib.Seq.{sets}
 use Rattle.algebra.specs.Words.{over}
 use Rattle.protocol.specs.declared.Head.{Head}
+use Rattle.protocol.specs.Message.{messageWith}
 use Rattle.protocol.specs.Line.{line, messageLine}
-use Rattle.decimal.specs.Writing.{lineBefore}
-use Rattle.decimal.proofs.Stores.{line-append, before-all, before-length, sets-then}
+use Rattle.decimal.specs.Writing.{lineBefore, headNumbers}
+use Rattle.decimal.proofs.Stores.{before-length}
 use Rattle.decimal.proofs.Entry.{sets-over}
-use Rattle.line.specs.Entries.{messageWith, headNumbers}
+use Rattle.decimal.proofs.Messages.{message-bytes, message-stored}
 
 module _ (h : Head) (rs : List ℕ) where
-  message-runs : messageLine (messageWith h rs) ≡ lineBefore (length rs) (headNumbers h) ++ lineBefore 0 rs
-  unfolding messageLine
-  message-runs = line-append (headNumbers h) rs ∙ ap (λ (l : List ℕ). lineBefore (length rs) (headNumbers h) ++ l) (sym (before-all rs))
-
-  pub message-bytes : length (messageLine (messageWith h rs)) ≡ length (lineBefore (length rs) (headNumbers h)) + length (lineBefore 0 rs)
-  message-bytes = ap length message-runs ∙ length-append (lineBefore (length rs) (headNumbers h)) (lineBefore 0 rs)
-
   pub message-lines : length (messageLine (messageWith h rs)) ≡ length (line (headNumbers h)) + length (line rs)
-  message-lines = message-bytes ∙ ap₂ (λ (a b : ℕ). a + b) (before-length (length rs) (headNumbers h)) (before-length 0 rs)
+  message-lines = message-bytes h rs ∙ ap₂ (λ (a b : ℕ). a + b) (before-length (length rs) (headNumbers h)) (before-length 0 rs)
 
-  pub message-stored : (out : List ℕ) (at : ℕ) → at ≡ 0 + length (lineBefore (length rs) (headNumbers h)) → length (messageLine (messageWith h rs)) ≤ length out
+  pub line-stored : (out : List ℕ) (at : ℕ) → at ≡ 0 + length (lineBefore (length rs) (headNumbers h)) → length (messageLine (messageWith h rs)) ≤ length out
       → sets (sets out 0 (lineBefore (length rs) (headNumbers h))) at (lineBefore 0 rs) ≡ over (messageLine (messageWith h rs)) out
-  message-stored out at e k =
-      sets-then out 0 (lineBefore (length rs) (headNumbers h)) (lineBefore 0 rs) at e ∙ ap (sets out 0) (sym message-runs) ∙ sets-over (messageLine (messageWith h rs)) out k
+  line-stored out at e k = message-stored h rs out 0 at e ∙ sets-over (messageLine (messageWith h rs)) out k

@@ -18,13 +18,6 @@ use Rattle.line.specs.declared.Received.the-variants as received
 use Rattle.line.specs.declared.Written.{Written}
 use Rattle.line.specs.declared.Written.the-variants as written
 
-abbrev pub messageWith : Head → List ℕ → Message
-messageWith h rs = record { head = h; residues = rs }
-
--- a head's numbers, in a line's order
-abbrev pub headNumbers : Head → List ℕ
-headNumbers h = let t = h .terms in h .kind ∷ t .session .0 ∷ t .tape .0 ∷ t .q ∷ t .m ∷ t .k ∷ t .p ∷ []
-
 -- ---- parse and read
 
 abbrev pub receivedOf : Judged Message → Received

@@ -19,7 +19,9 @@ ghost use Rattle.algebra.specs.Words.{over};
 ghost use Rattle.protocol.specs.Message.{Message};
 ghost use Rattle.protocol.specs.Line.{numbersOf, messageFrom, messageLine, parseInto, readInto, writeInto, mostSent};
 ghost use Rattle.checks.specs.InOrder.{checked, verdict};
-ghost use Rattle.line.specs.Entries.{receivedOf, residuesAfter, receivedBy, writtenOf, bytesAfter, writtenBy, messageWith, headNumbers};
+ghost use Rattle.protocol.specs.Message.{messageWith};
+ghost use Rattle.decimal.specs.Writing.{headNumbers};
+ghost use Rattle.line.specs.Entries.{receivedOf, residuesAfter, receivedBy, writtenOf, bytesAfter, writtenBy};
 ghost use Rattle.line.specs.Order.{parseOrder, restTests, inSize};
 
 // What a line is read as: a message's head and how many residues were stored, or why none.

@@ -3,41 +3,37 @@
 --   pool-taken, rooms-taken, bounds, rooms-few   how many words the run's slices have
 --   run-made             from what dealing and the three steps leave
 -- Assumes nothing.
-use mathlib.Core.Path.{_≡_, refl, sym, ap, ap₂, _∙_}
-use mathlib.Core.Bool.{true}
+use mathlib.Core.Path.{_≡_, sym, ap, ap₂, _∙_}
 use mathlib.Core.List.{List, [], _++_, append-nil}
-use Prim.Native.Nat.{ℕ, _+_, _*_, _/_, _≤_, _<_, max}
-use native.Mathlib.Nat.{div-self, le-max-left, le-max-right}
+use Prim.Native.Nat.{ℕ, _+_, _*_, _≤_, _<_, max}
 use native.Mathlib.Omega.{arith}
 use lib.ListN.{length, getD, take, drop, replicate, length-replicate, getD-replicate}
 use lib.Seq.{getD-take, length-take-le, drop-length, ext-getD}
-use borrow.Author.Tests.{lt-ltb}
 use Rattle.algebra.specs.Matrix.{zeros}
 use Rattle.algebra.specs.Words.{over}
 use Rattle.algebra.specs.Product.{rightShare}
-use Rattle.algebra.proofs.Lists.{length-tabulate, getD-tabulate, zeros-at, sub-residues}
+use Rattle.algebra.proofs.Lists.{length-tabulate, zeros-at, sub-residues}
 use Rattle.protocol.specs.declared.Terms.{Terms}
 use Rattle.protocol.specs.declared.Head.{Head}
 use Rattle.protocol.specs.declared.Answer.{Answer}
 use Rattle.protocol.specs.declared.RightSession.{RightSession}
 use Rattle.protocol.specs.Judge.{done}
 use Rattle.protocol.specs.Drawing.{drawn}
-use Rattle.protocol.specs.Tape.{Slot, slotAt, poolWith, isSlot, slotWords, statusOf, tapeSize, left, right}
-use Rattle.protocol.specs.Deal.{isFree, Dealt, dealtEffect, deal, productRequest}
+use Rattle.protocol.specs.Tape.{Slot, slotAt, poolWith, tapeSize, left, right}
+use Rattle.protocol.specs.Deal.{Dealt, dealtEffect, deal, productRequest}
 use Rattle.protocol.specs.Message.{Message, messageLayout, messageSize}
-use Rattle.protocol.specs.Step.{Effect, Outcome}
 use Rattle.protocol.specs.Product.{noRight, rightFirst, rightFirstEffect, leftStep, leftEffect, rightLast, rightLastEffect}
 use Rattle.protocol.specs.Rehearsal.{Input, Run, request, rehearsalTests, steps, run}
 use Rattle.protocol.proofs.Judge.{passed}
 use Rattle.protocol.proofs.StepTests.{left-step, right-last}
-use Rattle.protocol.proofs.Dealing.{deal-step}
 use Rattle.protocol.proofs.ProductRight.{ProductCalls, ProductRight, one, two, three}
-use Rattle.protocol.proofs.RehearsalRight.{RehearsalFits, rehearsal-tests, rehearsal-steps}
+use Rattle.protocol.proofs.RehearsalRight.{RehearsalFits, rehearsal-tests, rehearsal-dealt, rehearsal-steps}
 use Rattle.checks.specs.InOrder.{judged}
 use Rattle.checks.proofs.Sides.{Sides, sides}
 use Rattle.session.specs.Leaves.{Leaves, leaves}
 use Rattle.tape.specs.Dealt.{Pools, pools}
-use Rattle.rehearse_lines.specs.Prints.{messageWith, runOf}
+use Rattle.protocol.specs.Message.{messageWith}
+use Rattle.rehearse_lines.specs.Prints.{runOf}
 use Rattle.rehearse.specs.Order.{inputOf}
 use Rattle.rehearse.specs.Rooms.{slotSize, Rooms}
 
@@ -58,18 +54,6 @@ take-zeros n k h =
   where
     at : (e : ℕ) → e < n → getD (take n (replicate {A = ℕ} k 0)) e 0 ≡ getD (zeros n) e 0
     at e l = getD-take n (replicate {A = ℕ} k 0) e 0 l ∙ getD-replicate k e 0 0 (omega arith) ∙ sym (zeros-at n e l)
-
-module _ (size : ℕ) (h : 0 < size) where
-  empty-slot : isSlot (slotAt (zeros size) size 0) ≡ true
-  unfolding isSlot
-  empty-slot = lt-ltb 0 (length (zeros size) / size) (rw (zeros-length size, div-self h) (omega arith))
-
-  empty-status : statusOf (slotWords (slotAt (zeros size) size 0)) ≡ 0
-  unfolding statusOf slotWords zeros
-  empty-status =
-      let none : 0 * size ≡ 0 = omega arith in
-      ap (λ (k : ℕ). getD (take size (drop k (zeros size))) 0 0) none
-      ∙ (getD-take size (zeros size) 0 0 h ∙ getD-tabulate size (λ e. 0) 0 h)
 
 -- ---- the slices of a run
 
@@ -116,34 +100,11 @@ module _ (t : Terms) (x y d l : List ℕ) (ok : judged (rehearsalTests (inputOf 
   abbrev size : ℕ
   size = max (tapeSize left (t .m) (t .k) (t .p)) (tapeSize right (t .m) (t .k) (t .p))
 
-  some : 0 < size
-  unfolding tapeSize
-  some = omega arith
-
   abbrev effect : Dealt
   effect = dealtEffect (zeros size) (zeros size) size 0 (request i)
 
-  free : isFree (statusOf (slotWords (slotAt (zeros size) size 0))) ≡ true
-  unfolding isFree
-  free = rw (empty-status size some)
-
   dealt : deal (zeros size) (zeros size) size 0 (request i) ≡ done effect
-  unfolding request
-  dealt = deal-step (zeros size) (zeros size) size 0 (request i) .accepts (record {
-    big = fits .terms .big;
-    small = fits .terms .small;
-    field = fits .terms .field;
-    sides = fits .terms .sides;
-    tape = fits .terms .tape;
-    first-slot = empty-slot size some;
-    first-room = le-max-left _ _;
-    second-slot = empty-slot size some;
-    second-room = le-max-right _ _;
-    enough = fits .dealer-enough;
-    first-free = free;
-    second-free = free;
-    mask = refl;
-  })
+  dealt = rehearsal-dealt i fits
 
   abbrev calls : ProductCalls
   calls = record {

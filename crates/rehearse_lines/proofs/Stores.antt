@@ -1,7 +1,7 @@
 -- What is printed, stored run by run.
 --   few-bytes      the numbers of a slice take at most 11 bytes each
 --   text-turn      one byte more of a text
---   message-bytes, message-stored, named-bytes, named-stored   a message; a text with a line of numbers behind it
+--   named-bytes, named-stored   a text with a line of numbers behind it
 --   four-stored    four runs make what is printed
 -- Assumes nothing.
 use Prim.Native.Nat.{ℕ, suc, _+_, _*_, _^_, _≤_, _<_}
@@ -21,9 +21,10 @@ use Rattle.protocol.specs.Line.{line, messageLine}
 use Rattle.protocol.proofs.LineRoundTrip.{Words}
 use Rattle.protocol.proofs.MessageRoundTrip.{line-short}
 use Rattle.decimal.specs.Writing.{lineBefore}
-use Rattle.decimal.proofs.Stores.{line-append, before-all, before-length, sets-then}
+use Rattle.decimal.proofs.Stores.{before-all, before-length, sets-then}
 use Rattle.decimal.proofs.Entry.{sets-over}
-use Rattle.rehearse_lines.specs.Prints.{messageWith, runOf}
+use Rattle.protocol.specs.Message.{messageWith}
+use Rattle.rehearse_lines.specs.Prints.{runOf}
 
 words-all : (xs : List ℕ) → ((i : ℕ) → getD xs i 0 < 2 ^ 32) → Words xs
 words-all [] h = tt
@@ -39,24 +40,6 @@ text-turn out text at j h =
     let few : j ≤ length text = omega arith in
     sets-then out at (take j text) (getD text j 0 ∷ []) (at + j) (ap (λ (n : ℕ). at + n) (sym (length-take-le j text few)))
     ∙ ap (sets out at) (sym (ap (λ (n : ℕ). take n text) (add-one j) ∙ take-suc text j 0 h))
-
--- ---- a message
-
--- a head's numbers, in a line's order
-abbrev pub headNumbers : Head → List ℕ
-headNumbers h = let t = h .terms in h .kind ∷ t .session .0 ∷ t .tape .0 ∷ t .q ∷ t .m ∷ t .k ∷ t .p ∷ []
-
-module _ (h : Head) (rs : List ℕ) where
-  message-runs : messageLine (messageWith h rs) ≡ lineBefore (length rs) (headNumbers h) ++ lineBefore 0 rs
-  unfolding messageLine
-  message-runs = line-append (headNumbers h) rs ∙ ap (λ (l : List ℕ). lineBefore (length rs) (headNumbers h) ++ l) (sym (before-all rs))
-
-  pub message-bytes : length (messageLine (messageWith h rs)) ≡ length (lineBefore (length rs) (headNumbers h)) + length (lineBefore 0 rs)
-  message-bytes = ap length message-runs ∙ length-append (lineBefore (length rs) (headNumbers h)) (lineBefore 0 rs)
-
-  pub message-stored : (out : List ℕ) (at b : ℕ) → b ≡ at + length (lineBefore (length rs) (headNumbers h))
-      → sets (sets out at (lineBefore (length rs) (headNumbers h))) b (lineBefore 0 rs) ≡ sets out at (messageLine (messageWith h rs))
-  message-stored out at b e = sets-then out at (lineBefore (length rs) (headNumbers h)) (lineBefore 0 rs) b e ∙ ap (sets out at) (sym message-runs)
 
 -- ---- a text with a line of numbers behind it
 

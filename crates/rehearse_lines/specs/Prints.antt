@@ -2,15 +2,12 @@
 use Prim.Native.Nat.{ℕ}
 use mathlib.Core.List.{List}
 use Rattle.protocol.specs.declared.Head.{Head}
-use Rattle.protocol.specs.Message.{Message}
+use Rattle.protocol.specs.Message.{messageWith}
 use Rattle.protocol.specs.Rehearsal.{Run}
 
 -- bytes enough for all that is printed: 2,048 and 3,072 residues with seven numbers before them, and two shares of 1,024 with their names
 abbrev pub MOST : ℕ
 MOST = 81920
-
-abbrev pub messageWith : Head → List ℕ → Message
-messageWith h rs = record { head = h; residues = rs }
 
 abbrev pub runOf : Head → (y1 : List ℕ) → Head → (x1r1 left right : List ℕ) → Run
 runOf one y1 two x1r1 l r = record { one = messageWith one y1; two = messageWith two x1r1; leftShare = l; rightShare = r }

@@ -12,7 +12,8 @@ ghost use Rattle.protocol.specs.Judge.{refusalNumber, refused, done};
 ghost use Rattle.protocol.specs.Line.{line, messageLine, mostSent};
 ghost use Rattle.protocol.specs.Rehearsal.{printed};
 ghost use Rattle.decimal.specs.Writing.{lineBefore};
-ghost use Rattle.rehearse_lines.specs.Prints.{MOST, messageWith, runOf};
+ghost use Rattle.protocol.specs.Message.{messageWith};
+ghost use Rattle.rehearse_lines.specs.Prints.{MOST, runOf};
 
 // The bytes of a text, and the position behind them.
 fn put_text(text: &[u8], out: &mut [u8], at: usize) -> usize

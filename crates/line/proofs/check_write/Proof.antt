@@ -7,7 +7,7 @@ use Rattle.checks.specs.InOrder.{checked, verdict}
 use Rattle.line.proofs.Fits.{head-few}
 use Rattle.line.proofs.Judged.{head-stops, head-goes-on}
 use Rattle.line.specs.Order.{restTests}
-use Rattle.line.specs.Entries.{messageWith}
+use Rattle.protocol.specs.Message.{messageWith}
 use Rattle.protocol.specs.Line.{messageLine}
 use Rattle.line.proofs.check_write.Statement.{statement}
 use Rattle.line.proofs.check_write.Tie as tie

@@ -7,7 +7,7 @@ use lib.ListN.{length}
 use borrow.Author.Needs.{needs}
 use Rattle.line.proofs.Bytes.{message-lines}
 use Rattle.protocol.specs.Line.{line}
-use Rattle.line.specs.Entries.{headNumbers}
+use Rattle.decimal.specs.Writing.{headNumbers}
 use Rattle.line.proofs.message_length.Statement.{statement}
 use Rattle.line.proofs.message_length.Tie as tie
 

@@ -5,10 +5,11 @@ use Prim.Native.Nat.{ℕ, _+_}
 use native.Mathlib.Omega.{arith}
 use lib.ListN.{length}
 use borrow.Author.Needs.{needs}
-use Rattle.line.proofs.Bytes.{message-bytes, message-stored}
+use Rattle.decimal.proofs.Messages.{message-bytes}
+use Rattle.line.proofs.Bytes.{line-stored}
 use Rattle.decimal.specs.Writing.{lineBefore}
 use lib.Seq.{sets, length-sets}
-use Rattle.line.specs.Entries.{headNumbers}
+use Rattle.decimal.specs.Writing.{headNumbers}
 use Rattle.line.proofs.put_message.Statement.{statement}
 use Rattle.line.proofs.put_message.Tie as tie
 
@@ -28,7 +29,7 @@ same-length : tie.Need-same-length
 same-length c = search needs
 
 returns : tie.Need-returns
-returns c = let a = c .before .before .before .before .before .before .before .before .before .before .before .before .args in let w = c .before .before .before .before .before .before .before .before .before .head-words .ensures in let rs = a .residues .now in let z : length (lineBefore (length rs) (c .before .before .before .before .before .before .before .before .before .head-words .result)) ≡ length (lineBefore (length rs) (headNumbers (a .h))) = ap (λ (l : List ℕ). length (lineBefore (length rs) l)) w in (omega (arith, z, message-bytes (a .h) rs, c .before .before .before .before .before .before .put-numbers .ensures .0, c .before .before .put-numbers2 .ensures .0), c .before .before .put-numbers2 .ensures .1 ∙ ap (λ (l : List ℕ). sets l (c .before .before .before .before .before .before .put-numbers .result) (lineBefore 0 rs)) (c .before .before .before .before .before .before .put-numbers .ensures .1 ∙ ap (λ (l : List ℕ). sets (a .out .now) 0 (lineBefore (length rs) l)) w) ∙ message-stored (a .h) rs (a .out .now) (c .before .before .before .before .before .before .put-numbers .result) (c .before .before .before .before .before .before .put-numbers .ensures .0 ∙ ap (λ (n : ℕ). 0 + n) z) (c .before .before .before .before .before .before .before .before .before .before .before .before .pre .1))
+returns c = let a = c .before .before .before .before .before .before .before .before .before .before .before .before .args in let w = c .before .before .before .before .before .before .before .before .before .head-words .ensures in let rs = a .residues .now in let z : length (lineBefore (length rs) (c .before .before .before .before .before .before .before .before .before .head-words .result)) ≡ length (lineBefore (length rs) (headNumbers (a .h))) = ap (λ (l : List ℕ). length (lineBefore (length rs) l)) w in (omega (arith, z, message-bytes (a .h) rs, c .before .before .before .before .before .before .put-numbers .ensures .0, c .before .before .put-numbers2 .ensures .0), c .before .before .put-numbers2 .ensures .1 ∙ ap (λ (l : List ℕ). sets l (c .before .before .before .before .before .before .put-numbers .result) (lineBefore 0 rs)) (c .before .before .before .before .before .before .put-numbers .ensures .1 ∙ ap (λ (l : List ℕ). sets (a .out .now) 0 (lineBefore (length rs) l)) w) ∙ line-stored (a .h) rs (a .out .now) (c .before .before .before .before .before .before .put-numbers .result) (c .before .before .before .before .before .before .put-numbers .ensures .0 ∙ ap (λ (n : ℕ). 0 + n) z) (c .before .before .before .before .before .before .before .before .before .before .before .before .pre .1))
 
 pub put-message-spec : {M : Type 1} → statement M
 put-message-spec =

@@ -5,7 +5,8 @@ use borrow.Author.Needs.{needs}
 use Rattle.checks.specs.InOrder.{checked}
 use Rattle.line.proofs.Fits.{size-passed}
 use Rattle.line.proofs.Judged.{write-refused, write-done}
-use Rattle.line.specs.Entries.{messageWith, writtenBy}
+use Rattle.protocol.specs.Message.{messageWith}
+use Rattle.line.specs.Entries.{writtenBy}
 use Rattle.line.specs.declared.Written.the-variants as written
 use Rattle.protocol.specs.Line.{messageLine}
 use Rattle.line.proofs.write.Statement.{statement}

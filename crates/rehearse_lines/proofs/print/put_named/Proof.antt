@@ -4,7 +4,7 @@ use Prim.Native.Nat.{ℕ, _+_, _*_, _-_, _/_, _%_, _≤_, _<_}
 use native.Mathlib.Omega.{arith}
 use lib.ListN.{length, getD, set, take, drop}
 use borrow.Author.Needs.{needs}
-use Rattle.rehearse_lines.proofs.Stores.{named-bytes, named-stored, refusal-stored, result-stored}
+use Rattle.rehearse_lines.proofs.Stores.{named-bytes, named-stored}
 use lib.Seq.{sets, length-sets, take-all}
 use Rattle.decimal.specs.Writing.{lineBefore}
 use Rattle.rehearse_lines.proofs.print.put_named.Statement.{statement}

@@ -4,7 +4,7 @@ use Prim.Native.Nat.{ℕ, _+_, _*_, _-_, _/_, _%_, _≤_, _<_}
 use native.Mathlib.Omega.{arith}
 use lib.ListN.{length, getD, set, take, drop}
 use borrow.Author.Needs.{needs}
-use Rattle.rehearse_lines.proofs.Stores.{few-bytes, text-turn, message-bytes, message-stored, headNumbers}
+use Rattle.rehearse_lines.proofs.Stores.{few-bytes}
 use Rattle.rehearse_lines.proofs.print.put_run.Statement.{statement}
 use Rattle.rehearse_lines.proofs.print.put_run.Tie as tie
 

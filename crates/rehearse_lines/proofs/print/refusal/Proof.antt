@@ -4,7 +4,7 @@ use Prim.Native.Nat.{ℕ, _+_, _*_, _-_, _/_, _%_, _≤_, _<_}
 use native.Mathlib.Omega.{arith}
 use lib.ListN.{length, getD, set, take, drop}
 use borrow.Author.Needs.{needs}
-use Rattle.rehearse_lines.proofs.Stores.{named-bytes, named-stored, refusal-stored, result-stored}
+use Rattle.rehearse_lines.proofs.Stores.{refusal-stored}
 use Rattle.rehearse_lines.proofs.print.refusal.Statement.{statement}
 use Rattle.rehearse_lines.proofs.print.refusal.Tie as tie
 
