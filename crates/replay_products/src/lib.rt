@@ -5,8 +5,8 @@
 // A call is lent copies of what it may write, which are put back, and parts of the memory itself of what it only reads.
 mod dealing;
 mod lines;
-mod steps;
+mod products;
 
 pub use dealing::deal;
 pub use lines::line;
-pub use steps::step;
+pub use products::step;

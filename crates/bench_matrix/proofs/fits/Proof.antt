@@ -25,13 +25,17 @@ returns-6 : tie.Need-returns-6
 returns-6 c = refused
 
 mul-if7 : tie.Need-mul-if7
-mul-if7 c = omega (arith, mul-le-mul {n₁ = c .before .before .before .before .before .before .args .k} {m₁ = c .before .before .before .before .before .before .args .p} {n₂ = 2048} {m₂ = 2048} (search needs) (search needs))
+mul-if7 c =
+    let a = c .before .before .before .before .before .before .args in
+    omega (arith, mul-le-mul {n₁ = a .k} {m₁ = a .p} {n₂ = 2048} {m₂ = 2048} (search needs) (search needs))
 
 returns-7 : tie.Need-returns-7
 returns-7 c = refused
 
 mul-if8 : tie.Need-mul-if8
-mul-if8 c = omega (arith, mul-le-mul {n₁ = c .before .before .before .before .before .before .before .args .m} {m₁ = c .before .before .before .before .before .before .before .args .k} {n₂ = 2048} {m₂ = 2048} (search needs) (search needs))
+mul-if8 c =
+    let a = c .before .before .before .before .before .before .before .args in
+    omega (arith, mul-le-mul {n₁ = a .m} {m₁ = a .k} {n₂ = 2048} {m₂ = 2048} (search needs) (search needs))
 
 returns-8 : tie.Need-returns-8
 returns-8 c = refused
@@ -43,7 +47,9 @@ returns-9 : tie.Need-returns-9
 returns-9 c = refused
 
 mul-if10 : tie.Need-mul-if10
-mul-if10 c = omega (arith, mul-le-mul {n₁ = c .before .before .before .before .before .before .before .before .before .args .m} {m₁ = c .before .before .before .before .before .before .before .before .before .args .p} {n₂ = 2048} {m₂ = 2048} (search needs) (search needs))
+mul-if10 c =
+    let a = c .before .before .before .before .before .before .before .before .before .args in
+    omega (arith, mul-le-mul {n₁ = a .m} {m₁ = a .p} {n₂ = 2048} {m₂ = 2048} (search needs) (search needs))
 
 returns-10 : tie.Need-returns-10
 returns-10 c = refused

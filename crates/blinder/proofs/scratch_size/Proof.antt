@@ -15,7 +15,10 @@ times-requires-2 : tie.Need-times-requires-2
 times-requires-2 c κs = search needs
 
 add-result : tie.Need-add-result
-add-result c = omega (arith, c .before .times .ensures, c .times2 .ensures, square-bound (c .before .before .args .t) (c .before .before .pre), wide-bound (c .before .before .args .t) (c .before .before .pre))
+add-result c =
+    let a = c .before .before .args in
+    let h = c .before .before .pre in
+    omega (arith, c .before .times .ensures, c .times2 .ensures, square-bound (a .t) (h), wide-bound (a .t) (h))
 
 returns : tie.Need-returns
 returns c = omega (arith, c .before .times .ensures, c .times2 .ensures, scratch-sum (c .before .before .args .t))

@@ -38,16 +38,28 @@ same-length c = search needs
 
 returns : tie.Need-returns
 unfolding blinderFirst
-returns c = rw (c .before .answer-of .ensures, c .before .before .before .enum-told2 .given .1, c .closed .ensures, c .before .before .no-head .ensures) (sym (refused-leaves noBlinder (slotAt (c .before .before .before .before .before .before .before .before .before .before .before .before .before .before .args .pool .now) (c .before .before .before .before .before .before .before .before .before .before .before .before .before .before .args .size) (c .before .before .before .before .before .before .before .before .before .before .before .before .before .before .args .index)) (c .before .before .before .before .before .before .before .before .before .before .before .before .before .before .args .scratch .now) (c .before .before .before .before .before .before .before .before .before .before .before .before .before .before .args .out .now) [] _ (blinderFirstEffect (c .before .before .before .before .before .before .before .before .before .before .before .before .before .before .args .t) (slotAt (c .before .before .before .before .before .before .before .before .before .before .before .before .before .before .args .pool .now) (c .before .before .before .before .before .before .before .before .before .before .before .before .before .before .args .size) (c .before .before .before .before .before .before .before .before .before .before .before .before .before .before .args .index)) (c .before .before .before .before .before .before .before .before .before .before .before .before .before .before .args .mm .now) (c .before .before .before .before .before .before .before .before .before .before .before .before .before .before .args .y .now) (c .before .before .before .before .before .before .before .before .before .before .before .before .before .before .args .words .now) (record { head = c .before .before .before .before .before .before .before .before .before .before .before .before .before .before .args .a; residues = c .before .before .before .before .before .before .before .before .before .before .before .before .before .before .args .residues .now })) (sym (c .before .before .before .before .before .check .ensures) ∙ ap checked (c .before .before .before .enum-told2 .given .1))))
+returns c =
+    let a = c .before .before .before .before .before .before .before .before .before .before .before .before .before .before .args in
+    let s = slotAt (a .pool .now) (a .size) (a .index) in
+    rw (c .before .answer-of .ensures, c .before .before .before .enum-told2 .given .1, c .closed .ensures, c .before .before .no-head .ensures) (sym (refused-leaves noBlinder s (a .scratch .now) (a .out .now) [] _ (blinderFirstEffect (a .t) s (a .mm .now) (a .y .now) (a .words .now) (record { head = a .a; residues = a .residues .now })) (sym (c .before .before .before .before .before .check .ensures) ∙ ap checked (c .before .before .before .enum-told2 .given .1))))
 
 mul-at : tie.Need-mul-at
-mul-at c = let i = slot-room (slotAt (c .before .before .before .before .before .before .before .before .before .before .before .args .pool .now) (c .before .before .before .before .before .before .before .before .before .before .before .args .size) (c .before .before .before .before .before .before .before .before .before .before .before .args .index)) (first-known (c .before .before .before .before .before .before .before .before .before .before .before .args .t) (slotAt (c .before .before .before .before .before .before .before .before .before .before .before .args .pool .now) (c .before .before .before .before .before .before .before .before .before .before .before .args .size) (c .before .before .before .before .before .before .before .before .before .before .before .args .index)) (length (c .before .before .before .before .before .before .before .before .before .before .before .args .scratch .now)) (c .before .before .before .before .before .before .before .before .before .before .before .args .mm .now) (c .before .before .before .before .before .before .before .before .before .before .before .args .y .now) (c .before .before .before .before .before .before .before .before .before .before .before .args .words .now) (record { head = c .before .before .before .before .before .before .before .before .before .before .before .args .a; residues = c .before .before .before .before .before .before .before .before .before .before .before .args .residues .now }) (length (c .before .before .before .before .before .before .before .before .before .before .before .args .out .now)) (sym (c .before .before .check .ensures) ∙ ap checked (c .enum-told .given .1)) .first .half .inside) in search needs
+mul-at c =
+    let a = c .before .before .before .before .before .before .before .before .before .before .before .args in
+    let s = slotAt (a .pool .now) (a .size) (a .index) in
+    let i = slot-room s (first-known (a .t) s (length (a .scratch .now)) (a .mm .now) (a .y .now) (a .words .now) (record { head = a .a; residues = a .residues .now }) (length (a .out .now)) (sym (c .before .before .check .ensures) ∙ ap checked (c .enum-told .given .1)) .first .half .inside) in search needs
 
 add-end : tie.Need-add-end
-add-end c = let i = slot-room (slotAt (c .before .before .before .before .before .before .before .before .before .before .before .args .pool .now) (c .before .before .before .before .before .before .before .before .before .before .before .args .size) (c .before .before .before .before .before .before .before .before .before .before .before .args .index)) (first-known (c .before .before .before .before .before .before .before .before .before .before .before .args .t) (slotAt (c .before .before .before .before .before .before .before .before .before .before .before .args .pool .now) (c .before .before .before .before .before .before .before .before .before .before .before .args .size) (c .before .before .before .before .before .before .before .before .before .before .before .args .index)) (length (c .before .before .before .before .before .before .before .before .before .before .before .args .scratch .now)) (c .before .before .before .before .before .before .before .before .before .before .before .args .mm .now) (c .before .before .before .before .before .before .before .before .before .before .before .args .y .now) (c .before .before .before .before .before .before .before .before .before .before .before .args .words .now) (record { head = c .before .before .before .before .before .before .before .before .before .before .before .args .a; residues = c .before .before .before .before .before .before .before .before .before .before .before .args .residues .now }) (length (c .before .before .before .before .before .before .before .before .before .before .before .args .out .now)) (sym (c .before .before .check .ensures) ∙ ap checked (c .enum-told .given .1)) .first .half .inside) in search needs
+add-end c =
+    let a = c .before .before .before .before .before .before .before .before .before .before .before .args in
+    let s = slotAt (a .pool .now) (a .size) (a .index) in
+    let i = slot-room s (first-known (a .t) s (length (a .scratch .now)) (a .mm .now) (a .y .now) (a .words .now) (record { head = a .a; residues = a .residues .now }) (length (a .out .now)) (sym (c .before .before .check .ensures) ∙ ap checked (c .enum-told .given .1)) .first .half .inside) in search needs
 
 mul-write : tie.Need-mul-write
-mul-write c = let i = slot-room (slotAt (c .before .before .before .before .before .before .before .before .before .before .before .args .pool .now) (c .before .before .before .before .before .before .before .before .before .before .before .args .size) (c .before .before .before .before .before .before .before .before .before .before .before .args .index)) (first-known (c .before .before .before .before .before .before .before .before .before .before .before .args .t) (slotAt (c .before .before .before .before .before .before .before .before .before .before .before .args .pool .now) (c .before .before .before .before .before .before .before .before .before .before .before .args .size) (c .before .before .before .before .before .before .before .before .before .before .before .args .index)) (length (c .before .before .before .before .before .before .before .before .before .before .before .args .scratch .now)) (c .before .before .before .before .before .before .before .before .before .before .before .args .mm .now) (c .before .before .before .before .before .before .before .before .before .before .before .args .y .now) (c .before .before .before .before .before .before .before .before .before .before .before .args .words .now) (record { head = c .before .before .before .before .before .before .before .before .before .before .before .args .a; residues = c .before .before .before .before .before .before .before .before .before .before .before .args .residues .now }) (length (c .before .before .before .before .before .before .before .before .before .before .before .args .out .now)) (sym (c .before .before .check .ensures) ∙ ap checked (c .enum-told .given .1)) .first .half .inside) in search needs
+mul-write c =
+    let a = c .before .before .before .before .before .before .before .before .before .before .before .args in
+    let s = slotAt (a .pool .now) (a .size) (a .index) in
+    let i = slot-room s (first-known (a .t) s (length (a .scratch .now)) (a .mm .now) (a .y .now) (a .words .now) (record { head = a .a; residues = a .residues .now }) (length (a .out .now)) (sym (c .before .before .check .ensures) ∙ ap checked (c .enum-told .given .1)) .first .half .inside) in search needs
 
 sub-write : tie.Need-sub-write
 sub-write c = search needs
@@ -56,17 +68,26 @@ part-write-start : tie.Need-part-write-start
 part-write-start c = search needs
 
 part-write-end : tie.Need-part-write-end
-part-write-end c = let i = slot-room (slotAt (c .before .before .before .before .before .before .before .before .before .before .before .args .pool .now) (c .before .before .before .before .before .before .before .before .before .before .before .args .size) (c .before .before .before .before .before .before .before .before .before .before .before .args .index)) (first-known (c .before .before .before .before .before .before .before .before .before .before .before .args .t) (slotAt (c .before .before .before .before .before .before .before .before .before .before .before .args .pool .now) (c .before .before .before .before .before .before .before .before .before .before .before .args .size) (c .before .before .before .before .before .before .before .before .before .before .before .args .index)) (length (c .before .before .before .before .before .before .before .before .before .before .before .args .scratch .now)) (c .before .before .before .before .before .before .before .before .before .before .before .args .mm .now) (c .before .before .before .before .before .before .before .before .before .before .before .args .y .now) (c .before .before .before .before .before .before .before .before .before .before .before .args .words .now) (record { head = c .before .before .before .before .before .before .before .before .before .before .before .args .a; residues = c .before .before .before .before .before .before .before .before .before .before .before .args .residues .now }) (length (c .before .before .before .before .before .before .before .before .before .before .before .args .out .now)) (sym (c .before .before .check .ensures) ∙ ap checked (c .enum-told .given .1)) .first .half .inside) in search needs
+part-write-end c =
+    let a = c .before .before .before .before .before .before .before .before .before .before .before .args in
+    let s = slotAt (a .pool .now) (a .size) (a .index) in
+    let i = slot-room s (first-known (a .t) s (length (a .scratch .now)) (a .mm .now) (a .y .now) (a .words .now) (record { head = a .a; residues = a .residues .now }) (length (a .out .now)) (sym (c .before .before .check .ensures) ∙ ap checked (c .enum-told .given .1)) .first .half .inside) in search needs
 
 write-requires : tie.Need-write-requires
-write-requires c κs = let f = first-known (c .before .before .before .before .before .before .before .before .before .before .before .before .before .before .args .t) (slotAt (c .before .before .before .before .before .before .before .before .before .before .before .before .before .before .args .pool .now) (c .before .before .before .before .before .before .before .before .before .before .before .before .before .before .args .size) (c .before .before .before .before .before .before .before .before .before .before .before .before .before .before .args .index)) (length (c .before .before .before .before .before .before .before .before .before .before .before .before .before .before .args .scratch .now)) (c .before .before .before .before .before .before .before .before .before .before .before .before .before .before .args .mm .now) (c .before .before .before .before .before .before .before .before .before .before .before .before .before .before .args .y .now) (c .before .before .before .before .before .before .before .before .before .before .before .before .before .before .args .words .now) (record { head = c .before .before .before .before .before .before .before .before .before .before .before .before .before .before .args .a; residues = c .before .before .before .before .before .before .before .before .before .before .before .before .before .before .args .residues .now }) (length (c .before .before .before .before .before .before .before .before .before .before .before .before .before .before .args .out .now)) (sym (c .before .before .before .before .before .check .ensures) ∙ ap checked (c .before .before .before .enum-told .given .1)) in
-    let i = slot-room (slotAt (c .before .before .before .before .before .before .before .before .before .before .before .before .before .before .args .pool .now) (c .before .before .before .before .before .before .before .before .before .before .before .before .before .before .args .size) (c .before .before .before .before .before .before .before .before .before .before .before .before .before .before .args .index)) (f .first .half .inside) in
-    (first-shape (c .before .before .before .before .before .before .before .before .before .before .before .before .before .before .args .t) (slotAt (c .before .before .before .before .before .before .before .before .before .before .before .before .before .before .args .pool .now) (c .before .before .before .before .before .before .before .before .before .before .before .before .before .before .args .size) (c .before .before .before .before .before .before .before .before .before .before .before .before .before .before .args .index)) (length (c .before .before .before .before .before .before .before .before .before .before .before .before .before .before .args .scratch .now)) (c .before .before .before .before .before .before .before .before .before .before .before .before .before .before .args .mm .now) (c .before .before .before .before .before .before .before .before .before .before .before .before .before .before .args .y .now) (c .before .before .before .before .before .before .before .before .before .before .before .before .before .before .args .words .now) (record { head = c .before .before .before .before .before .before .before .before .before .before .before .before .before .before .args .a; residues = c .before .before .before .before .before .before .before .before .before .before .before .before .before .before .args .residues .now }) (length (c .before .before .before .before .before .before .before .before .before .before .before .before .before .before .args .out .now)) _ (slot-part-length (c .before .before .before .before .before .before .before .before .before .before .before .before .before .before .args .pool .now) (c .before .before .before .before .before .before .before .before .before .before .before .before .before .before .args .size) (c .before .before .before .before .before .before .before .before .before .before .before .before .before .before .args .index) i) f, f .first .terms .sides, f .enough, f .scratch-room)
+write-requires c κs =
+    let a = c .before .before .before .before .before .before .before .before .before .before .before .before .before .before .args in
+    let s = slotAt (a .pool .now) (a .size) (a .index) in
+    let f = first-known (a .t) s (length (a .scratch .now)) (a .mm .now) (a .y .now) (a .words .now) (record { head = a .a; residues = a .residues .now }) (length (a .out .now)) (sym (c .before .before .before .before .before .check .ensures) ∙ ap checked (c .before .before .before .enum-told .given .1)) in
+    let i = slot-room s (f .first .half .inside) in
+    (first-shape (a .t) s (length (a .scratch .now)) (a .mm .now) (a .y .now) (a .words .now) (record { head = a .a; residues = a .residues .now }) (length (a .out .now)) _ (slot-part-length (a .pool .now) (a .size) (a .index) i) f, f .first .terms .sides, f .enough, f .scratch-room)
 
 opened-requires : tie.Need-opened-requires
-opened-requires c κs = let f = first-known (c .before .before .before .before .before .before .before .before .before .before .before .before .before .before .before .before .before .before .before .before .before .args .t) (slotAt (c .before .before .before .before .before .before .before .before .before .before .before .before .before .before .before .before .before .before .before .before .before .args .pool .now) (c .before .before .before .before .before .before .before .before .before .before .before .before .before .before .before .before .before .before .before .before .before .args .size) (c .before .before .before .before .before .before .before .before .before .before .before .before .before .before .before .before .before .before .before .before .before .args .index)) (length (c .before .before .before .before .before .before .before .before .before .before .before .before .before .before .before .before .before .before .before .before .before .args .scratch .now)) (c .before .before .before .before .before .before .before .before .before .before .before .before .before .before .before .before .before .before .before .before .before .args .mm .now) (c .before .before .before .before .before .before .before .before .before .before .before .before .before .before .before .before .before .before .before .before .before .args .y .now) (c .before .before .before .before .before .before .before .before .before .before .before .before .before .before .before .before .before .before .before .before .before .args .words .now) (record { head = c .before .before .before .before .before .before .before .before .before .before .before .before .before .before .before .before .before .before .before .before .before .args .a; residues = c .before .before .before .before .before .before .before .before .before .before .before .before .before .before .before .before .before .before .before .before .before .args .residues .now }) (length (c .before .before .before .before .before .before .before .before .before .before .before .before .before .before .before .before .before .before .before .before .before .args .out .now)) (sym (c .before .before .before .before .before .before .before .before .before .before .before .before .check .ensures) ∙ ap checked (c .before .before .before .before .before .before .before .before .before .before .enum-told .given .1)) in
-    let i = slot-room (slotAt (c .before .before .before .before .before .before .before .before .before .before .before .before .before .before .before .before .before .before .before .before .before .args .pool .now) (c .before .before .before .before .before .before .before .before .before .before .before .before .before .before .before .before .before .before .before .before .before .args .size) (c .before .before .before .before .before .before .before .before .before .before .before .before .before .before .before .before .before .before .before .before .before .args .index)) (f .first .half .inside) in
-    (omega (arith, f .m-fits .size, square-bound (c .before .before .before .before .before .before .before .before .before .before .before .before .before .before .before .before .before .before .before .before .before .args .t) (f .first .terms .sides)), omega (arith, f .y-fits .size, side-bound (c .before .before .before .before .before .before .before .before .before .before .before .before .before .before .before .before .before .before .before .before .before .args .t) (f .first .terms .sides)))
+opened-requires c κs =
+    let a = c .before .before .before .before .before .before .before .before .before .before .before .before .before .before .before .before .before .before .before .before .before .args in
+    let s = slotAt (a .pool .now) (a .size) (a .index) in
+    let f = first-known (a .t) s (length (a .scratch .now)) (a .mm .now) (a .y .now) (a .words .now) (record { head = a .a; residues = a .residues .now }) (length (a .out .now)) (sym (c .before .before .before .before .before .before .before .before .before .before .before .before .check .ensures) ∙ ap checked (c .before .before .before .before .before .before .before .before .before .before .enum-told .given .1)) in
+    let i = slot-room s (f .first .half .inside) in
+    (omega (arith, f .m-fits .size, square-bound (a .t) (f .first .terms .sides)), omega (arith, f .y-fits .size, side-bound (a .t) (f .first .terms .sides)))
 
 same-length-2 : tie.Need-same-length-2
 same-length-2 c = search needs
@@ -78,14 +99,20 @@ same-length-4 : tie.Need-same-length-4
 same-length-4 c = search needs
 
 returns-2 : tie.Need-returns-2
-returns-2 c = let f = first-known (c .before .before .before .before .before .before .before .before .before .before .before .before .before .before .before .before .before .before .before .before .before .before .args .t) (slotAt (c .before .before .before .before .before .before .before .before .before .before .before .before .before .before .before .before .before .before .before .before .before .before .args .pool .now) (c .before .before .before .before .before .before .before .before .before .before .before .before .before .before .before .before .before .before .before .before .before .before .args .size) (c .before .before .before .before .before .before .before .before .before .before .before .before .before .before .before .before .before .before .before .before .before .before .args .index)) (length (c .before .before .before .before .before .before .before .before .before .before .before .before .before .before .before .before .before .before .before .before .before .before .args .scratch .now)) (c .before .before .before .before .before .before .before .before .before .before .before .before .before .before .before .before .before .before .before .before .before .before .args .mm .now) (c .before .before .before .before .before .before .before .before .before .before .before .before .before .before .before .before .before .before .before .before .before .before .args .y .now) (c .before .before .before .before .before .before .before .before .before .before .before .before .before .before .before .before .before .before .before .before .before .before .args .words .now) (record { head = c .before .before .before .before .before .before .before .before .before .before .before .before .before .before .before .before .before .before .before .before .before .before .args .a; residues = c .before .before .before .before .before .before .before .before .before .before .before .before .before .before .before .before .before .before .before .before .before .before .args .residues .now }) (length (c .before .before .before .before .before .before .before .before .before .before .before .before .before .before .before .before .before .before .before .before .before .before .args .out .now)) (sym (c .before .before .before .before .before .before .before .before .before .before .before .before .before .check .ensures) ∙ ap checked (c .before .before .before .before .before .before .before .before .before .before .before .enum-told .given .1)) in
-    let i = slot-room (slotAt (c .before .before .before .before .before .before .before .before .before .before .before .before .before .before .before .before .before .before .before .before .before .before .args .pool .now) (c .before .before .before .before .before .before .before .before .before .before .before .before .before .before .before .before .before .before .before .before .before .before .args .size) (c .before .before .before .before .before .before .before .before .before .before .before .before .before .before .before .before .before .before .before .before .before .before .args .index)) (f .first .half .inside) in
-    first-done (c .before .before .before .before .before .before .before .before .before .before .before .before .before .before .before .before .before .before .before .before .before .before .args .t) (slotAt (c .before .before .before .before .before .before .before .before .before .before .before .before .before .before .before .before .before .before .before .before .before .before .args .pool .now) (c .before .before .before .before .before .before .before .before .before .before .before .before .before .before .before .before .before .before .before .before .before .before .args .size) (c .before .before .before .before .before .before .before .before .before .before .before .before .before .before .before .before .before .before .before .before .before .before .args .index)) (c .before .before .before .before .before .before .before .before .before .before .before .before .before .before .before .before .before .before .before .before .before .before .args .scratch .now) (c .before .before .before .before .before .before .before .before .before .before .before .before .before .before .before .before .before .before .before .before .before .before .args .mm .now) (c .before .before .before .before .before .before .before .before .before .before .before .before .before .before .before .before .before .before .before .before .before .before .args .y .now) (c .before .before .before .before .before .before .before .before .before .before .before .before .before .before .before .before .before .before .before .before .before .before .args .words .now) (record { head = c .before .before .before .before .before .before .before .before .before .before .before .before .before .before .before .before .before .before .before .before .before .before .args .a; residues = c .before .before .before .before .before .before .before .before .before .before .before .before .before .before .before .before .before .before .before .before .before .before .args .residues .now }) (c .before .before .before .before .before .before .before .before .before .before .before .before .before .before .before .before .before .before .before .before .before .before .args .out .now) (sym (c .before .before .before .before .before .before .before .before .before .before .before .before .before .check .ensures) ∙ ap checked (c .before .before .before .before .before .before .before .before .before .before .before .enum-told .given .1)) (f .first .terms .sides) (first-shape (c .before .before .before .before .before .before .before .before .before .before .before .before .before .before .before .before .before .before .before .before .before .before .args .t) (slotAt (c .before .before .before .before .before .before .before .before .before .before .before .before .before .before .before .before .before .before .before .before .before .before .args .pool .now) (c .before .before .before .before .before .before .before .before .before .before .before .before .before .before .before .before .before .before .before .before .before .before .args .size) (c .before .before .before .before .before .before .before .before .before .before .before .before .before .before .before .before .before .before .before .before .before .before .args .index)) (length (c .before .before .before .before .before .before .before .before .before .before .before .before .before .before .before .before .before .before .before .before .before .before .args .scratch .now)) (c .before .before .before .before .before .before .before .before .before .before .before .before .before .before .before .before .before .before .before .before .before .before .args .mm .now) (c .before .before .before .before .before .before .before .before .before .before .before .before .before .before .before .before .before .before .before .before .before .before .args .y .now) (c .before .before .before .before .before .before .before .before .before .before .before .before .before .before .before .before .before .before .before .before .before .before .args .words .now) (record { head = c .before .before .before .before .before .before .before .before .before .before .before .before .before .before .before .before .before .before .before .before .before .before .args .a; residues = c .before .before .before .before .before .before .before .before .before .before .before .before .before .before .before .before .before .before .before .before .before .before .args .residues .now }) (length (c .before .before .before .before .before .before .before .before .before .before .before .before .before .before .before .before .before .before .before .before .before .before .args .out .now)) _ (slot-part-length (c .before .before .before .before .before .before .before .before .before .before .before .before .before .before .before .before .before .before .before .before .before .before .args .pool .now) (c .before .before .before .before .before .before .before .before .before .before .before .before .before .before .before .before .before .before .before .before .before .before .args .size) (c .before .before .before .before .before .before .before .before .before .before .before .before .before .before .before .before .before .before .before .before .before .before .args .index) i) f .full-y)
-    (c .before .before .before .before .before .before .before .write .ensures .0)
+returns-2 c =
+    let a = c .before .before .before .before .before .before .before .before .before .before .before .before .before .before .before .before .before .before .before .before .before .before .args in
+    let check = c .before .before .before .before .before .before .before .before .before .before .before .before .before .check in
+    let enum-told = c .before .before .before .before .before .before .before .before .before .before .before .enum-told in
+    let write = c .before .before .before .before .before .before .before .write in
+    let s = slotAt (a .pool .now) (a .size) (a .index) in
+    let f = first-known (a .t) s (length (a .scratch .now)) (a .mm .now) (a .y .now) (a .words .now) (record { head = a .a; residues = a .residues .now }) (length (a .out .now)) (sym (check .ensures) ∙ ap checked (enum-told .given .1)) in
+    let i = slot-room s (f .first .half .inside) in
+    first-done (a .t) s (a .scratch .now) (a .mm .now) (a .y .now) (a .words .now) (record { head = a .a; residues = a .residues .now }) (a .out .now) (sym (check .ensures) ∙ ap checked (enum-told .given .1)) (f .first .terms .sides) (first-shape (a .t) s (length (a .scratch .now)) (a .mm .now) (a .y .now) (a .words .now) (record { head = a .a; residues = a .residues .now }) (length (a .out .now)) _ (slot-part-length (a .pool .now) (a .size) (a .index) i) f .full-y)
+    (write .ensures .0)
     (c .opened .ensures)
-    (slot-written (c .before .before .before .before .before .before .before .before .before .before .before .before .before .before .before .before .before .before .before .before .before .before .args .pool .now) _ (c .before .before .before .before .before .before .before .before .before .before .before .before .before .before .before .before .before .before .before .before .before .before .args .size) (c .before .before .before .before .before .before .before .before .before .before .before .before .before .before .before .before .before .before .before .before .before .before .args .index) wordsInUse i (λ ws e. in-use-length ws (omega (arith, f .first .half .room, half-body blinder (c .before .before .before .before .before .before .before .before .before .before .before .before .before .before .before .before .before .before .before .before .before .before .args .t), e)) ∙ e) (c .before .before .before .before .before .before .before .write .ensures .1 .0))
-    (c .before .before .before .before .before .before .before .write .ensures .1 .1 .0)
-    (rw (slot-part (c .before .before .before .before .before .before .before .before .before .before .before .before .before .before .before .before .before .before .before .before .before .before .args .pool .now) (c .before .before .before .before .before .before .before .before .before .before .before .before .before .before .before .before .before .before .before .before .before .before .args .size) (c .before .before .before .before .before .before .before .before .before .before .before .before .before .before .before .before .before .before .before .before .before .before .args .index)) at (c .before .before .before .before .before .before .before .write .ensures .1 .1 .1))
+    (slot-written (a .pool .now) _ (a .size) (a .index) wordsInUse i (λ ws e. in-use-length ws (omega (arith, f .first .half .room, half-body blinder (a .t), e)) ∙ e) (write .ensures .1 .0))
+    (write .ensures .1 .1 .0)
+    (rw (slot-part (a .pool .now) (a .size) (a .index)) at (write .ensures .1 .1 .1))
 
 pub blinder-first-spec : {M : Type 1} → statement M
 blinder-first-spec =

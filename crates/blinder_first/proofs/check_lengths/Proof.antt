@@ -26,7 +26,9 @@ need-requires-3 : tie.Need-need-requires-3
 need-requires-3 c κs = search needs
 
 message-size-requires : tie.Need-message-size-requires
-message-size-requires c κs = few system (c .before .before .before .before .before .before .args .t .m) (c .before .before .before .before .before .before .args .t .k) (c .before .before .before .before .before .before .args .t .p) (c .before .before .before .before .before .before .pre)
+message-size-requires c κs =
+    let a = c .before .before .before .before .before .before .args in
+    few system (a .t .m) (a .t .k) (a .t .p) (c .before .before .before .before .before .before .pre)
 
 need-requires-4 : tie.Need-need-requires-4
 need-requires-4 c κs = search needs

@@ -26,11 +26,17 @@ slice-aggregate-draw : tie.Need-slice-aggregate-draw
 slice-aggregate-draw c = search needs
 
 draw-requires : tie.Need-draw-requires
-draw-requires c κs = let few : c .before .times .result ≤ length (residuesOf (c .before .before .before .before .before .args .t .q) (c .before .before .before .before .before .args .words .now)) = omega (arith, c .before .times .ensures, scratch-sum (c .before .before .before .before .before .args .t), c .before .before .before .before .before .pre .1) in
-    (c .before .before .before .before .before .pre .0 .some-q, few, omega (arith, c .before .times .ensures, square-bound (c .before .before .before .before .before .args .t) (c .before .before .before .before .before .pre .0 .sides), length-replicate {A = ℕ} 256 0))
+draw-requires c κs =
+    let a = c .before .before .before .before .before .args in
+    let h = c .before .before .before .before .before .pre in
+    let few : c .before .times .result ≤ length (residuesOf (a .t .q) (a .words .now)) = omega (arith, c .before .times .ensures, scratch-sum (a .t), h .1) in
+    (h .0 .some-q, few, omega (arith, c .before .times .ensures, square-bound (a .t) (h .0 .sides), length-replicate {A = ℕ} 256 0))
 
 has-inverse-requires : tie.Need-has-inverse-requires
-has-inverse-requires c κs = (c .before .before .before .before .before .before .before .pre .0 .prime, c .before .before .before .before .before .before .before .pre .0 .small-q, unknowns (c .before .before .before .before .before .before .before .args .t .m) (c .before .before .before .before .before .before .before .args .t .k) (c .before .before .before .before .before .before .before .args .t .p) (c .before .before .before .before .before .before .before .pre .0 .sides) .few, c .before .before .before .before .before .before .before .pre .0 .residues)
+has-inverse-requires c κs =
+    let a = c .before .before .before .before .before .before .before .args in
+    let h = c .before .before .before .before .before .before .before .pre in
+    (h .0 .prime, h .0 .small-q, unknowns (a .t .m) (a .t .k) (a .t .p) (h .0 .sides) .few, h .0 .residues)
 
 need-requires : tie.Need-need-requires
 need-requires c κs = search needs
@@ -39,14 +45,21 @@ array-share-prefix-pm : tie.Need-array-share-prefix-pm
 array-share-prefix-pm c = omega (arith, c .before .before .before .before .before .times .ensures, square-bound (c .before .before .before .before .before .before .before .before .before .args .t) (c .before .before .before .before .before .before .before .before .before .pre .0 .sides))
 
 slice-aggregate-has-inverse : tie.Need-slice-aggregate-has-inverse
-slice-aggregate-has-inverse c = let few : c .before .before .before .before .before .before .times .result ≤ length (residuesOf (c .before .before .before .before .before .before .before .before .before .before .args .t .q) (c .before .before .before .before .before .before .before .before .before .before .args .words .now)) = omega (arith, c .before .before .before .before .before .before .times .ensures, scratch-sum (c .before .before .before .before .before .before .before .before .before .before .args .t), c .before .before .before .before .before .before .before .before .before .before .pre .1) in
-    let u = coins-part _ _ (c .before .before .before .before .before .before .before .before .before .before .args .words .now) _ _ few (c .before .before .before .before .draw .ensures .1) in
+slice-aggregate-has-inverse c =
+    let a = c .before .before .before .before .before .before .before .before .before .before .args in
+    let times = c .before .before .before .before .before .before .times in
+    let few : times .result ≤ length (residuesOf (a .t .q) (a .words .now)) = omega (arith, times .ensures, scratch-sum (a .t), c .before .before .before .before .before .before .before .before .before .before .pre .1) in
+    let u = coins-part _ _ (a .words .now) _ _ few (c .before .before .before .before .draw .ensures .1) in
     sym (ap length u ∙ drawn-count _ _ _ few)
 
 has-inverse-requires-2 : tie.Need-has-inverse-requires-2
-has-inverse-requires-2 c κs = let few : c .before .before .before .before .before .before .times .result ≤ length (residuesOf (c .before .before .before .before .before .before .before .before .before .before .args .t .q) (c .before .before .before .before .before .before .before .before .before .before .args .words .now)) = omega (arith, c .before .before .before .before .before .before .times .ensures, scratch-sum (c .before .before .before .before .before .before .before .before .before .before .args .t), c .before .before .before .before .before .before .before .before .before .before .pre .1) in
-    let u = coins-part _ _ (c .before .before .before .before .before .before .before .before .before .before .args .words .now) _ _ few (c .before .before .before .before .draw .ensures .1) in
-    (c .before .before .before .before .before .before .before .before .before .before .pre .0 .prime, c .before .before .before .before .before .before .before .before .before .before .pre .0 .small-q, unknowns (c .before .before .before .before .before .before .before .before .before .before .args .t .m) (c .before .before .before .before .before .before .before .before .before .before .args .t .k) (c .before .before .before .before .before .before .before .before .before .before .args .t .p) (c .before .before .before .before .before .before .before .before .before .before .pre .0 .sides) .few, rw (u, c .before .before .before .before .before .before .times .ensures) (p-residues (c .before .before .before .before .before .before .before .before .before .before .args .t .q) (c .before .before .before .before .before .before .before .before .before .before .args .t .m * c .before .before .before .before .before .before .before .before .before .before .args .t .m) (c .before .before .before .before .before .before .before .before .before .before .args .words .now) (c .before .before .before .before .before .before .before .before .before .before .pre .0 .some-q) (omega (arith, scratch-sum (c .before .before .before .before .before .before .before .before .before .before .args .t), c .before .before .before .before .before .before .before .before .before .before .pre .1))))
+has-inverse-requires-2 c κs =
+    let a = c .before .before .before .before .before .before .before .before .before .before .args in
+    let h = c .before .before .before .before .before .before .before .before .before .before .pre in
+    let times = c .before .before .before .before .before .before .times in
+    let few : times .result ≤ length (residuesOf (a .t .q) (a .words .now)) = omega (arith, times .ensures, scratch-sum (a .t), h .1) in
+    let u = coins-part _ _ (a .words .now) _ _ few (c .before .before .before .before .draw .ensures .1) in
+    (h .0 .prime, h .0 .small-q, unknowns (a .t .m) (a .t .k) (a .t .p) (h .0 .sides) .few, rw (u, times .ensures) (p-residues (a .t .q) (a .t .m * a .t .m) (a .words .now) (h .0 .some-q) (omega (arith, scratch-sum (a .t), h .1))))
 
 need-requires-2 : tie.Need-need-requires-2
 need-requires-2 c κs = search needs
@@ -56,9 +69,12 @@ worst-requires c κs = search needs
 
 returns : tie.Need-returns
 unfolding firstRegular regularTests
-returns c = let few : c .before .before .before .before .before .before .before .before .before .times .result ≤ length (residuesOf (c .before .before .before .before .before .before .before .before .before .before .before .before .before .args .t .q) (c .before .before .before .before .before .before .before .before .before .before .before .before .before .args .words .now)) = omega (arith, c .before .before .before .before .before .before .before .before .before .times .ensures, scratch-sum (c .before .before .before .before .before .before .before .before .before .before .before .before .before .args .t), c .before .before .before .before .before .before .before .before .before .before .before .before .before .pre .1) in
-    let u = coins-part _ _ (c .before .before .before .before .before .before .before .before .before .before .before .before .before .args .words .now) _ _ few (c .before .before .before .before .before .before .before .draw .ensures .1) in
-    also (_ ∷ []) _ (c .worst .ensures) (rw (c .before .before .before .before .before .has-inverse .ensures) at (c .before .before .before .before .need .ensures)) (rw (c .before .before .has-inverse2 .ensures, u, c .before .before .before .before .before .before .before .before .before .times .ensures, p-drawn (c .before .before .before .before .before .before .before .before .before .before .before .before .before .args .t) (c .before .before .before .before .before .before .before .before .before .before .before .before .before .args .words .now)) at (c .before .need2 .ensures))
+returns c =
+    let a = c .before .before .before .before .before .before .before .before .before .before .before .before .before .args in
+    let times = c .before .before .before .before .before .before .before .before .before .times in
+    let few : times .result ≤ length (residuesOf (a .t .q) (a .words .now)) = omega (arith, times .ensures, scratch-sum (a .t), c .before .before .before .before .before .before .before .before .before .before .before .before .before .pre .1) in
+    let u = coins-part _ _ (a .words .now) _ _ few (c .before .before .before .before .before .before .before .draw .ensures .1) in
+    also (_ ∷ []) _ (c .worst .ensures) (rw (c .before .before .before .before .before .has-inverse .ensures) at (c .before .before .before .before .need .ensures)) (rw (c .before .before .has-inverse2 .ensures, u, times .ensures, p-drawn (a .t) (a .words .now)) at (c .before .need2 .ensures))
 
 pub check-regular-spec : {M : Type 1} → statement M
 check-regular-spec =

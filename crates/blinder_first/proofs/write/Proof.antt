@@ -27,14 +27,21 @@ slice-reshare-prefix-write-message : tie.Need-slice-reshare-prefix-write-message
 slice-reshare-prefix-write-message c = search needs
 
 slice-aggregate-write-message : tie.Need-slice-aggregate-write-message
-slice-aggregate-write-message c = let few : c .before .before .before .before .before .before .before .before .scratch-size .result ≤ length (residuesOf (c .before .before .before .before .before .before .before .before .before .before .before .before .before .before .args .t .q) (c .before .before .before .before .before .before .before .before .before .before .before .before .before .before .args .words .now)) = omega (arith, c .before .before .before .before .before .before .before .before .scratch-size .ensures, c .before .before .before .before .before .before .before .before .before .before .before .before .before .before .pre .2) in
-    let u = coins-part _ _ (c .before .before .before .before .before .before .before .before .before .before .before .before .before .before .args .words .now) _ _ few (c .before .before .before .before .before .before .draw .ensures .1) in
+slice-aggregate-write-message c =
+    let a = c .before .before .before .before .before .before .before .before .before .before .before .before .before .before .args in
+    let scratch-size = c .before .before .before .before .before .before .before .before .scratch-size in
+    let few : scratch-size .result ≤ length (residuesOf (a .t .q) (a .words .now)) = omega (arith, scratch-size .ensures, c .before .before .before .before .before .before .before .before .before .before .before .before .before .before .pre .2) in
+    let u = coins-part _ _ (a .words .now) _ _ few (c .before .before .before .before .before .before .draw .ensures .1) in
     sym (ap length u ∙ drawn-count _ _ _ few)
 
 write-message-requires : tie.Need-write-message-requires
-write-message-requires c κs = let few : c .before .before .before .before .before .before .before .before .before .scratch-size .result ≤ length (residuesOf (c .before .before .before .before .before .before .before .before .before .before .before .before .before .before .before .args .t .q) (c .before .before .before .before .before .before .before .before .before .before .before .before .before .before .before .args .words .now)) = omega (arith, c .before .before .before .before .before .before .before .before .before .scratch-size .ensures, c .before .before .before .before .before .before .before .before .before .before .before .before .before .before .before .pre .2) in
-    let u = coins-part _ _ (c .before .before .before .before .before .before .before .before .before .before .before .before .before .before .before .args .words .now) _ _ few (c .before .before .before .before .before .before .before .draw .ensures .1) in
-    (c .before .before .before .before .before .before .before .before .before .before .before .before .before .before .before .pre .0, ap length u ∙ (drawn-count _ _ _ few ∙ (c .before .before .before .before .before .before .before .before .before .scratch-size .ensures ∙ sym (scratch-sum (c .before .before .before .before .before .before .before .before .before .before .before .before .before .before .before .args .t)))))
+write-message-requires c κs =
+    let a = c .before .before .before .before .before .before .before .before .before .before .before .before .before .before .before .args in
+    let h = c .before .before .before .before .before .before .before .before .before .before .before .before .before .before .before .pre in
+    let scratch-size = c .before .before .before .before .before .before .before .before .before .scratch-size in
+    let few : scratch-size .result ≤ length (residuesOf (a .t .q) (a .words .now)) = omega (arith, scratch-size .ensures, h .2) in
+    let u = coins-part _ _ (a .words .now) _ _ few (c .before .before .before .before .before .before .before .draw .ensures .1) in
+    (h .0, ap length u ∙ (drawn-count _ _ _ few ∙ (scratch-size .ensures ∙ sym (scratch-sum (a .t)))))
 
 take-up-requires : tie.Need-take-up-requires
 take-up-requires c κs = search needs
@@ -50,9 +57,13 @@ same-length-3 c = search needs
 
 returns : tie.Need-returns
 unfolding coinsOf
-returns c = let few : c .before .before .before .before .before .before .before .before .before .before .before .before .before .before .before .before .scratch-size .result ≤ length (residuesOf (c .before .before .before .before .before .before .before .before .before .before .before .before .before .before .before .before .before .before .before .before .before .before .args .t .q) (c .before .before .before .before .before .before .before .before .before .before .before .before .before .before .before .before .before .before .before .before .before .before .args .words .now)) = omega (arith, c .before .before .before .before .before .before .before .before .before .before .before .before .before .before .before .before .scratch-size .ensures, c .before .before .before .before .before .before .before .before .before .before .before .before .before .before .before .before .before .before .before .before .before .before .pre .2) in
-    let u = coins-part _ _ (c .before .before .before .before .before .before .before .before .before .before .before .before .before .before .before .before .before .before .before .before .before .before .args .words .now) _ _ few (c .before .before .before .before .before .before .before .before .before .before .before .before .before .before .draw .ensures .1) in
-    (rw (c .before .before .before .before .before .before .before .before .before .before .before .before .before .before .before .before .scratch-size .ensures) at (c .before .before .before .before .before .before .before .before .before .before .before .before .before .before .draw .ensures .0), (c .before .before .take-up .ensures, (rw (c .before .before .before .before .before .before .before .before .before .before .before .before .before .before .before .before .scratch-size .ensures) at (c .before .before .before .before .before .before .before .before .before .before .before .before .before .before .draw .ensures .1), rw (u, c .before .before .before .before .before .before .before .before .before .before .before .before .before .before .before .before .scratch-size .ensures) at (c .before .before .before .before .before .before .write-message .ensures))))
+returns c =
+    let a = c .before .before .before .before .before .before .before .before .before .before .before .before .before .before .before .before .before .before .before .before .before .before .args in
+    let draw = c .before .before .before .before .before .before .before .before .before .before .before .before .before .before .draw in
+    let scratch-size = c .before .before .before .before .before .before .before .before .before .before .before .before .before .before .before .before .scratch-size in
+    let few : scratch-size .result ≤ length (residuesOf (a .t .q) (a .words .now)) = omega (arith, scratch-size .ensures, c .before .before .before .before .before .before .before .before .before .before .before .before .before .before .before .before .before .before .before .before .before .before .pre .2) in
+    let u = coins-part _ _ (a .words .now) _ _ few (draw .ensures .1) in
+    (rw (scratch-size .ensures) at (draw .ensures .0), (c .before .before .take-up .ensures, (rw (scratch-size .ensures) at (draw .ensures .1), rw (u, scratch-size .ensures) at (c .before .before .before .before .before .before .write-message .ensures))))
 
 pub write-spec : {M : Type 1} → statement M
 write-spec =

@@ -29,7 +29,9 @@ add-end : tie.Need-add-end
 add-end c = search needs
 
 slice-aggregate-write-sum : tie.Need-slice-aggregate-write-sum
-slice-aggregate-write-sum c = sym (length-take-le (c .before .before .before .before .before .args .n * c .before .before .before .before .before .args .n) (c .before .before .before .before .before .args .coins .now) (omega (arith, c .before .before .before .before .before .pre .1)))
+slice-aggregate-write-sum c =
+    let a = c .before .before .before .before .before .args in
+    sym (length-take-le (a .n * a .n) (a .coins .now) (omega (arith, c .before .before .before .before .before .pre .1)))
 
 sub-write-sum : tie.Need-sub-write-sum
 sub-write-sum c = search needs
@@ -41,10 +43,14 @@ part-write-sum-end : tie.Need-part-write-sum-end
 part-write-sum-end c = search needs
 
 write-sum-requires : tie.Need-write-sum-requires
-write-sum-requires c κs = (c .before .before .before .before .before .before .before .pre .0 .some-q, simp length-take (omega (arith, c .before .before .before .before .before .before .before .pre .1)), simp (length-take, length-drop) (omega (arith, c .before .before .before .before .before .before .before .pre .0 .half)), omega (arith, c .before .before .before .before .before .before .before .pre .0 .room))
+write-sum-requires c κs =
+    let h = c .before .before .before .before .before .before .before .pre in
+    (h .0 .some-q, simp length-take (omega (arith, h .1)), simp (length-take, length-drop) (omega (arith, h .0 .half)), omega (arith, h .0 .room))
 
 slice-aggregate-write-reply : tie.Need-slice-aggregate-write-reply
-slice-aggregate-write-reply c = sym (length-take-le (c .before .before .before .before .before .before .before .before .before .before .before .args .n * c .before .before .before .before .before .before .before .before .before .before .before .args .n) (c .before .before .before .before .before .before .before .before .before .before .before .args .coins .now) (omega (arith, c .before .before .before .before .before .before .before .before .before .before .before .pre .1)))
+slice-aggregate-write-reply c =
+    let a = c .before .before .before .before .before .before .before .before .before .before .before .args in
+    sym (length-take-le (a .n * a .n) (a .coins .now) (omega (arith, c .before .before .before .before .before .before .before .before .before .before .before .pre .1)))
 
 mul-write-reply : tie.Need-mul-write-reply
 mul-write-reply c = search needs
@@ -84,19 +90,21 @@ part-write-reply-end-3 c = search needs
 
 write-reply-requires : tie.Need-write-reply-requires
 write-reply-requires c κs =
-    let p = c .before .before .before .before .before .before .before .before .before .before .before .before .before .before .pre .0 in
-    let long = sum-length (c .before .before .before .before .before .before .before .before .before .before .before .before .before .before .args .q) (c .before .before .before .before .before .before .before .before .before .before .before .before .before .before .args .n * c .before .before .before .before .before .before .before .before .before .before .before .before .before .before .args .n) _ _ (c .before .before .before .before .before .before .before .before .before .before .before .before .before .before .args .out .now) _ (p .some-q) (omega (arith, p .room)) (c .before .before .before .before .before .before .write-sum .ensures) in (
+    let a = c .before .before .before .before .before .before .before .before .before .before .before .before .before .before .args in
+    let h = c .before .before .before .before .before .before .before .before .before .before .before .before .before .before .pre in
+    let p = h .0 in
+    let long = sum-length (a .q) (a .n * a .n) _ _ (a .out .now) _ (p .some-q) (omega (arith, p .room)) (c .before .before .before .before .before .before .write-sum .ensures) in (
       record {
         some-q = p .some-q;
         small-q = p .small-q;
         some-p = p .some-p;
         few-k = omega (arith, p .few-n);
         few-y = omega (arith, p .wide);
-        full-x = simp length-take (omega (arith, c .before .before .before .before .before .before .before .before .before .before .before .before .before .before .pre .1));
+        full-x = simp length-take (omega (arith, h .1));
         full-y = omega (arith, p .full-y);
         room = simp (length-take, length-drop) (omega (arith, long, p .room));
       },
-      simp (length-take, length-drop) (omega (arith, c .before .before .before .before .before .before .before .before .before .before .before .before .before .before .pre .1)),
+      simp (length-take, length-drop) (omega (arith, h .1)),
       simp (length-take, length-drop) (omega (arith, p .half)),
     )
 
@@ -106,14 +114,16 @@ same-length c = search needs
 returns : tie.Need-returns
 unfolding firstSent sendX sendR
 returns c =
-    let a : 7 + (c .before .before .before .before .before .before .before .before .before .before .before .before .before .before .before .before .before .args .n * c .before .before .before .before .before .before .before .before .before .before .before .before .before .before .before .before .before .args .n) - 7 ≡ (c .before .before .before .before .before .before .before .before .before .before .before .before .before .before .before .before .before .args .n * c .before .before .before .before .before .before .before .before .before .before .before .before .before .before .before .before .before .args .n) = omega arith in
-    let b : 7 + (c .before .before .before .before .before .before .before .before .before .before .before .before .before .before .before .before .before .args .n * c .before .before .before .before .before .before .before .before .before .before .before .before .before .before .before .before .before .args .n) + (c .before .before .before .before .before .before .before .before .before .before .before .before .before .before .before .before .before .args .n * c .before .before .before .before .before .before .before .before .before .before .before .before .before .before .before .before .before .args .p) - (7 + (c .before .before .before .before .before .before .before .before .before .before .before .before .before .before .before .before .before .args .n * c .before .before .before .before .before .before .before .before .before .before .before .before .before .before .before .before .before .args .n)) ≡ (c .before .before .before .before .before .before .before .before .before .before .before .before .before .before .before .before .before .args .n * c .before .before .before .before .before .before .before .before .before .before .before .before .before .before .before .before .before .args .p) = omega arith in
-    let d : (c .before .before .before .before .before .before .before .before .before .before .before .before .before .before .before .before .before .args .n * c .before .before .before .before .before .before .before .before .before .before .before .before .before .before .before .before .before .args .n) + (c .before .before .before .before .before .before .before .before .before .before .before .before .before .before .before .before .before .args .n * c .before .before .before .before .before .before .before .before .before .before .before .before .before .before .before .before .before .args .p) - (c .before .before .before .before .before .before .before .before .before .before .before .before .before .before .before .before .before .args .n * c .before .before .before .before .before .before .before .before .before .before .before .before .before .before .before .before .before .args .n) ≡ (c .before .before .before .before .before .before .before .before .before .before .before .before .before .before .before .before .before .args .n * c .before .before .before .before .before .before .before .before .before .before .before .before .before .before .before .before .before .args .p) = omega arith in
+    let arg = c .before .before .before .before .before .before .before .before .before .before .before .before .before .before .before .before .before .args in
+    let h = c .before .before .before .before .before .before .before .before .before .before .before .before .before .before .before .before .before .pre in
+    let a : 7 + (arg .n * arg .n) - 7 ≡ (arg .n * arg .n) = omega arith in
+    let b : 7 + (arg .n * arg .n) + (arg .n * arg .p) - (7 + (arg .n * arg .n)) ≡ (arg .n * arg .p) = omega arith in
+    let d : (arg .n * arg .n) + (arg .n * arg .p) - (arg .n * arg .n) ≡ (arg .n * arg .p) = omega arith in
     let e1 = rw a at (c .before .before .before .before .before .before .before .before .before .write-sum .ensures) in
     let e2 = rw (b, d) at (c .before .before .write-reply .ensures) in
-    let full = add-residues (c .before .before .before .before .before .before .before .before .before .before .before .before .before .before .before .before .before .pre .0 .some-q) (c .before .before .before .before .before .before .before .before .before .before .before .before .before .before .before .before .before .args .n * c .before .before .before .before .before .before .before .before .before .before .before .before .before .before .before .before .before .args .n) (_) (_) .size in
-    part-then _ _ (c .before .before .before .before .before .before .before .before .before .before .before .before .before .before .before .before .before .args .out .now) _ _ (c .before .before .before .before .before .before .before .before .before .before .before .before .before .before .before .before .before .args .n * c .before .before .before .before .before .before .before .before .before .before .before .before .before .before .before .before .before .args .n) full
-    (omega (arith, ap length e1 ∙ over-length _ (c .before .before .before .before .before .before .before .before .before .before .before .before .before .before .before .before .before .args .out .now) (omega (arith, full, c .before .before .before .before .before .before .before .before .before .before .before .before .before .before .before .before .before .pre .0 .room)), c .before .before .before .before .before .before .before .before .before .before .before .before .before .before .before .before .before .pre .0 .room)) e1 e2
+    let full = add-residues (h .0 .some-q) (arg .n * arg .n) (_) (_) .size in
+    part-then _ _ (arg .out .now) _ _ (arg .n * arg .n) full
+    (omega (arith, ap length e1 ∙ over-length _ (arg .out .now) (omega (arith, full, h .0 .room)), h .0 .room)) e1 e2
 
 pub write-message-spec : {M : Type 1} → statement M
 write-message-spec =

@@ -79,12 +79,14 @@ loop-less : tie.Need-loop-less Inv-loop μ-loop
 loop-less c = search needs
 
 loop-again : tie.Need-loop-again Inv-loop μ-loop
-loop-again c = let a = c .before .before .before .before .before .before .before .before .before .before .before .args in let l = c .before .before .before .before .before .before .before .loop in let f = row-fits (l .i) (a .m) (a .p) (c .before .before .before .before .before .before .loop-test .taken) in let g = row-fits (l .i) (a .m) (a .r) (c .before .before .before .before .before .before .loop-test .taken) in let h = row-fits (l .i) (a .m) (a .p + a .r) (c .before .before .before .before .before .before .loop-test .taken) in (
-  search needs,
-  part-then (beside (l .i) (a .p) (a .r) (a .a .now) (a .b .now)) (firstWords (a .p) _ ++ firstWords (a .r) _) (a .out .now) (l .out) _ (l .i * (a .p + a .r)) (beside-length (l .i) (a .p) (a .r) (a .a .now) (a .b .now)) (search needs) (l .inv .1) (c .before .before .write-row .ensures)
-      ∙ ap (λ (x : List ℕ). over x (a .out .now)) (rw (tail-part (l .i * a .p) (a .a .now), tail-part (l .i * a .r) (a .b .now)) (beside-next (l .i) (a .p) (a .r) (a .a .now) (a .b .now))),
-  search needs,
-)
+loop-again c =
+    let loop-test = c .before .before .before .before .before .before .loop-test in
+    let a = c .before .before .before .before .before .before .before .before .before .before .before .args in let l = c .before .before .before .before .before .before .before .loop in let f = row-fits (l .i) (a .m) (a .p) (loop-test .taken) in let g = row-fits (l .i) (a .m) (a .r) (loop-test .taken) in let h = row-fits (l .i) (a .m) (a .p + a .r) (loop-test .taken) in (
+      search needs,
+      part-then (beside (l .i) (a .p) (a .r) (a .a .now) (a .b .now)) (firstWords (a .p) _ ++ firstWords (a .r) _) (a .out .now) (l .out) _ (l .i * (a .p + a .r)) (beside-length (l .i) (a .p) (a .r) (a .a .now) (a .b .now)) (search needs) (l .inv .1) (c .before .before .write-row .ensures)
+          ∙ ap (λ (x : List ℕ). over x (a .out .now)) (rw (tail-part (l .i * a .p) (a .a .now), tail-part (l .i * a .r) (a .b .now)) (beside-next (l .i) (a .p) (a .r) (a .a .now) (a .b .now))),
+      search needs,
+    )
 
 same-length : tie.Need-same-length Inv-loop μ-loop
 same-length c = search needs

@@ -27,7 +27,9 @@ same-length : tie.Need-same-length
 same-length c = search needs
 
 returns : tie.Need-returns
-returns c = part-then (firstWords (c .before .before .before .before .before .before .before .before .before .before .before .args .p) (c .before .before .before .before .before .before .before .before .before .before .before .args .a .now)) (firstWords (c .before .before .before .before .before .before .before .before .before .before .before .args .r) (c .before .before .before .before .before .before .before .before .before .before .before .args .b .now)) (c .before .before .before .before .before .before .before .before .before .before .before .args .out .now) _ _ (c .before .before .before .before .before .before .before .before .before .before .before .args .p) (words-count (c .before .before .before .before .before .before .before .before .before .before .before .args .p) (c .before .before .before .before .before .before .before .before .before .before .before .args .a .now)) (search needs) (c .before .before .before .before .before .before .write-copy .ensures) (c .before .before .write-copy2 .ensures)
+returns c =
+    let a = c .before .before .before .before .before .before .before .before .before .before .before .args in
+    part-then (firstWords (a .p) (a .a .now)) (firstWords (a .r) (a .b .now)) (a .out .now) _ _ (a .p) (words-count (a .p) (a .a .now)) (search needs) (c .before .before .before .before .before .before .write-copy .ensures) (c .before .before .write-copy2 .ensures)
 
 pub write-row-spec : {M : Type 1} → statement M
 write-row-spec =

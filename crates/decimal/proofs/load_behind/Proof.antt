@@ -31,7 +31,9 @@ same-length : tie.Need-same-length
 same-length c = search needs
 
 returns-4 : tie.Need-returns-4
-returns-4 c = let s = c .before .before .before .before .before .before .before .before .before .before .args .s .now in let e = whole s (omega arith) (c .before .before .before .before .before .before .if2 .left) in tallied-as _ _ _ (c .before .before .before .before .before .before .before .before .before .before .args .out .now) (c .before .before .scan .last .1 .1 .0) (c .before .before .scan .result) e (c .before .before .scan .ensures)
+returns-4 c =
+    let a = c .before .before .before .before .before .before .before .before .before .before .args in
+    let s = a .s .now in let e = whole s (omega arith) (c .before .before .before .before .before .before .if2 .left) in tallied-as _ _ _ (a .out .now) (c .before .before .scan .last .1 .1 .0) (c .before .before .scan .result) e (c .before .before .scan .ensures)
 
 pub load-behind-spec : {M : Type 1} → statement M
 load-behind-spec =

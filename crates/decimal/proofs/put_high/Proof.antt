@@ -29,7 +29,9 @@ array-read-put-digit : tie.Need-array-read-put-digit Inv-loop μ-loop
 array-read-put-digit c = search needs
 
 put-digit-requires : tie.Need-put-digit-requires Inv-loop μ-loop
-put-digit-requires c κs = let l = c .before .before .loop in let h = c .before .loop-test .taken in let n = c .before .before .before .before .args .n in let at = c .before .before .before .before .args .at in (table-step (l .i) h .1, omega (arith, power-length n (l .i) h, upto-length n (above (l .i + 1)), ap length (l .inv .0), length-sets (c .before .before .before .before .args .out .now) at (upto n (above (l .i)))))
+put-digit-requires c κs =
+    let a = c .before .before .before .before .args in
+    let l = c .before .before .loop in let h = c .before .loop-test .taken in let n = a .n in let at = a .at in (table-step (l .i) h .1, omega (arith, power-length n (l .i) h, upto-length n (above (l .i + 1)), ap length (l .inv .0), length-sets (a .out .now) at (upto n (above (l .i)))))
 
 add-i : tie.Need-add-i Inv-loop μ-loop
 add-i c = omega arith
@@ -38,14 +40,20 @@ loop-less : tie.Need-loop-less Inv-loop μ-loop
 loop-less c = omega arith
 
 loop-again : tie.Need-loop-again Inv-loop μ-loop
-loop-again c = let l = c .before .before .before .before .before .loop in let h = c .before .before .before .before .loop-test .taken in let n = c .before .before .before .before .before .before .before .args .n in let at = c .before .before .before .before .before .before .before .args .at in (c .before .before .put-digit .ensures .1 ∙ ap (λ (o : List ℕ). sets o (l .p) (digitAt n (getD powers (l .i) 0))) (l .inv .0) ∙ power-stored n (l .i) h (c .before .before .before .before .before .before .before .args .out .now) at (l .p) (l .inv .1), omega (arith, power-length n (l .i) h, c .before .before .put-digit .ensures .0), omega arith, l .inv .3, l .inv .4)
+loop-again c =
+    let a = c .before .before .before .before .before .before .before .args in
+    let l = c .before .before .before .before .before .loop in let h = c .before .before .before .before .loop-test .taken in let n = a .n in let at = a .at in (c .before .before .put-digit .ensures .1 ∙ ap (λ (o : List ℕ). sets o (l .p) (digitAt n (getD powers (l .i) 0))) (l .inv .0) ∙ power-stored n (l .i) h (a .out .now) at (l .p) (l .inv .1), omega (arith, power-length n (l .i) h, c .before .before .put-digit .ensures .0), omega arith, l .inv .3, l .inv .4)
 
 same-length : tie.Need-same-length Inv-loop μ-loop
-same-length c = ap length (c .before .loop .inv .0) ∙ length-sets (c .before .before .before .args .out .now) (c .before .before .before .args .at) (upto (c .before .before .before .args .n) (above (c .before .loop .i)))
+same-length c =
+    let a = c .before .before .before .args in
+    ap length (c .before .loop .inv .0) ∙ length-sets (a .out .now) (a .at) (upto (a .n) (above (c .before .loop .i)))
 
 returns : tie.Need-returns Inv-loop μ-loop
 unfolding above
-returns c = let l = c .before .loop in let n = c .before .before .before .args .n in let at = c .before .before .before .args .at in let i9 : l .i ≡ 9 = omega arith in let e : upto n (above (l .i)) ≡ high n = ap (λ (i : ℕ). upto n (above i)) i9 ∙ upto-high n in (omega (arith, l .inv .1, ap length e, ap length (decimal-high n), length-append (high n) ((48 + n % 10) ∷ [])), l .inv .0 ∙ ap (sets (c .before .before .before .args .out .now) at) e)
+returns c =
+    let a = c .before .before .before .args in
+    let l = c .before .loop in let n = a .n in let at = a .at in let i9 : l .i ≡ 9 = omega arith in let e : upto n (above (l .i)) ≡ high n = ap (λ (i : ℕ). upto n (above i)) i9 ∙ upto-high n in (omega (arith, l .inv .1, ap length e, ap length (decimal-high n), length-append (high n) ((48 + n % 10) ∷ [])), l .inv .0 ∙ ap (sets (a .out .now) at) e)
 
 pub put-high-spec : {M : Type 1} → statement M
 put-high-spec =

@@ -39,10 +39,14 @@ add-n : tie.Need-add-n Inv-loop μ-loop
 add-n c = let i = c .before .before .before .before .before .before .before .before .before .loop .inv .0 in omega (arith, i .few, i .inside)
 
 loop-less : tie.Need-loop-less Inv-loop μ-loop
-loop-less c = let f = found-further _ _ (c .before .before .before .before .before .before .before .number-at .result) _ _ (c .before .before .before .before .before .before .before .number-at .ensures) (c .before .before .before .before .before .found .given .1) in omega (arith, f .0, f .1)
+loop-less c =
+    let number-at = c .before .before .before .before .before .before .before .number-at in
+    let f = found-further _ _ (number-at .result) _ _ (number-at .ensures) (c .before .before .before .before .before .found .given .1) in omega (arith, f .0, f .1)
 
 loop-again : tie.Need-loop-again Inv-loop μ-loop
-loop-again c = (rw (c .before .before .put-behind .ensures) (found-number _ _ _ _ _ _ (c .before .before .before .before .before .before .before .before .before .loop .inv .0) (c .before .before .before .before .before .before .before .number-at .result) _ _ (c .before .before .before .before .before .before .before .number-at .ensures) (c .before .before .before .before .before .found .given .1)), c .before .before .before .before .before .before .before .before .before .loop .inv .1)
+loop-again c =
+    let number-at = c .before .before .before .before .before .before .before .number-at in
+    (rw (c .before .before .put-behind .ensures) (found-number _ _ _ _ _ _ (c .before .before .before .before .before .before .before .before .before .loop .inv .0) (number-at .result) _ _ (number-at .ensures) (c .before .before .before .before .before .found .given .1)), c .before .before .before .before .before .before .before .before .before .loop .inv .1)
 
 same-length-2 : tie.Need-same-length-2 Inv-loop μ-loop
 same-length-2 c = scan-same _ _ _ _ _ _ (c .before .loop .inv .0)

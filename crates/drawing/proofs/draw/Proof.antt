@@ -53,9 +53,13 @@ loop-less c = let h = drew-inside _ _ _ _ _ _ (c .before .before .before .loop .
 
 loop-again : tie.Need-loop-again Inv-loop μ-loop
 unfolding residueOf
-loop-again c = ⊎-elim
-    (λ w. rw (w .2, w .3, w .1 .ensures) (drew-kept _ _ _ _ _ _ (c .before .before .before .loop .inv) (c .before .before .before .before .before .before .before .before .pre .1) (search needs) (c .before .before .before .before .before .before .before .before .pre .2) (kept-word (c .before .before .before .before .before .before .before .before .args .q) _ _ (c .before .before .before .before .before .limit .ensures) (w .0 .taken))))
-    (λ w. rw (w .1, w .2) (drew-thrown _ _ _ _ _ _ (c .before .before .before .loop .inv) (c .before .before .before .before .before .before .before .before .pre .1) (search needs) (thrown-word (c .before .before .before .before .before .before .before .before .args .q) _ _ (c .before .before .before .before .before .limit .ensures) (w .0 .left))))
+loop-again c =
+    let a = c .before .before .before .before .before .before .before .before .args in
+    let h = c .before .before .before .before .before .before .before .before .pre in
+    let limit = c .before .before .before .before .before .limit in
+    ⊎-elim
+    (λ w. rw (w .2, w .3, w .1 .ensures) (drew-kept _ _ _ _ _ _ (c .before .before .before .loop .inv) (h .1) (search needs) (h .2) (kept-word (a .q) _ _ (limit .ensures) (w .0 .taken))))
+    (λ w. rw (w .1, w .2) (drew-thrown _ _ _ _ _ _ (c .before .before .before .loop .inv) (h .1) (search needs) (thrown-word (a .q) _ _ (limit .ensures) (w .0 .left))))
     (c .if1 .came)
 
 same-length : tie.Need-same-length Inv-loop μ-loop

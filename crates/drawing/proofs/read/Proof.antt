@@ -42,9 +42,12 @@ loop-less : tie.Need-loop-less Inv-loop μ-loop
 loop-less c = search needs
 
 loop-again : tie.Need-loop-again Inv-loop μ-loop
-loop-again c = ⊎-elim
-    (λ w. rw (w .1) (passed-kept _ _ _ _ _ (c .before .before .before .before .loop .inv) (search needs) (search needs) (kept-word (c .before .before .before .before .before .before .before .args .q) _ _ (c .before .before .before .before .before .limit .ensures) (w .0 .taken))))
-    (λ w. rw (w .1) (passed-thrown _ _ _ _ _ (c .before .before .before .before .loop .inv) (search needs) (search needs) (thrown-word (c .before .before .before .before .before .before .before .args .q) _ _ (c .before .before .before .before .before .limit .ensures) (w .0 .left))))
+loop-again c =
+    let a = c .before .before .before .before .before .before .before .args in
+    let limit = c .before .before .before .before .before .limit in
+    ⊎-elim
+    (λ w. rw (w .1) (passed-kept _ _ _ _ _ (c .before .before .before .before .loop .inv) (search needs) (search needs) (kept-word (a .q) _ _ (limit .ensures) (w .0 .taken))))
+    (λ w. rw (w .1) (passed-thrown _ _ _ _ _ (c .before .before .before .before .loop .inv) (search needs) (search needs) (thrown-word (a .q) _ _ (limit .ensures) (w .0 .left))))
     (c .if2 .came)
 
 returns-2 : tie.Need-returns-2 Inv-loop μ-loop

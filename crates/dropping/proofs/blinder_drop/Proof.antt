@@ -32,16 +32,26 @@ same-length c = search needs
 
 returns : tie.Need-returns
 unfolding dropBlinder over
-returns c = rw (c .answer-of .ensures, c .before .enum-told2 .given .1) (sym (refused-leaves (c .before .before .before .before .before .before .before .before .args .s) (slotAt (c .before .before .before .before .before .before .before .before .args .pool .now) (c .before .before .before .before .before .before .before .before .args .size) (c .before .before .before .before .before .before .before .before .args .index)) (c .before .before .before .before .before .before .before .before .args .scratch .now) [] [] _ (dropped (closedBlinder (c .before .before .before .before .before .before .before .before .args .s)) (wordsSpent blinder (c .before .before .before .before .before .before .before .before .args .s .terms) (slotWords (slotAt (c .before .before .before .before .before .before .before .before .args .pool .now) (c .before .before .before .before .before .before .before .before .args .size) (c .before .before .before .before .before .before .before .before .args .index)))) (zeros (scratchSize (c .before .before .before .before .before .before .before .before .args .s .terms)))) (sym (c .before .before .before .check-blinder .ensures) ∙ ap checked (c .before .enum-told2 .given .1))))
+returns c =
+    let a = c .before .before .before .before .before .before .before .before .args in
+    let s = slotAt (a .pool .now) (a .size) (a .index) in
+    rw (c .answer-of .ensures, c .before .enum-told2 .given .1) (sym (refused-leaves (a .s) s (a .scratch .now) [] [] _ (dropped (closedBlinder (a .s)) (wordsSpent blinder (a .s .terms) (slotWords s)) (zeros (scratchSize (a .s .terms)))) (sym (c .before .before .before .check-blinder .ensures) ∙ ap checked (c .before .enum-told2 .given .1))))
 
 spend-at-requires : tie.Need-spend-at-requires
-spend-at-requires c κs = let f = blinder-known (c .before .before .before .before .before .before .before .before .args .s) (slotAt (c .before .before .before .before .before .before .before .before .args .pool .now) (c .before .before .before .before .before .before .before .before .args .size) (c .before .before .before .before .before .before .before .before .args .index)) (c .before .before .before .before .before .before .before .before .args .scratch .now) (sym (c .before .before .before .check-blinder .ensures) ∙ ap checked (c .before .enum-told .given .1)) in spendable blinder (c .before .before .before .before .before .before .before .before .args .s .due) (c .before .before .before .before .before .before .before .before .args .s .terms) (slotAt (c .before .before .before .before .before .before .before .before .args .pool .now) (c .before .before .before .before .before .before .before .before .args .size) (c .before .before .before .before .before .before .before .before .args .index)) (f .session-open)
+spend-at-requires c κs =
+    let a = c .before .before .before .before .before .before .before .before .args in
+    let s = slotAt (a .pool .now) (a .size) (a .index) in
+    let f = blinder-known (a .s) s (a .scratch .now) (sym (c .before .before .before .check-blinder .ensures) ∙ ap checked (c .before .enum-told .given .1)) in spendable blinder (a .s .due) (a .s .terms) s (f .session-open)
 
 scratch-size-requires : tie.Need-scratch-size-requires
-scratch-size-requires c κs = let f = blinder-known (c .before .before .before .before .before .before .before .before .before .before .before .args .s) (slotAt (c .before .before .before .before .before .before .before .before .before .before .before .args .pool .now) (c .before .before .before .before .before .before .before .before .before .before .before .args .size) (c .before .before .before .before .before .before .before .before .before .before .before .args .index)) (c .before .before .before .before .before .before .before .before .before .before .before .args .scratch .now) (sym (c .before .before .before .before .before .before .check-blinder .ensures) ∙ ap checked (c .before .before .before .before .enum-told .given .1)) in f .session-open .terms .sides
+scratch-size-requires c κs =
+    let a = c .before .before .before .before .before .before .before .before .before .before .before .args in
+    let f = blinder-known (a .s) (slotAt (a .pool .now) (a .size) (a .index)) (a .scratch .now) (sym (c .before .before .before .before .before .before .check-blinder .ensures) ∙ ap checked (c .before .before .before .before .enum-told .given .1)) in f .session-open .terms .sides
 
 write-zeros-requires : tie.Need-write-zeros-requires
-write-zeros-requires c κs = let f = blinder-known (c .before .before .before .before .before .before .before .before .before .before .before .before .before .args .s) (slotAt (c .before .before .before .before .before .before .before .before .before .before .before .before .before .args .pool .now) (c .before .before .before .before .before .before .before .before .before .before .before .before .before .args .size) (c .before .before .before .before .before .before .before .before .before .before .before .before .before .args .index)) (c .before .before .before .before .before .before .before .before .before .before .before .before .before .args .scratch .now) (sym (c .before .before .before .before .before .before .before .before .check-blinder .ensures) ∙ ap checked (c .before .before .before .before .before .before .enum-told .given .1)) in omega (arith, f .scratch-room, c .before .scratch-size .ensures)
+write-zeros-requires c κs =
+    let a = c .before .before .before .before .before .before .before .before .before .before .before .before .before .args in
+    let f = blinder-known (a .s) (slotAt (a .pool .now) (a .size) (a .index)) (a .scratch .now) (sym (c .before .before .before .before .before .before .before .before .check-blinder .ensures) ∙ ap checked (c .before .before .before .before .before .before .enum-told .given .1)) in omega (arith, f .scratch-room, c .before .scratch-size .ensures)
 
 closed-requires : tie.Need-closed-requires
 closed-requires c κs = search needs
@@ -54,7 +64,10 @@ same-length-3 c = search needs
 
 returns-2 : tie.Need-returns-2
 unfolding dropBlinder over
-returns-2 c = rw (c .closed .ensures) (drop-done (c .before .before .before .before .before .before .before .before .before .before .before .before .before .before .before .before .before .args .s) (closedBlinder (c .before .before .before .before .before .before .before .before .before .before .before .before .before .before .before .before .before .args .s)) (slotAt (c .before .before .before .before .before .before .before .before .before .before .before .before .before .before .before .before .before .args .pool .now) (c .before .before .before .before .before .before .before .before .before .before .before .before .before .before .before .before .before .args .size) (c .before .before .before .before .before .before .before .before .before .before .before .before .before .before .before .before .before .args .index)) (c .before .before .before .before .before .before .before .before .before .before .before .before .before .before .before .before .before .args .scratch .now) (wordsSpent blinder (c .before .before .before .before .before .before .before .before .before .before .before .before .before .before .before .before .before .args .s .terms) (slotWords (slotAt (c .before .before .before .before .before .before .before .before .before .before .before .before .before .before .before .before .before .args .pool .now) (c .before .before .before .before .before .before .before .before .before .before .before .before .before .before .before .before .before .args .size) (c .before .before .before .before .before .before .before .before .before .before .before .before .before .before .before .before .before .args .index)))) (zeros (scratchSize (c .before .before .before .before .before .before .before .before .before .before .before .before .before .before .before .before .before .args .s .terms))) _ (sym (c .before .before .before .before .before .before .before .before .before .before .before .before .check-blinder .ensures) ∙ ap checked (c .before .before .before .before .before .before .before .before .before .before .enum-told .given .1)) (c .before .before .before .before .before .before .before .before .spend-at .ensures) (c .before .before .before .write-zeros .ensures ∙ ap (λ (n : ℕ). over (zeros n) (c .before .before .before .before .before .before .before .before .before .before .before .before .before .before .before .before .before .args .scratch .now)) (c .before .before .before .before .before .scratch-size .ensures)))
+returns-2 c =
+    let a = c .before .before .before .before .before .before .before .before .before .before .before .before .before .before .before .before .before .args in
+    let s = slotAt (a .pool .now) (a .size) (a .index) in
+    rw (c .closed .ensures) (drop-done (a .s) (closedBlinder (a .s)) s (a .scratch .now) (wordsSpent blinder (a .s .terms) (slotWords s)) (zeros (scratchSize (a .s .terms))) _ (sym (c .before .before .before .before .before .before .before .before .before .before .before .before .check-blinder .ensures) ∙ ap checked (c .before .before .before .before .before .before .before .before .before .before .enum-told .given .1)) (c .before .before .before .before .before .before .before .before .spend-at .ensures) (c .before .before .before .write-zeros .ensures ∙ ap (λ (n : ℕ). over (zeros n) (a .scratch .now)) (c .before .before .before .before .before .scratch-size .ensures)))
 
 pub blinder-drop-spec : {M : Type 1} → statement M
 blinder-drop-spec =

@@ -29,17 +29,26 @@ same-length c = search needs
 
 returns : tie.Need-returns
 unfolding dropRight over
-returns c = rw (c .answer-of .ensures, c .before .enum-told2 .given .1) (sym (refused-leaves (c .before .before .before .before .before .before .before .args .s) (slotAt (c .before .before .before .before .before .before .before .args .pool .now) (c .before .before .before .before .before .before .before .args .size) (c .before .before .before .before .before .before .before .args .index)) [] [] [] _ (dropped (closedRight (c .before .before .before .before .before .before .before .args .s)) (wordsSpent right (c .before .before .before .before .before .before .before .args .s .terms) (slotWords (slotAt (c .before .before .before .before .before .before .before .args .pool .now) (c .before .before .before .before .before .before .before .args .size) (c .before .before .before .before .before .before .before .args .index)))) []) (sym (c .before .before .before .check-open .ensures) ∙ ap checked (c .before .enum-told2 .given .1))))
+returns c =
+    let a = c .before .before .before .before .before .before .before .args in
+    let s = slotAt (a .pool .now) (a .size) (a .index) in
+    rw (c .answer-of .ensures, c .before .enum-told2 .given .1) (sym (refused-leaves (a .s) s [] [] [] _ (dropped (closedRight (a .s)) (wordsSpent right (a .s .terms) (slotWords s)) []) (sym (c .before .before .before .check-open .ensures) ∙ ap checked (c .before .enum-told2 .given .1))))
 
 spend-at-requires : tie.Need-spend-at-requires
-spend-at-requires c κs = let f = open-known right (c .before .before .before .before .before .before .before .args .s .due) (c .before .before .before .before .before .before .before .args .s .terms) (slotAt (c .before .before .before .before .before .before .before .args .pool .now) (c .before .before .before .before .before .before .before .args .size) (c .before .before .before .before .before .before .before .args .index)) (sym (c .before .before .before .check-open .ensures) ∙ ap checked (c .before .enum-told .given .1)) in spendable right (c .before .before .before .before .before .before .before .args .s .due) (c .before .before .before .before .before .before .before .args .s .terms) (slotAt (c .before .before .before .before .before .before .before .args .pool .now) (c .before .before .before .before .before .before .before .args .size) (c .before .before .before .before .before .before .before .args .index)) f
+spend-at-requires c κs =
+    let a = c .before .before .before .before .before .before .before .args in
+    let s = slotAt (a .pool .now) (a .size) (a .index) in
+    let f = open-known right (a .s .due) (a .s .terms) s (sym (c .before .before .before .check-open .ensures) ∙ ap checked (c .before .enum-told .given .1)) in spendable right (a .s .due) (a .s .terms) s f
 
 same-length-2 : tie.Need-same-length-2
 same-length-2 c = search needs
 
 returns-2 : tie.Need-returns-2
 unfolding dropRight over
-returns-2 c = drop-done (c .before .before .before .before .before .before .before .before .before .before .args .s) (closedRight (c .before .before .before .before .before .before .before .before .before .before .args .s)) (slotAt (c .before .before .before .before .before .before .before .before .before .before .args .pool .now) (c .before .before .before .before .before .before .before .before .before .before .args .size) (c .before .before .before .before .before .before .before .before .before .before .args .index)) [] (wordsSpent right (c .before .before .before .before .before .before .before .before .before .before .args .s .terms) (slotWords (slotAt (c .before .before .before .before .before .before .before .before .before .before .args .pool .now) (c .before .before .before .before .before .before .before .before .before .before .args .size) (c .before .before .before .before .before .before .before .before .before .before .args .index)))) [] _ (sym (c .before .before .before .before .before .before .check-open .ensures) ∙ ap checked (c .before .before .before .before .enum-told .given .1)) (c .before .before .spend-at .ensures) refl
+returns-2 c =
+    let a = c .before .before .before .before .before .before .before .before .before .before .args in
+    let s = slotAt (a .pool .now) (a .size) (a .index) in
+    drop-done (a .s) (closedRight (a .s)) s [] (wordsSpent right (a .s .terms) (slotWords s)) [] _ (sym (c .before .before .before .before .before .before .check-open .ensures) ∙ ap checked (c .before .before .before .before .enum-told .given .1)) (c .before .before .spend-at .ensures) refl
 
 pub right-drop-spec : {M : Type 1} → statement M
 right-drop-spec =

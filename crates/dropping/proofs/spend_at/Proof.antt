@@ -27,13 +27,18 @@ part-spend-end : tie.Need-part-spend-end
 part-spend-end c = search needs
 
 spend-requires : tie.Need-spend-requires
-spend-requires c κs = (c .before .before .pre .0, simp (length-take, length-drop) (omega (arith, c .before .before .pre .1, c .before .before .pre .2)))
+spend-requires c κs =
+    let h = c .before .before .pre in
+    (h .0, simp (length-take, length-drop) (omega (arith, h .1, h .2)))
 
 same-length : tie.Need-same-length
 same-length c = search needs
 
 returns : tie.Need-returns
-returns c = slot-written (c .before .before .before .before .before .args .pool .now) _ (c .before .before .before .before .before .args .size) (c .before .before .before .before .before .args .index) (wordsSpent (role (c .before .before .before .before .before .args .end)) (c .before .before .before .before .before .args .t)) (c .before .before .before .before .before .pre .2) (λ ws e. spent-keeps (role (c .before .before .before .before .before .args .end)) (c .before .before .before .before .before .args .t) ws (omega (arith, c .before .before .before .before .before .pre .1, e)) ∙ e) (c .before .before .spend .ensures)
+returns c =
+    let a = c .before .before .before .before .before .args in
+    let h = c .before .before .before .before .before .pre in
+    slot-written (a .pool .now) _ (a .size) (a .index) (wordsSpent (role (a .end)) (a .t)) (h .2) (λ ws e. spent-keeps (role (a .end)) (a .t) ws (omega (arith, h .1, e)) ∙ e) (c .before .before .spend .ensures)
 
 pub spend-at-spec : {M : Type 1} → statement M
 spend-at-spec =

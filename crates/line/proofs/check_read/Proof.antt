@@ -22,10 +22,14 @@ enum-told-2 : tie.Need-enum-told-2
 enum-told-2 c = search needs
 
 returns : tie.Need-returns
-returns c = λ rs e k. head-stops (c .before .before .before .before .args .h) rs (c .before .before .before .before .args .count) (c .before .before .before .before .args .count) (c .before .before .before .before .args .room) (c .before .before .check-head .result) (c .before .before .check-head .ensures) e _ (c .enum-told2 .given .1)
+returns c =
+    let a = c .before .before .before .before .args in
+    λ rs e k. head-stops (a .h) rs (a .count) (a .count) (a .room) (c .before .before .check-head .result) (c .before .before .check-head .ensures) e _ (c .enum-told2 .given .1)
 
 add-end : tie.Need-add-end
-add-end c = omega (arith, head-few (c .before .before .before .before .before .args .h) (c .before .before .before .before .before .args .count) (sym (c .before .before .before .check-head .ensures) ∙ ap checked (c .before .enum-told .given .1)))
+add-end c =
+    let a = c .before .before .before .before .before .args in
+    omega (arith, head-few (a .h) (a .count) (sym (c .before .before .before .check-head .ensures) ∙ ap checked (c .before .enum-told .given .1)))
 
 sub-check-rest : tie.Need-sub-check-rest
 sub-check-rest c = search needs
@@ -34,13 +38,18 @@ part-check-rest-start : tie.Need-part-check-rest-start
 part-check-rest-start c = search needs
 
 part-check-rest-end : tie.Need-part-check-rest-end
-part-check-rest-end c = omega (arith, head-few (c .before .before .before .before .before .args .h) (c .before .before .before .before .before .args .count) (sym (c .before .before .before .check-head .ensures) ∙ ap checked (c .before .enum-told .given .1)), c .before .before .before .before .before .pre)
+part-check-rest-end c =
+    let a = c .before .before .before .before .before .args in
+    omega (arith, head-few (a .h) (a .count) (sym (c .before .before .before .check-head .ensures) ∙ ap checked (c .before .enum-told .given .1)), c .before .before .before .before .before .pre)
 
 check-rest-requires : tie.Need-check-rest-requires
 check-rest-requires c κs = search needs
 
 returns-2 : tie.Need-returns-2
-returns-2 c = λ rs e k. let few = head-few (c .before .before .before .before .before .before .before .args .h) (c .before .before .before .before .before .before .before .args .count) (sym (c .before .before .before .before .before .check-head .ensures) ∙ ap checked (c .before .before .before .enum-told .given .1)) in let n : c .before .before .before .before .before .before .before .args .count + 7 - 7 ≡ c .before .before .before .before .before .before .before .args .count = omega arith in c .check-rest .ensures ∙ ap (λ (l : List ℕ). verdict (restTests (c .before .before .before .before .before .before .before .args .h .terms .q) l (c .before .before .before .before .before .before .before .args .count) (c .before .before .before .before .before .before .before .args .room))) (ap (λ (m : ℕ). take m (drop 7 (c .before .before .before .before .before .before .before .args .words .now))) n ∙ k few) ∙ sym (head-goes-on (c .before .before .before .before .before .before .before .args .h) rs (c .before .before .before .before .before .before .before .args .count) (c .before .before .before .before .before .before .before .args .count) (c .before .before .before .before .before .before .before .args .room) (c .before .before .before .before .before .check-head .result) (c .before .before .before .before .before .check-head .ensures) e (c .before .before .before .enum-told .given .1))
+returns-2 c =
+    let a = c .before .before .before .before .before .before .before .args in
+    let check-head = c .before .before .before .before .before .check-head in
+    λ rs e k. let few = head-few (a .h) (a .count) (sym (check-head .ensures) ∙ ap checked (c .before .before .before .enum-told .given .1)) in let n : a .count + 7 - 7 ≡ a .count = omega arith in c .check-rest .ensures ∙ ap (λ (l : List ℕ). verdict (restTests (a .h .terms .q) l (a .count) (a .room))) (ap (λ (m : ℕ). take m (drop 7 (a .words .now))) n ∙ k few) ∙ sym (head-goes-on (a .h) rs (a .count) (a .count) (a .room) (check-head .result) (check-head .ensures) e (c .before .before .before .enum-told .given .1))
 
 pub check-read-spec : {M : Type 1} → statement M
 check-read-spec =

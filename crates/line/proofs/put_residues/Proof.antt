@@ -33,7 +33,9 @@ mul-out-2 : tie.Need-mul-out-2 Inv-loop μ-loop
 mul-out-2 c = search needs
 
 slice-write-out : tie.Need-slice-write-out Inv-loop μ-loop
-slice-write-out c = let i = c .before .before .loop .inv in omega (arith, ap length (i .0), copy-same (c .before .before .before .args .words .now) (c .before .before .before .args .out .now) (c .before .before .loop .j) (omega arith) (omega arith))
+slice-write-out c =
+    let a = c .before .before .before .args in
+    let i = c .before .before .loop .inv in omega (arith, ap length (i .0), copy-same (a .words .now) (a .out .now) (c .before .before .loop .j) (omega arith) (omega arith))
 
 add-j : tie.Need-add-j Inv-loop μ-loop
 add-j c = let i = c .before .before .loop .inv in omega arith
@@ -42,13 +44,19 @@ loop-less : tie.Need-loop-less Inv-loop μ-loop
 loop-less c = omega arith
 
 loop-again : tie.Need-loop-again Inv-loop μ-loop
-loop-again c = let l = c .before .before .loop in let w = c .before .before .before .args .words .now in let o = c .before .before .before .args .out .now in (ap (λ (z : List ℕ). set z (l .j) (getD w (l .j + 7) 0)) (l .inv .0) ∙ copy-turn w o (l .j) (omega arith) (omega arith), omega arith, l .inv .2, l .inv .3)
+loop-again c =
+    let a = c .before .before .before .args in
+    let l = c .before .before .loop in let w = a .words .now in let o = a .out .now in (ap (λ (z : List ℕ). set z (l .j) (getD w (l .j + 7) 0)) (l .inv .0) ∙ copy-turn w o (l .j) (omega arith) (omega arith), omega arith, l .inv .2, l .inv .3)
 
 same-length : tie.Need-same-length Inv-loop μ-loop
-same-length c = let l = c .before .loop in ap length (l .inv .0) ∙ copy-same (c .before .before .args .words .now) (c .before .before .args .out .now) (l .j) (omega arith) (omega arith)
+same-length c =
+    let a = c .before .before .args in
+    let l = c .before .loop in ap length (l .inv .0) ∙ copy-same (a .words .now) (a .out .now) (l .j) (omega arith) (omega arith)
 
 returns : tie.Need-returns Inv-loop μ-loop
-returns c = let l = c .before .loop in let e : l .j ≡ c .before .before .args .count = omega arith in l .inv .0 ∙ copy-done (c .before .before .args .words .now) (c .before .before .args .out .now) (l .j) (omega arith) ∙ ap (λ (n : ℕ). over (take n (drop 7 (c .before .before .args .words .now))) (c .before .before .args .out .now)) e
+returns c =
+    let a = c .before .before .args in
+    let l = c .before .loop in let e : l .j ≡ a .count = omega arith in l .inv .0 ∙ copy-done (a .words .now) (a .out .now) (l .j) (omega arith) ∙ ap (λ (n : ℕ). over (take n (drop 7 (a .words .now))) (a .out .now)) e
 
 pub put-residues-spec : {M : Type 1} → statement M
 put-residues-spec =

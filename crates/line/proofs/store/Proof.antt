@@ -12,7 +12,9 @@ use Rattle.line.proofs.store.Statement.{statement}
 use Rattle.line.proofs.store.Tie as tie
 
 put-residues-requires : tie.Need-put-residues-requires
-put-residues-requires c κs = (omega (arith, c .before .before .before .before .before .pre .0, c .before .if1 .taken), c .before .before .before .before .before .pre .1)
+put-residues-requires c κs =
+    let h = c .before .before .before .before .before .pre in
+    (omega (arith, h .0, c .before .if1 .taken), h .1)
 
 same-length : tie.Need-same-length
 same-length c = search needs

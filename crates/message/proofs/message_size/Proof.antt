@@ -55,8 +55,9 @@ side-size-requires-2 c κs = search needs
 returns-5 : tie.Need-returns-5
 unfolding sideSize
 returns-5 c =
+    let a = c .before .before .before .before .before .args in
     c .side-size2 .ensures
-    ∙ size-5 (c .before .before .before .before .before .args .t) (c .before .before .before .before .before .args .kind) (c .before .before .before .before .if1 .left) (c .before .before .before .if2 .left) (c .before .before .if3 .left) (c .before .if4 .left)
+    ∙ size-5 (a .t) (a .kind) (c .before .before .before .before .if1 .left) (c .before .before .before .if2 .left) (c .before .before .if3 .left) (c .before .if4 .left)
 
 pub message-size-spec : {M : Type 1} → statement M
 message-size-spec =

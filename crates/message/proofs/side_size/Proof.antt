@@ -10,7 +10,9 @@ use Rattle.message.proofs.side_size.Tie as tie
 
 returns : tie.Need-returns
 unfolding sideSize columns
-returns c = let z : c .before .before .args .t .p - c .before .before .args .t .m ≡ 0 = omega arith in rw z (omega arith)
+returns c =
+    let a = c .before .before .args in
+    let z : a .t .p - a .t .m ≡ 0 = omega arith in rw z (omega arith)
 
 times-requires : tie.Need-times-requires
 times-requires c κs = search needs

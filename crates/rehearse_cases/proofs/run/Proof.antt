@@ -45,7 +45,9 @@ array-share-prefix-out : tie.Need-array-share-prefix-out
 array-share-prefix-out c = printed-fits _ _ _ _ (c .before .before .before .rehearse .ensures .1 .1) (c .before .before .before .rehearse .ensures .0)
 
 slice-aggregate-write-all-2 : tie.Need-slice-aggregate-write-all-2
-slice-aggregate-write-all-2 c = sym (length-take-le _ _ (printed-fits _ _ _ _ (c .before .before .before .before .rehearse .ensures .1 .1) (c .before .before .before .before .rehearse .ensures .0)))
+slice-aggregate-write-all-2 c =
+    let rehearse = c .before .before .before .before .rehearse in
+    sym (length-take-le _ _ (printed-fits _ _ _ _ (rehearse .ensures .1 .1) (rehearse .ensures .0)))
 
 write-all-requires-3 : tie.Need-write-all-requires-3
 write-all-requires-3 c κs = search needs

@@ -13,7 +13,9 @@ use Rattle.steps.proofs.check_words.Statement.{statement}
 use Rattle.steps.proofs.check_words.Tie as tie
 
 check-tape-requires : tie.Need-check-tape-requires
-check-tape-requires c κs = omega (arith, c .before .before .before .pre .1, half-body (role (c .before .before .before .args .end)) (c .before .before .before .args .t))
+check-tape-requires c κs =
+    let a = c .before .before .before .args in
+    omega (arith, c .before .before .before .pre .1, half-body (role (a .end)) (a .t))
 
 check-same-requires : tie.Need-check-same-requires
 check-same-requires c κs = search needs

@@ -34,26 +34,32 @@ same-length-2 : tie.Need-same-length-2
 same-length-2 c = search needs
 
 returns : tie.Need-returns
-returns c = rw (c .answer-of .ensures, c .before .enum-told2 .given .1) (deal-refused (c .before .before .before .before .before .before .before .before .before .args .first .now) (c .before .before .before .before .before .before .before .before .before .args .second .now) (c .before .before .before .before .before .before .before .before .before .args .size) (c .before .before .before .before .before .before .before .before .before .args .index) (productRequest (c .before .before .before .before .before .before .before .before .before .args .tape) (c .before .before .before .before .before .before .before .before .before .args .q) (c .before .before .before .before .before .before .before .before .before .args .m) (c .before .before .before .before .before .before .before .before .before .args .k) (c .before .before .before .before .before .before .before .before .before .args .p) (c .before .before .before .before .before .before .before .before .before .args .words .now)) (sym (c .before .before .before .product .ensures) ∙ ap checked (c .before .enum-told2 .given .1)))
+returns c =
+    let a = c .before .before .before .before .before .before .before .before .before .args in
+    rw (c .answer-of .ensures, c .before .enum-told2 .given .1) (deal-refused (a .first .now) (a .second .now) (a .size) (a .index) (productRequest (a .tape) (a .q) (a .m) (a .k) (a .p) (a .words .now)) (sym (c .before .before .before .product .ensures) ∙ ap checked (c .before .enum-told2 .given .1)))
 
 mul-at : tie.Need-mul-at
 mul-at c =
-    let s = deal-fits (c .before .before .before .before .before .before .before .before .args .first .now) (c .before .before .before .before .before .before .before .before .args .second .now) (c .before .before .before .before .before .before .before .before .args .size) (c .before .before .before .before .before .before .before .before .args .index) (productRequest (c .before .before .before .before .before .before .before .before .args .tape) (c .before .before .before .before .before .before .before .before .args .q) (c .before .before .before .before .before .before .before .before .args .m) (c .before .before .before .before .before .before .before .before .args .k) (c .before .before .before .before .before .before .before .before .args .p) (c .before .before .before .before .before .before .before .before .args .words .now)) (sym (c .before .before .product .ensures) ∙ ap checked (c .enum-told .given .1)) in
+    let a = c .before .before .before .before .before .before .before .before .args in
+    let s = deal-fits (a .first .now) (a .second .now) (a .size) (a .index) (productRequest (a .tape) (a .q) (a .m) (a .k) (a .p) (a .words .now)) (sym (c .before .before .product .ensures) ∙ ap checked (c .enum-told .given .1)) in
     omega (arith, s .left .inside)
 
 mul-product : tie.Need-mul-product
 mul-product c =
-    let s = deal-fits (c .before .before .before .before .before .before .before .before .args .first .now) (c .before .before .before .before .before .before .before .before .args .second .now) (c .before .before .before .before .before .before .before .before .args .size) (c .before .before .before .before .before .before .before .before .args .index) (productRequest (c .before .before .before .before .before .before .before .before .args .tape) (c .before .before .before .before .before .before .before .before .args .q) (c .before .before .before .before .before .before .before .before .args .m) (c .before .before .before .before .before .before .before .before .args .k) (c .before .before .before .before .before .before .before .before .args .p) (c .before .before .before .before .before .before .before .before .args .words .now)) (sym (c .before .before .product .ensures) ∙ ap checked (c .enum-told .given .1)) in
+    let a = c .before .before .before .before .before .before .before .before .args in
+    let s = deal-fits (a .first .now) (a .second .now) (a .size) (a .index) (productRequest (a .tape) (a .q) (a .m) (a .k) (a .p) (a .words .now)) (sym (c .before .before .product .ensures) ∙ ap checked (c .enum-told .given .1)) in
     search needs
 
 sub-product : tie.Need-sub-product
 sub-product c =
-    let s = deal-fits (c .before .before .before .before .before .before .before .before .args .first .now) (c .before .before .before .before .before .before .before .before .args .second .now) (c .before .before .before .before .before .before .before .before .args .size) (c .before .before .before .before .before .before .before .before .args .index) (productRequest (c .before .before .before .before .before .before .before .before .args .tape) (c .before .before .before .before .before .before .before .before .args .q) (c .before .before .before .before .before .before .before .before .args .m) (c .before .before .before .before .before .before .before .before .args .k) (c .before .before .before .before .before .before .before .before .args .p) (c .before .before .before .before .before .before .before .before .args .words .now)) (sym (c .before .before .product .ensures) ∙ ap checked (c .enum-told .given .1)) in
+    let a = c .before .before .before .before .before .before .before .before .args in
+    let s = deal-fits (a .first .now) (a .second .now) (a .size) (a .index) (productRequest (a .tape) (a .q) (a .m) (a .k) (a .p) (a .words .now)) (sym (c .before .before .product .ensures) ∙ ap checked (c .enum-told .given .1)) in
     omega (arith, s .left .inside)
 
 part-product-start : tie.Need-part-product-start
 part-product-start c =
-    let s = deal-fits (c .before .before .before .before .before .before .before .before .args .first .now) (c .before .before .before .before .before .before .before .before .args .second .now) (c .before .before .before .before .before .before .before .before .args .size) (c .before .before .before .before .before .before .before .before .args .index) (productRequest (c .before .before .before .before .before .before .before .before .args .tape) (c .before .before .before .before .before .before .before .before .args .q) (c .before .before .before .before .before .before .before .before .args .m) (c .before .before .before .before .before .before .before .before .args .k) (c .before .before .before .before .before .before .before .before .args .p) (c .before .before .before .before .before .before .before .before .args .words .now)) (sym (c .before .before .product .ensures) ∙ ap checked (c .enum-told .given .1)) in
+    let a = c .before .before .before .before .before .before .before .before .args in
+    let s = deal-fits (a .first .now) (a .second .now) (a .size) (a .index) (productRequest (a .tape) (a .q) (a .m) (a .k) (a .p) (a .words .now)) (sym (c .before .before .product .ensures) ∙ ap checked (c .enum-told .given .1)) in
     search needs
 
 part-product-end : tie.Need-part-product-end
@@ -61,17 +67,20 @@ part-product-end c = search needs
 
 mul-product-2 : tie.Need-mul-product-2
 mul-product-2 c =
-    let s = deal-fits (c .before .before .before .before .before .before .before .before .before .args .first .now) (c .before .before .before .before .before .before .before .before .before .args .second .now) (c .before .before .before .before .before .before .before .before .before .args .size) (c .before .before .before .before .before .before .before .before .before .args .index) (productRequest (c .before .before .before .before .before .before .before .before .before .args .tape) (c .before .before .before .before .before .before .before .before .before .args .q) (c .before .before .before .before .before .before .before .before .before .args .m) (c .before .before .before .before .before .before .before .before .before .args .k) (c .before .before .before .before .before .before .before .before .before .args .p) (c .before .before .before .before .before .before .before .before .before .args .words .now)) (sym (c .before .before .before .product .ensures) ∙ ap checked (c .before .enum-told .given .1)) in
+    let a = c .before .before .before .before .before .before .before .before .before .args in
+    let s = deal-fits (a .first .now) (a .second .now) (a .size) (a .index) (productRequest (a .tape) (a .q) (a .m) (a .k) (a .p) (a .words .now)) (sym (c .before .before .before .product .ensures) ∙ ap checked (c .before .enum-told .given .1)) in
     search needs
 
 sub-product-2 : tie.Need-sub-product-2
 sub-product-2 c =
-    let s = deal-fits (c .before .before .before .before .before .before .before .before .before .args .first .now) (c .before .before .before .before .before .before .before .before .before .args .second .now) (c .before .before .before .before .before .before .before .before .before .args .size) (c .before .before .before .before .before .before .before .before .before .args .index) (productRequest (c .before .before .before .before .before .before .before .before .before .args .tape) (c .before .before .before .before .before .before .before .before .before .args .q) (c .before .before .before .before .before .before .before .before .before .args .m) (c .before .before .before .before .before .before .before .before .before .args .k) (c .before .before .before .before .before .before .before .before .before .args .p) (c .before .before .before .before .before .before .before .before .before .args .words .now)) (sym (c .before .before .before .product .ensures) ∙ ap checked (c .before .enum-told .given .1)) in
+    let a = c .before .before .before .before .before .before .before .before .before .args in
+    let s = deal-fits (a .first .now) (a .second .now) (a .size) (a .index) (productRequest (a .tape) (a .q) (a .m) (a .k) (a .p) (a .words .now)) (sym (c .before .before .before .product .ensures) ∙ ap checked (c .before .enum-told .given .1)) in
     omega (arith, s .right .inside)
 
 part-product-start-2 : tie.Need-part-product-start-2
 part-product-start-2 c =
-    let s = deal-fits (c .before .before .before .before .before .before .before .before .before .args .first .now) (c .before .before .before .before .before .before .before .before .before .args .second .now) (c .before .before .before .before .before .before .before .before .before .args .size) (c .before .before .before .before .before .before .before .before .before .args .index) (productRequest (c .before .before .before .before .before .before .before .before .before .args .tape) (c .before .before .before .before .before .before .before .before .before .args .q) (c .before .before .before .before .before .before .before .before .before .args .m) (c .before .before .before .before .before .before .before .before .before .args .k) (c .before .before .before .before .before .before .before .before .before .args .p) (c .before .before .before .before .before .before .before .before .before .args .words .now)) (sym (c .before .before .before .product .ensures) ∙ ap checked (c .before .enum-told .given .1)) in
+    let a = c .before .before .before .before .before .before .before .before .before .args in
+    let s = deal-fits (a .first .now) (a .second .now) (a .size) (a .index) (productRequest (a .tape) (a .q) (a .m) (a .k) (a .p) (a .words .now)) (sym (c .before .before .before .product .ensures) ∙ ap checked (c .before .enum-told .given .1)) in
     search needs
 
 part-product-end-2 : tie.Need-part-product-end-2
@@ -79,14 +88,16 @@ part-product-end-2 c = search needs
 
 product-requires-2 : tie.Need-product-requires-2
 product-requires-2 c κs =
-    let s = deal-fits (c .before .before .before .before .before .before .before .before .before .before .args .first .now) (c .before .before .before .before .before .before .before .before .before .before .args .second .now) (c .before .before .before .before .before .before .before .before .before .before .args .size) (c .before .before .before .before .before .before .before .before .before .before .args .index) (productRequest (c .before .before .before .before .before .before .before .before .before .before .args .tape) (c .before .before .before .before .before .before .before .before .before .before .args .q) (c .before .before .before .before .before .before .before .before .before .before .args .m) (c .before .before .before .before .before .before .before .before .before .before .args .k) (c .before .before .before .before .before .before .before .before .before .before .args .p) (c .before .before .before .before .before .before .before .before .before .before .args .words .now)) (sym (c .before .before .before .before .product .ensures) ∙ ap checked (c .before .before .enum-told .given .1)) in
+    let a = c .before .before .before .before .before .before .before .before .before .before .args in
+    let product = c .before .before .before .before .product in
+    let s = deal-fits (a .first .now) (a .second .now) (a .size) (a .index) (productRequest (a .tape) (a .q) (a .m) (a .k) (a .p) (a .words .now)) (sym (product .ensures) ∙ ap checked (c .before .before .enum-told .given .1)) in
     let g = shape-masks _ _ _ _ _ (s .shape) in
-    let n = deal-enough (c .before .before .before .before .before .before .before .before .before .before .args .first .now) (c .before .before .before .before .before .before .before .before .before .before .args .second .now) (c .before .before .before .before .before .before .before .before .before .before .args .size) (c .before .before .before .before .before .before .before .before .before .before .args .index) (productRequest (c .before .before .before .before .before .before .before .before .before .before .args .tape) (c .before .before .before .before .before .before .before .before .before .before .args .q) (c .before .before .before .before .before .before .before .before .before .before .args .m) (c .before .before .before .before .before .before .before .before .before .before .args .k) (c .before .before .before .before .before .before .before .before .before .before .args .p) (c .before .before .before .before .before .before .before .before .before .before .args .words .now)) (sym (c .before .before .before .before .product .ensures) ∙ ap checked (c .before .before .enum-told .given .1)) in
-    let count = product-count (c .before .before .before .before .before .before .before .before .before .before .args .tape) (c .before .before .before .before .before .before .before .before .before .before .args .q) (c .before .before .before .before .before .before .before .before .before .before .args .m) (c .before .before .before .before .before .before .before .before .before .before .args .k) (c .before .before .before .before .before .before .before .before .before .before .args .p) (c .before .before .before .before .before .before .before .before .before .before .args .words .now) in (
+    let n = deal-enough (a .first .now) (a .second .now) (a .size) (a .index) (productRequest (a .tape) (a .q) (a .m) (a .k) (a .p) (a .words .now)) (sym (product .ensures) ∙ ap checked (c .before .before .enum-told .given .1)) in
+    let count = product-count (a .tape) (a .q) (a .m) (a .k) (a .p) (a .words .now) in (
       g,
       omega (arith, n, count),
-      simp (length-take, length-drop) (omega (arith, s .left .inside, s .left .room, left-size (c .before .before .before .before .before .before .before .before .before .before .args .m) (c .before .before .before .before .before .before .before .before .before .before .args .k) (c .before .before .before .before .before .before .before .before .before .before .args .p))),
-      simp (length-take, length-drop) (omega (arith, s .right .inside, s .right .room, right-size (c .before .before .before .before .before .before .before .before .before .before .args .m) (c .before .before .before .before .before .before .before .before .before .before .args .k) (c .before .before .before .before .before .before .before .before .before .before .args .p))),
+      simp (length-take, length-drop) (omega (arith, s .left .inside, s .left .room, left-size (a .m) (a .k) (a .p))),
+      simp (length-take, length-drop) (omega (arith, s .right .inside, s .right .room, right-size (a .m) (a .k) (a .p))),
     )
 
 same-length-3 : tie.Need-same-length-3
@@ -97,14 +108,16 @@ same-length-4 c = search needs
 
 returns-2 : tie.Need-returns-2
 returns-2 c =
-    let s = deal-fits (c .before .before .before .before .before .before .before .before .before .before .before .before .before .before .before .args .first .now) (c .before .before .before .before .before .before .before .before .before .before .before .before .before .before .before .args .second .now) (c .before .before .before .before .before .before .before .before .before .before .before .before .before .before .before .args .size) (c .before .before .before .before .before .before .before .before .before .before .before .before .before .before .before .args .index) (productRequest (c .before .before .before .before .before .before .before .before .before .before .before .before .before .before .before .args .tape) (c .before .before .before .before .before .before .before .before .before .before .before .before .before .before .before .args .q) (c .before .before .before .before .before .before .before .before .before .before .before .before .before .before .before .args .m) (c .before .before .before .before .before .before .before .before .before .before .before .before .before .before .before .args .k) (c .before .before .before .before .before .before .before .before .before .before .before .before .before .before .before .args .p) (c .before .before .before .before .before .before .before .before .before .before .before .before .before .before .before .args .words .now)) (sym (c .before .before .before .before .before .before .before .before .before .product .ensures) ∙ ap checked (c .before .before .before .before .before .before .before .enum-told .given .1)) in
+    let enum-told = c .before .before .before .before .before .before .before .enum-told in
+    let product = c .before .before .before .before .before .before .before .before .before .product in
+    let s = deal-fits (c .before .before .before .before .before .before .before .before .before .before .before .before .before .before .before .args .first .now) (c .before .before .before .before .before .before .before .before .before .before .before .before .before .before .before .args .second .now) (c .before .before .before .before .before .before .before .before .before .before .before .before .before .before .before .args .size) (c .before .before .before .before .before .before .before .before .before .before .before .before .before .before .before .args .index) (productRequest (c .before .before .before .before .before .before .before .before .before .before .before .before .before .before .before .args .tape) (c .before .before .before .before .before .before .before .before .before .before .before .before .before .before .before .args .q) (c .before .before .before .before .before .before .before .before .before .before .before .before .before .before .before .args .m) (c .before .before .before .before .before .before .before .before .before .before .before .before .before .before .before .args .k) (c .before .before .before .before .before .before .before .before .before .before .before .before .before .before .before .args .p) (c .before .before .before .before .before .before .before .before .before .before .before .before .before .before .before .args .words .now)) (sym (product .ensures) ∙ ap checked (enum-told .given .1)) in
     let g = shape-masks _ _ _ _ _ (s .shape) in
-    let n = deal-enough (c .before .before .before .before .before .before .before .before .before .before .before .before .before .before .before .args .first .now) (c .before .before .before .before .before .before .before .before .before .before .before .before .before .before .before .args .second .now) (c .before .before .before .before .before .before .before .before .before .before .before .before .before .before .before .args .size) (c .before .before .before .before .before .before .before .before .before .before .before .before .before .before .before .args .index) (productRequest (c .before .before .before .before .before .before .before .before .before .before .before .before .before .before .before .args .tape) (c .before .before .before .before .before .before .before .before .before .before .before .before .before .before .before .args .q) (c .before .before .before .before .before .before .before .before .before .before .before .before .before .before .before .args .m) (c .before .before .before .before .before .before .before .before .before .before .before .before .before .before .before .args .k) (c .before .before .before .before .before .before .before .before .before .before .before .before .before .before .before .args .p) (c .before .before .before .before .before .before .before .before .before .before .before .before .before .before .before .args .words .now)) (sym (c .before .before .before .before .before .before .before .before .before .product .ensures) ∙ ap checked (c .before .before .before .before .before .before .before .enum-told .given .1)) in
+    let n = deal-enough (c .before .before .before .before .before .before .before .before .before .before .before .before .before .before .before .args .first .now) (c .before .before .before .before .before .before .before .before .before .before .before .before .before .before .before .args .second .now) (c .before .before .before .before .before .before .before .before .before .before .before .before .before .before .before .args .size) (c .before .before .before .before .before .before .before .before .before .before .before .before .before .before .before .args .index) (productRequest (c .before .before .before .before .before .before .before .before .before .before .before .before .before .before .before .args .tape) (c .before .before .before .before .before .before .before .before .before .before .before .before .before .before .before .args .q) (c .before .before .before .before .before .before .before .before .before .before .before .before .before .before .before .args .m) (c .before .before .before .before .before .before .before .before .before .before .before .before .before .before .before .args .k) (c .before .before .before .before .before .before .before .before .before .before .before .before .before .before .before .args .p) (c .before .before .before .before .before .before .before .before .before .before .before .before .before .before .before .args .words .now)) (sym (product .ensures) ∙ ap checked (enum-told .given .1)) in
     let count = product-count (c .before .before .before .before .before .before .before .before .before .before .before .before .before .before .before .args .tape) (c .before .before .before .before .before .before .before .before .before .before .before .before .before .before .before .args .q) (c .before .before .before .before .before .before .before .before .before .before .before .before .before .before .before .args .m) (c .before .before .before .before .before .before .before .before .before .before .before .before .before .before .before .args .k) (c .before .before .before .before .before .before .before .before .before .before .before .before .before .before .before .args .p) (c .before .before .before .before .before .before .before .before .before .before .before .before .before .before .before .args .words .now) in
     let a = c .before .before .before .before .before .before .before .before .before .before .before .before .before .before .before .args in
     let enough : a .m * a .k + (a .k * a .p + a .m * a .p) ≤ length (residuesOf (a .q) (a .words .now)) = omega (arith, n, count) in
     let e = c .before .before .before .before .product2 .ensures in
-    deal-done (c .before .before .before .before .before .before .before .before .before .before .before .before .before .before .before .args .first .now) (c .before .before .before .before .before .before .before .before .before .before .before .before .before .before .before .args .second .now) (c .before .before .before .before .before .before .before .before .before .before .before .before .before .before .before .args .size) (c .before .before .before .before .before .before .before .before .before .before .before .before .before .before .before .args .index) (productRequest (c .before .before .before .before .before .before .before .before .before .before .before .before .before .before .before .args .tape) (c .before .before .before .before .before .before .before .before .before .before .before .before .before .before .before .args .q) (c .before .before .before .before .before .before .before .before .before .before .before .before .before .before .before .args .m) (c .before .before .before .before .before .before .before .before .before .before .before .before .before .before .before .args .k) (c .before .before .before .before .before .before .before .before .before .before .before .before .before .before .before .args .p) (c .before .before .before .before .before .before .before .before .before .before .before .before .before .before .before .args .words .now)) (sym (c .before .before .before .before .before .before .before .before .before .product .ensures) ∙ ap checked (c .before .before .before .before .before .before .before .enum-told .given .1)) (s .left .inside) (s .right .inside)
+    deal-done (c .before .before .before .before .before .before .before .before .before .before .before .before .before .before .before .args .first .now) (c .before .before .before .before .before .before .before .before .before .before .before .before .before .before .before .args .second .now) (c .before .before .before .before .before .before .before .before .before .before .before .before .before .before .before .args .size) (c .before .before .before .before .before .before .before .before .before .before .before .before .before .before .before .args .index) (productRequest (c .before .before .before .before .before .before .before .before .before .before .before .before .before .before .before .args .tape) (c .before .before .before .before .before .before .before .before .before .before .before .before .before .before .before .args .q) (c .before .before .before .before .before .before .before .before .before .before .before .before .before .before .before .args .m) (c .before .before .before .before .before .before .before .before .before .before .before .before .before .before .before .args .k) (c .before .before .before .before .before .before .before .before .before .before .before .before .before .before .before .args .p) (c .before .before .before .before .before .before .before .before .before .before .before .before .before .before .before .args .words .now)) (sym (product .ensures) ∙ ap checked (enum-told .given .1)) (s .left .inside) (s .right .inside)
     (omega (arith, s .left .room, left-size (c .before .before .before .before .before .before .before .before .before .before .before .before .before .before .before .args .m) (c .before .before .before .before .before .before .before .before .before .before .before .before .before .before .before .args .k) (c .before .before .before .before .before .before .before .before .before .before .before .before .before .before .before .args .p), ap length (product-first (c .before .before .before .before .before .before .before .before .before .before .before .before .before .before .before .args .tape) (c .before .before .before .before .before .before .before .before .before .before .before .before .before .before .before .args .q) (c .before .before .before .before .before .before .before .before .before .before .before .before .before .before .before .args .m) (c .before .before .before .before .before .before .before .before .before .before .before .before .before .before .before .args .k) (c .before .before .before .before .before .before .before .before .before .before .before .before .before .before .before .args .p) (c .before .before .before .before .before .before .before .before .before .before .before .before .before .before .before .args .words .now)), first-count (c .before .before .before .before .before .before .before .before .before .before .before .before .before .before .before .args .tape .0) 0 (c .before .before .before .before .before .before .before .before .before .before .before .before .before .before .before .args .q) (c .before .before .before .before .before .before .before .before .before .before .before .before .before .before .before .args .m) (c .before .before .before .before .before .before .before .before .before .before .before .before .before .before .before .args .k) (c .before .before .before .before .before .before .before .before .before .before .before .before .before .before .before .args .p) (c .before .before .before .before .before .before .before .before .before .before .before .before .before .before .before .args .words .now) enough))
     (omega (arith, s .right .room, right-size (c .before .before .before .before .before .before .before .before .before .before .before .before .before .before .before .args .m) (c .before .before .before .before .before .before .before .before .before .before .before .before .before .before .before .args .k) (c .before .before .before .before .before .before .before .before .before .before .before .before .before .before .before .args .p), ap length (product-second (c .before .before .before .before .before .before .before .before .before .before .before .before .before .before .before .args .tape) (c .before .before .before .before .before .before .before .before .before .before .before .before .before .before .before .args .q) (c .before .before .before .before .before .before .before .before .before .before .before .before .before .before .before .args .m) (c .before .before .before .before .before .before .before .before .before .before .before .before .before .before .before .args .k) (c .before .before .before .before .before .before .before .before .before .before .before .before .before .before .before .args .p) (c .before .before .before .before .before .before .before .before .before .before .before .before .before .before .before .args .words .now)), second-count (c .before .before .before .before .before .before .before .before .before .before .before .before .before .before .before .args .tape .0) 0 (c .before .before .before .before .before .before .before .before .before .before .before .before .before .before .before .args .q) (c .before .before .before .before .before .before .before .before .before .before .before .before .before .before .before .args .m) (c .before .before .before .before .before .before .before .before .before .before .before .before .before .before .before .args .k) (c .before .before .before .before .before .before .before .before .before .before .before .before .before .before .before .args .p) (c .before .before .before .before .before .before .before .before .before .before .before .before .before .before .before .args .words .now) enough))
     (e .0 ∙ ap (λ (i : ℕ). wordsRead (c .before .before .before .before .before .before .before .before .before .before .before .before .before .before .before .args .q) i (c .before .before .before .before .before .before .before .before .before .before .before .before .before .before .before .args .words .now)) count)

@@ -33,26 +33,32 @@ same-length-2 : tie.Need-same-length-2
 same-length-2 c = search needs
 
 returns : tie.Need-returns
-returns c = rw (c .answer-of .ensures, c .before .enum-told2 .given .1) (deal-refused (c .before .before .before .before .before .before .before .before .before .args .first .now) (c .before .before .before .before .before .before .before .before .before .args .second .now) (c .before .before .before .before .before .before .before .before .before .args .size) (c .before .before .before .before .before .before .before .before .before .args .index) (systemRequest (c .before .before .before .before .before .before .before .before .before .args .tape) (c .before .before .before .before .before .before .before .before .before .args .q) (c .before .before .before .before .before .before .before .before .before .args .n) (c .before .before .before .before .before .before .before .before .before .args .words .now)) (sym (c .before .before .before .system .ensures) ∙ ap checked (c .before .enum-told2 .given .1)))
+returns c =
+    let a = c .before .before .before .before .before .before .before .before .before .args in
+    rw (c .answer-of .ensures, c .before .enum-told2 .given .1) (deal-refused (a .first .now) (a .second .now) (a .size) (a .index) (systemRequest (a .tape) (a .q) (a .n) (a .words .now)) (sym (c .before .before .before .system .ensures) ∙ ap checked (c .before .enum-told2 .given .1)))
 
 mul-at : tie.Need-mul-at
 mul-at c =
-    let s = deal-fits (c .before .before .before .before .before .before .before .before .args .first .now) (c .before .before .before .before .before .before .before .before .args .second .now) (c .before .before .before .before .before .before .before .before .args .size) (c .before .before .before .before .before .before .before .before .args .index) (systemRequest (c .before .before .before .before .before .before .before .before .args .tape) (c .before .before .before .before .before .before .before .before .args .q) (c .before .before .before .before .before .before .before .before .args .n) (c .before .before .before .before .before .before .before .before .args .words .now)) (sym (c .before .before .system .ensures) ∙ ap checked (c .enum-told .given .1)) in
+    let a = c .before .before .before .before .before .before .before .before .args in
+    let s = deal-fits (a .first .now) (a .second .now) (a .size) (a .index) (systemRequest (a .tape) (a .q) (a .n) (a .words .now)) (sym (c .before .before .system .ensures) ∙ ap checked (c .enum-told .given .1)) in
     omega (arith, s .left .inside)
 
 mul-system : tie.Need-mul-system
 mul-system c =
-    let s = deal-fits (c .before .before .before .before .before .before .before .before .args .first .now) (c .before .before .before .before .before .before .before .before .args .second .now) (c .before .before .before .before .before .before .before .before .args .size) (c .before .before .before .before .before .before .before .before .args .index) (systemRequest (c .before .before .before .before .before .before .before .before .args .tape) (c .before .before .before .before .before .before .before .before .args .q) (c .before .before .before .before .before .before .before .before .args .n) (c .before .before .before .before .before .before .before .before .args .words .now)) (sym (c .before .before .system .ensures) ∙ ap checked (c .enum-told .given .1)) in
+    let a = c .before .before .before .before .before .before .before .before .args in
+    let s = deal-fits (a .first .now) (a .second .now) (a .size) (a .index) (systemRequest (a .tape) (a .q) (a .n) (a .words .now)) (sym (c .before .before .system .ensures) ∙ ap checked (c .enum-told .given .1)) in
     search needs
 
 sub-system : tie.Need-sub-system
 sub-system c =
-    let s = deal-fits (c .before .before .before .before .before .before .before .before .args .first .now) (c .before .before .before .before .before .before .before .before .args .second .now) (c .before .before .before .before .before .before .before .before .args .size) (c .before .before .before .before .before .before .before .before .args .index) (systemRequest (c .before .before .before .before .before .before .before .before .args .tape) (c .before .before .before .before .before .before .before .before .args .q) (c .before .before .before .before .before .before .before .before .args .n) (c .before .before .before .before .before .before .before .before .args .words .now)) (sym (c .before .before .system .ensures) ∙ ap checked (c .enum-told .given .1)) in
+    let a = c .before .before .before .before .before .before .before .before .args in
+    let s = deal-fits (a .first .now) (a .second .now) (a .size) (a .index) (systemRequest (a .tape) (a .q) (a .n) (a .words .now)) (sym (c .before .before .system .ensures) ∙ ap checked (c .enum-told .given .1)) in
     omega (arith, s .left .inside)
 
 part-system-start : tie.Need-part-system-start
 part-system-start c =
-    let s = deal-fits (c .before .before .before .before .before .before .before .before .args .first .now) (c .before .before .before .before .before .before .before .before .args .second .now) (c .before .before .before .before .before .before .before .before .args .size) (c .before .before .before .before .before .before .before .before .args .index) (systemRequest (c .before .before .before .before .before .before .before .before .args .tape) (c .before .before .before .before .before .before .before .before .args .q) (c .before .before .before .before .before .before .before .before .args .n) (c .before .before .before .before .before .before .before .before .args .words .now)) (sym (c .before .before .system .ensures) ∙ ap checked (c .enum-told .given .1)) in
+    let a = c .before .before .before .before .before .before .before .before .args in
+    let s = deal-fits (a .first .now) (a .second .now) (a .size) (a .index) (systemRequest (a .tape) (a .q) (a .n) (a .words .now)) (sym (c .before .before .system .ensures) ∙ ap checked (c .enum-told .given .1)) in
     search needs
 
 part-system-end : tie.Need-part-system-end
@@ -60,17 +66,20 @@ part-system-end c = search needs
 
 mul-system-2 : tie.Need-mul-system-2
 mul-system-2 c =
-    let s = deal-fits (c .before .before .before .before .before .before .before .before .before .args .first .now) (c .before .before .before .before .before .before .before .before .before .args .second .now) (c .before .before .before .before .before .before .before .before .before .args .size) (c .before .before .before .before .before .before .before .before .before .args .index) (systemRequest (c .before .before .before .before .before .before .before .before .before .args .tape) (c .before .before .before .before .before .before .before .before .before .args .q) (c .before .before .before .before .before .before .before .before .before .args .n) (c .before .before .before .before .before .before .before .before .before .args .words .now)) (sym (c .before .before .before .system .ensures) ∙ ap checked (c .before .enum-told .given .1)) in
+    let a = c .before .before .before .before .before .before .before .before .before .args in
+    let s = deal-fits (a .first .now) (a .second .now) (a .size) (a .index) (systemRequest (a .tape) (a .q) (a .n) (a .words .now)) (sym (c .before .before .before .system .ensures) ∙ ap checked (c .before .enum-told .given .1)) in
     search needs
 
 sub-system-2 : tie.Need-sub-system-2
 sub-system-2 c =
-    let s = deal-fits (c .before .before .before .before .before .before .before .before .before .args .first .now) (c .before .before .before .before .before .before .before .before .before .args .second .now) (c .before .before .before .before .before .before .before .before .before .args .size) (c .before .before .before .before .before .before .before .before .before .args .index) (systemRequest (c .before .before .before .before .before .before .before .before .before .args .tape) (c .before .before .before .before .before .before .before .before .before .args .q) (c .before .before .before .before .before .before .before .before .before .args .n) (c .before .before .before .before .before .before .before .before .before .args .words .now)) (sym (c .before .before .before .system .ensures) ∙ ap checked (c .before .enum-told .given .1)) in
+    let a = c .before .before .before .before .before .before .before .before .before .args in
+    let s = deal-fits (a .first .now) (a .second .now) (a .size) (a .index) (systemRequest (a .tape) (a .q) (a .n) (a .words .now)) (sym (c .before .before .before .system .ensures) ∙ ap checked (c .before .enum-told .given .1)) in
     omega (arith, s .right .inside)
 
 part-system-start-2 : tie.Need-part-system-start-2
 part-system-start-2 c =
-    let s = deal-fits (c .before .before .before .before .before .before .before .before .before .args .first .now) (c .before .before .before .before .before .before .before .before .before .args .second .now) (c .before .before .before .before .before .before .before .before .before .args .size) (c .before .before .before .before .before .before .before .before .before .args .index) (systemRequest (c .before .before .before .before .before .before .before .before .before .args .tape) (c .before .before .before .before .before .before .before .before .before .args .q) (c .before .before .before .before .before .before .before .before .before .args .n) (c .before .before .before .before .before .before .before .before .before .args .words .now)) (sym (c .before .before .before .system .ensures) ∙ ap checked (c .before .enum-told .given .1)) in
+    let a = c .before .before .before .before .before .before .before .before .before .args in
+    let s = deal-fits (a .first .now) (a .second .now) (a .size) (a .index) (systemRequest (a .tape) (a .q) (a .n) (a .words .now)) (sym (c .before .before .before .system .ensures) ∙ ap checked (c .before .enum-told .given .1)) in
     search needs
 
 part-system-end-2 : tie.Need-part-system-end-2
@@ -78,14 +87,16 @@ part-system-end-2 c = search needs
 
 system-requires-2 : tie.Need-system-requires-2
 system-requires-2 c κs =
-    let s = deal-fits (c .before .before .before .before .before .before .before .before .before .before .args .first .now) (c .before .before .before .before .before .before .before .before .before .before .args .second .now) (c .before .before .before .before .before .before .before .before .before .before .args .size) (c .before .before .before .before .before .before .before .before .before .before .args .index) (systemRequest (c .before .before .before .before .before .before .before .before .before .before .args .tape) (c .before .before .before .before .before .before .before .before .before .before .args .q) (c .before .before .before .before .before .before .before .before .before .before .args .n) (c .before .before .before .before .before .before .before .before .before .before .args .words .now)) (sym (c .before .before .before .before .system .ensures) ∙ ap checked (c .before .before .enum-told .given .1)) in
+    let a = c .before .before .before .before .before .before .before .before .before .before .args in
+    let system = c .before .before .before .before .system in
+    let s = deal-fits (a .first .now) (a .second .now) (a .size) (a .index) (systemRequest (a .tape) (a .q) (a .n) (a .words .now)) (sym (system .ensures) ∙ ap checked (c .before .before .enum-told .given .1)) in
     let g = shape-mask _ _ _ (s .shape) in
-    let n = deal-enough (c .before .before .before .before .before .before .before .before .before .before .args .first .now) (c .before .before .before .before .before .before .before .before .before .before .args .second .now) (c .before .before .before .before .before .before .before .before .before .before .args .size) (c .before .before .before .before .before .before .before .before .before .before .args .index) (systemRequest (c .before .before .before .before .before .before .before .before .before .before .args .tape) (c .before .before .before .before .before .before .before .before .before .before .args .q) (c .before .before .before .before .before .before .before .before .before .before .args .n) (c .before .before .before .before .before .before .before .before .before .before .args .words .now)) (sym (c .before .before .before .before .system .ensures) ∙ ap checked (c .before .before .enum-told .given .1)) in
-    let count = system-count (c .before .before .before .before .before .before .before .before .before .before .args .tape) (c .before .before .before .before .before .before .before .before .before .before .args .q) (c .before .before .before .before .before .before .before .before .before .before .args .n) (c .before .before .before .before .before .before .before .before .before .before .args .words .now) in (
+    let n = deal-enough (a .first .now) (a .second .now) (a .size) (a .index) (systemRequest (a .tape) (a .q) (a .n) (a .words .now)) (sym (system .ensures) ∙ ap checked (c .before .before .enum-told .given .1)) in
+    let count = system-count (a .tape) (a .q) (a .n) (a .words .now) in (
       g,
       omega (arith, n, count),
-      simp (length-take, length-drop) (omega (arith, s .left .inside, s .left .room, blinder-count (c .before .before .before .before .before .before .before .before .before .before .args .n))),
-      simp (length-take, length-drop) (omega (arith, s .right .inside, s .right .room, solver-count (c .before .before .before .before .before .before .before .before .before .before .args .n))),
+      simp (length-take, length-drop) (omega (arith, s .left .inside, s .left .room, blinder-count (a .n))),
+      simp (length-take, length-drop) (omega (arith, s .right .inside, s .right .room, solver-count (a .n))),
     )
 
 same-length-3 : tie.Need-same-length-3
@@ -96,18 +107,21 @@ same-length-4 c = search needs
 
 returns-2 : tie.Need-returns-2
 returns-2 c =
-    let s = deal-fits (c .before .before .before .before .before .before .before .before .before .before .before .before .before .before .before .args .first .now) (c .before .before .before .before .before .before .before .before .before .before .before .before .before .before .before .args .second .now) (c .before .before .before .before .before .before .before .before .before .before .before .before .before .before .before .args .size) (c .before .before .before .before .before .before .before .before .before .before .before .before .before .before .before .args .index) (systemRequest (c .before .before .before .before .before .before .before .before .before .before .before .before .before .before .before .args .tape) (c .before .before .before .before .before .before .before .before .before .before .before .before .before .before .before .args .q) (c .before .before .before .before .before .before .before .before .before .before .before .before .before .before .before .args .n) (c .before .before .before .before .before .before .before .before .before .before .before .before .before .before .before .args .words .now)) (sym (c .before .before .before .before .before .before .before .before .before .system .ensures) ∙ ap checked (c .before .before .before .before .before .before .before .enum-told .given .1)) in
+    let a = c .before .before .before .before .before .before .before .before .before .before .before .before .before .before .before .args in
+    let enum-told = c .before .before .before .before .before .before .before .enum-told in
+    let system = c .before .before .before .before .before .before .before .before .before .system in
+    let s = deal-fits (a .first .now) (a .second .now) (a .size) (a .index) (systemRequest (a .tape) (a .q) (a .n) (a .words .now)) (sym (system .ensures) ∙ ap checked (enum-told .given .1)) in
     let g = shape-mask _ _ _ (s .shape) in
-    let n = deal-enough (c .before .before .before .before .before .before .before .before .before .before .before .before .before .before .before .args .first .now) (c .before .before .before .before .before .before .before .before .before .before .before .before .before .before .before .args .second .now) (c .before .before .before .before .before .before .before .before .before .before .before .before .before .before .before .args .size) (c .before .before .before .before .before .before .before .before .before .before .before .before .before .before .before .args .index) (systemRequest (c .before .before .before .before .before .before .before .before .before .before .before .before .before .before .before .args .tape) (c .before .before .before .before .before .before .before .before .before .before .before .before .before .before .before .args .q) (c .before .before .before .before .before .before .before .before .before .before .before .before .before .before .before .args .n) (c .before .before .before .before .before .before .before .before .before .before .before .before .before .before .before .args .words .now)) (sym (c .before .before .before .before .before .before .before .before .before .system .ensures) ∙ ap checked (c .before .before .before .before .before .before .before .enum-told .given .1)) in
-    let count = system-count (c .before .before .before .before .before .before .before .before .before .before .before .before .before .before .before .args .tape) (c .before .before .before .before .before .before .before .before .before .before .before .before .before .before .before .args .q) (c .before .before .before .before .before .before .before .before .before .before .before .before .before .before .before .args .n) (c .before .before .before .before .before .before .before .before .before .before .before .before .before .before .before .args .words .now) in
-    let enough : (c .before .before .before .before .before .before .before .before .before .before .before .before .before .before .before .args .n * c .before .before .before .before .before .before .before .before .before .before .before .before .before .before .before .args .n + (c .before .before .before .before .before .before .before .before .before .before .before .before .before .before .before .args .n * (c .before .before .before .before .before .before .before .before .before .before .before .before .before .before .before .args .n + 1) + c .before .before .before .before .before .before .before .before .before .before .before .before .before .before .before .args .n * (c .before .before .before .before .before .before .before .before .before .before .before .before .before .before .before .args .n + 1))) + (c .before .before .before .before .before .before .before .before .before .before .before .before .before .before .before .args .n * c .before .before .before .before .before .before .before .before .before .before .before .before .before .before .before .args .n + (c .before .before .before .before .before .before .before .before .before .before .before .before .before .before .before .args .n * c .before .before .before .before .before .before .before .before .before .before .before .before .before .before .before .args .n + c .before .before .before .before .before .before .before .before .before .before .before .before .before .before .before .args .n * c .before .before .before .before .before .before .before .before .before .before .before .before .before .before .before .args .n)) ≤ length (residuesOf (c .before .before .before .before .before .before .before .before .before .before .before .before .before .before .before .args .q) (c .before .before .before .before .before .before .before .before .before .before .before .before .before .before .before .args .words .now)) = omega (arith, n, count) in
+    let n = deal-enough (a .first .now) (a .second .now) (a .size) (a .index) (systemRequest (a .tape) (a .q) (a .n) (a .words .now)) (sym (system .ensures) ∙ ap checked (enum-told .given .1)) in
+    let count = system-count (a .tape) (a .q) (a .n) (a .words .now) in
+    let enough : (a .n * a .n + (a .n * (a .n + 1) + a .n * (a .n + 1))) + (a .n * a .n + (a .n * a .n + a .n * a .n)) ≤ length (residuesOf (a .q) (a .words .now)) = omega (arith, n, count) in
     let e = c .before .before .before .before .system2 .ensures in
-    deal-done (c .before .before .before .before .before .before .before .before .before .before .before .before .before .before .before .args .first .now) (c .before .before .before .before .before .before .before .before .before .before .before .before .before .before .before .args .second .now) (c .before .before .before .before .before .before .before .before .before .before .before .before .before .before .before .args .size) (c .before .before .before .before .before .before .before .before .before .before .before .before .before .before .before .args .index) (systemRequest (c .before .before .before .before .before .before .before .before .before .before .before .before .before .before .before .args .tape) (c .before .before .before .before .before .before .before .before .before .before .before .before .before .before .before .args .q) (c .before .before .before .before .before .before .before .before .before .before .before .before .before .before .before .args .n) (c .before .before .before .before .before .before .before .before .before .before .before .before .before .before .before .args .words .now)) (sym (c .before .before .before .before .before .before .before .before .before .system .ensures) ∙ ap checked (c .before .before .before .before .before .before .before .enum-told .given .1)) (s .left .inside) (s .right .inside)
-    (omega (arith, s .left .room, blinder-count (c .before .before .before .before .before .before .before .before .before .before .before .before .before .before .before .args .n), blinder-words (c .before .before .before .before .before .before .before .before .before .before .before .before .before .before .before .args .tape) (c .before .before .before .before .before .before .before .before .before .before .before .before .before .before .before .args .q) (c .before .before .before .before .before .before .before .before .before .before .before .before .before .before .before .args .n) (c .before .before .before .before .before .before .before .before .before .before .before .before .before .before .before .args .words .now) enough))
-    (omega (arith, s .right .room, solver-count (c .before .before .before .before .before .before .before .before .before .before .before .before .before .before .before .args .n), solver-words (c .before .before .before .before .before .before .before .before .before .before .before .before .before .before .before .args .tape) (c .before .before .before .before .before .before .before .before .before .before .before .before .before .before .before .args .q) (c .before .before .before .before .before .before .before .before .before .before .before .before .before .before .before .args .n) (c .before .before .before .before .before .before .before .before .before .before .before .before .before .before .before .args .words .now) enough))
-    (e .0 ∙ ap (λ (i : ℕ). wordsRead (c .before .before .before .before .before .before .before .before .before .before .before .before .before .before .before .args .q) i (c .before .before .before .before .before .before .before .before .before .before .before .before .before .before .before .args .words .now)) count)
-    (part-written (c .before .before .before .before .before .before .before .before .before .before .before .before .before .before .before .args .index * c .before .before .before .before .before .before .before .before .before .before .before .before .before .before .before .args .size) _ (c .before .before .before .before .before .before .before .before .before .before .before .before .before .before .before .args .first .now) _ (omega (arith, s .left .inside)) (e .1 .0))
-    (part-written (c .before .before .before .before .before .before .before .before .before .before .before .before .before .before .before .args .index * c .before .before .before .before .before .before .before .before .before .before .before .before .before .before .before .args .size) _ (c .before .before .before .before .before .before .before .before .before .before .before .before .before .before .before .args .second .now) _ (omega (arith, s .right .inside)) (e .1 .1))
+    deal-done (a .first .now) (a .second .now) (a .size) (a .index) (systemRequest (a .tape) (a .q) (a .n) (a .words .now)) (sym (system .ensures) ∙ ap checked (enum-told .given .1)) (s .left .inside) (s .right .inside)
+    (omega (arith, s .left .room, blinder-count (a .n), blinder-words (a .tape) (a .q) (a .n) (a .words .now) enough))
+    (omega (arith, s .right .room, solver-count (a .n), solver-words (a .tape) (a .q) (a .n) (a .words .now) enough))
+    (e .0 ∙ ap (λ (i : ℕ). wordsRead (a .q) i (a .words .now)) count)
+    (part-written (a .index * a .size) _ (a .first .now) _ (omega (arith, s .left .inside)) (e .1 .0))
+    (part-written (a .index * a .size) _ (a .second .now) _ (omega (arith, s .right .inside)) (e .1 .1))
 
 pub deal-system-spec : {M : Type 1} → statement M
 deal-system-spec =

@@ -24,10 +24,14 @@ check-words-requires : tie.Need-check-words-requires
 check-words-requires c κs = search needs
 
 array-share-prefix-mm : tie.Need-array-share-prefix-mm
-array-share-prefix-mm c = let l : length (c .before .before .before .before .before .before .before .before .before .before .args .s .mm) ≡ 256 = sym (length-map (c .before .before .before .before .before .before .before .before .before .before .args .s .mm) _) ∙ c .before .before .before .before .before .before .before .before .before .before .good .0 .1 .1 .1 .1 .0 .1 .0 .1 in omega (arith, l, c .before .before .before .times .ensures, square-bound (c .before .before .before .before .before .before .before .before .before .before .args .s .terms) (c .before .before .before .before .before .before .before .before .before .before .pre .0))
+array-share-prefix-mm c =
+    let a = c .before .before .before .before .before .before .before .before .before .before .args in
+    let l : length (a .s .mm) ≡ 256 = sym (length-map (a .s .mm) _) ∙ c .before .before .before .before .before .before .before .before .before .before .good .0 .1 .1 .1 .1 .0 .1 .0 .1 in omega (arith, l, c .before .before .before .times .ensures, square-bound (a .s .terms) (c .before .before .before .before .before .before .before .before .before .before .pre .0))
 
 slice-aggregate-all-below : tie.Need-slice-aggregate-all-below
-slice-aggregate-all-below c = let l : length (c .before .before .before .before .before .before .before .before .before .before .before .args .s .mm) ≡ 256 = sym (length-map (c .before .before .before .before .before .before .before .before .before .before .before .args .s .mm) _) ∙ c .before .before .before .before .before .before .before .before .before .before .before .good .0 .1 .1 .1 .1 .0 .1 .0 .1 in sym (length-take-le _ (c .before .before .before .before .before .before .before .before .before .before .before .args .s .mm) (omega (arith, l, c .before .before .before .before .times .ensures, square-bound (c .before .before .before .before .before .before .before .before .before .before .before .args .s .terms) (c .before .before .before .before .before .before .before .before .before .before .before .pre .0))))
+slice-aggregate-all-below c =
+    let a = c .before .before .before .before .before .before .before .before .before .before .before .args in
+    let l : length (a .s .mm) ≡ 256 = sym (length-map (a .s .mm) _) ∙ c .before .before .before .before .before .before .before .before .before .before .before .good .0 .1 .1 .1 .1 .0 .1 .0 .1 in sym (length-take-le _ (a .s .mm) (omega (arith, l, c .before .before .before .before .times .ensures, square-bound (a .s .terms) (c .before .before .before .before .before .before .before .before .before .before .before .pre .0))))
 
 all-below-requires : tie.Need-all-below-requires
 all-below-requires c κs = search needs
@@ -36,10 +40,14 @@ need-requires : tie.Need-need-requires
 need-requires c κs = search needs
 
 array-share-prefix-y : tie.Need-array-share-prefix-y
-array-share-prefix-y c = let l : length (c .before .before .before .before .before .before .before .before .before .before .before .before .before .args .s .y) ≡ 16 = sym (length-map (c .before .before .before .before .before .before .before .before .before .before .before .before .before .args .s .y) _) ∙ c .before .before .before .before .before .before .before .before .before .before .before .before .before .good .0 .1 .1 .1 .1 .1 .0 .1 .0 .1 in omega (arith, l, c .before .before .before .before .before .side-size .ensures, side-bound (c .before .before .before .before .before .before .before .before .before .before .before .before .before .args .s .terms) (c .before .before .before .before .before .before .before .before .before .before .before .before .before .pre .0))
+array-share-prefix-y c =
+    let a = c .before .before .before .before .before .before .before .before .before .before .before .before .before .args in
+    let l : length (a .s .y) ≡ 16 = sym (length-map (a .s .y) _) ∙ c .before .before .before .before .before .before .before .before .before .before .before .before .before .good .0 .1 .1 .1 .1 .1 .0 .1 .0 .1 in omega (arith, l, c .before .before .before .before .before .side-size .ensures, side-bound (a .s .terms) (c .before .before .before .before .before .before .before .before .before .before .before .before .before .pre .0))
 
 slice-aggregate-all-below-2 : tie.Need-slice-aggregate-all-below-2
-slice-aggregate-all-below-2 c = let l : length (c .before .before .before .before .before .before .before .before .before .before .before .before .before .before .args .s .y) ≡ 16 = sym (length-map (c .before .before .before .before .before .before .before .before .before .before .before .before .before .before .args .s .y) _) ∙ c .before .before .before .before .before .before .before .before .before .before .before .before .before .before .good .0 .1 .1 .1 .1 .1 .0 .1 .0 .1 in sym (length-take-le _ (c .before .before .before .before .before .before .before .before .before .before .before .before .before .before .args .s .y) (omega (arith, l, c .before .before .before .before .before .before .side-size .ensures, side-bound (c .before .before .before .before .before .before .before .before .before .before .before .before .before .before .args .s .terms) (c .before .before .before .before .before .before .before .before .before .before .before .before .before .before .pre .0))))
+slice-aggregate-all-below-2 c =
+    let a = c .before .before .before .before .before .before .before .before .before .before .before .before .before .before .args in
+    let l : length (a .s .y) ≡ 16 = sym (length-map (a .s .y) _) ∙ c .before .before .before .before .before .before .before .before .before .before .before .before .before .before .good .0 .1 .1 .1 .1 .1 .0 .1 .0 .1 in sym (length-take-le _ (a .s .y) (omega (arith, l, c .before .before .before .before .before .before .side-size .ensures, side-bound (a .s .terms) (c .before .before .before .before .before .before .before .before .before .before .before .before .before .before .pre .0))))
 
 all-below-requires-2 : tie.Need-all-below-requires-2
 all-below-requires-2 c κs = search needs

@@ -37,16 +37,28 @@ same-length-2 c = search needs
 
 returns : tie.Need-returns
 unfolding blinderLast
-returns c = rw (c .answer-of .ensures, c .before .enum-told2 .given .1, c .before .before .before .no-head .ensures) (sym (refused-leaves (c .before .before .before .before .before .before .before .before .before .before .before .before .args .s) (slotAt (c .before .before .before .before .before .before .before .before .before .before .before .before .args .pool .now) (c .before .before .before .before .before .before .before .before .before .before .before .before .args .size) (c .before .before .before .before .before .before .before .before .before .before .before .before .args .index)) (c .before .before .before .before .before .before .before .before .before .before .before .before .args .scratch .now) [] (c .before .before .before .before .before .before .before .before .before .before .before .before .args .out .now) _ (blinderLastEffect (c .before .before .before .before .before .before .before .before .before .before .before .before .args .s) (slotAt (c .before .before .before .before .before .before .before .before .before .before .before .before .args .pool .now) (c .before .before .before .before .before .before .before .before .before .before .before .before .args .size) (c .before .before .before .before .before .before .before .before .before .before .before .before .args .index)) (c .before .before .before .before .before .before .before .before .before .before .before .before .args .scratch .now) (record { head = c .before .before .before .before .before .before .before .before .before .before .before .before .args .a; residues = c .before .before .before .before .before .before .before .before .before .before .before .before .args .residues .now })) (sym ((c .before .before .before .before .check .ensures ∙ ap judged (last-tests (c .before .before .before .before .before .before .before .before .before .before .before .before .args .s) (slotAt (c .before .before .before .before .before .before .before .before .before .before .before .before .args .pool .now) (c .before .before .before .before .before .before .before .before .before .before .before .before .args .size) (c .before .before .before .before .before .before .before .before .before .before .before .before .args .index)) (c .before .before .before .before .before .before .before .before .before .before .before .before .args .scratch .now) (record { head = c .before .before .before .before .before .before .before .before .before .before .before .before .args .a; residues = c .before .before .before .before .before .before .before .before .before .before .before .before .args .residues .now }) (length (c .before .before .before .before .before .before .before .before .before .before .before .before .args .out .now))))) ∙ ap checked (c .before .enum-told2 .given .1))))
+returns c =
+    let a = c .before .before .before .before .before .before .before .before .before .before .before .before .args in
+    let s = slotAt (a .pool .now) (a .size) (a .index) in
+    rw (c .answer-of .ensures, c .before .enum-told2 .given .1, c .before .before .before .no-head .ensures) (sym (refused-leaves (a .s) s (a .scratch .now) [] (a .out .now) _ (blinderLastEffect (a .s) s (a .scratch .now) (record { head = a .a; residues = a .residues .now })) (sym ((c .before .before .before .before .check .ensures ∙ ap judged (last-tests (a .s) s (a .scratch .now) (record { head = a .a; residues = a .residues .now }) (length (a .out .now))))) ∙ ap checked (c .before .enum-told2 .given .1))))
 
 mul-at : tie.Need-mul-at
-mul-at c = let i = slot-room (slotAt (c .before .before .before .before .before .before .before .before .before .before .before .args .pool .now) (c .before .before .before .before .before .before .before .before .before .before .before .args .size) (c .before .before .before .before .before .before .before .before .before .before .before .args .index)) (last-known (c .before .before .before .before .before .before .before .before .before .before .before .args .s) (slotAt (c .before .before .before .before .before .before .before .before .before .before .before .args .pool .now) (c .before .before .before .before .before .before .before .before .before .before .before .args .size) (c .before .before .before .before .before .before .before .before .before .before .before .args .index)) (c .before .before .before .before .before .before .before .before .before .before .before .args .scratch .now) (record { head = c .before .before .before .before .before .before .before .before .before .before .before .args .a; residues = c .before .before .before .before .before .before .before .before .before .before .before .args .residues .now }) (length (c .before .before .before .before .before .before .before .before .before .before .before .args .out .now)) (sym ((c .before .before .before .check .ensures ∙ ap judged (last-tests (c .before .before .before .before .before .before .before .before .before .before .before .args .s) (slotAt (c .before .before .before .before .before .before .before .before .before .before .before .args .pool .now) (c .before .before .before .before .before .before .before .before .before .before .before .args .size) (c .before .before .before .before .before .before .before .before .before .before .before .args .index)) (c .before .before .before .before .before .before .before .before .before .before .before .args .scratch .now) (record { head = c .before .before .before .before .before .before .before .before .before .before .before .args .a; residues = c .before .before .before .before .before .before .before .before .before .before .before .args .residues .now }) (length (c .before .before .before .before .before .before .before .before .before .before .before .args .out .now))))) ∙ ap checked (c .enum-told .given .1)) .later .session-open .half .inside) in search needs
+mul-at c =
+    let a = c .before .before .before .before .before .before .before .before .before .before .before .args in
+    let s = slotAt (a .pool .now) (a .size) (a .index) in
+    let i = slot-room s (last-known (a .s) s (a .scratch .now) (record { head = a .a; residues = a .residues .now }) (length (a .out .now)) (sym ((c .before .before .before .check .ensures ∙ ap judged (last-tests (a .s) s (a .scratch .now) (record { head = a .a; residues = a .residues .now }) (length (a .out .now))))) ∙ ap checked (c .enum-told .given .1)) .later .session-open .half .inside) in search needs
 
 add-end : tie.Need-add-end
-add-end c = let i = slot-room (slotAt (c .before .before .before .before .before .before .before .before .before .before .before .args .pool .now) (c .before .before .before .before .before .before .before .before .before .before .before .args .size) (c .before .before .before .before .before .before .before .before .before .before .before .args .index)) (last-known (c .before .before .before .before .before .before .before .before .before .before .before .args .s) (slotAt (c .before .before .before .before .before .before .before .before .before .before .before .args .pool .now) (c .before .before .before .before .before .before .before .before .before .before .before .args .size) (c .before .before .before .before .before .before .before .before .before .before .before .args .index)) (c .before .before .before .before .before .before .before .before .before .before .before .args .scratch .now) (record { head = c .before .before .before .before .before .before .before .before .before .before .before .args .a; residues = c .before .before .before .before .before .before .before .before .before .before .before .args .residues .now }) (length (c .before .before .before .before .before .before .before .before .before .before .before .args .out .now)) (sym ((c .before .before .before .check .ensures ∙ ap judged (last-tests (c .before .before .before .before .before .before .before .before .before .before .before .args .s) (slotAt (c .before .before .before .before .before .before .before .before .before .before .before .args .pool .now) (c .before .before .before .before .before .before .before .before .before .before .before .args .size) (c .before .before .before .before .before .before .before .before .before .before .before .args .index)) (c .before .before .before .before .before .before .before .before .before .before .before .args .scratch .now) (record { head = c .before .before .before .before .before .before .before .before .before .before .before .args .a; residues = c .before .before .before .before .before .before .before .before .before .before .before .args .residues .now }) (length (c .before .before .before .before .before .before .before .before .before .before .before .args .out .now))))) ∙ ap checked (c .enum-told .given .1)) .later .session-open .half .inside) in search needs
+add-end c =
+    let a = c .before .before .before .before .before .before .before .before .before .before .before .args in
+    let s = slotAt (a .pool .now) (a .size) (a .index) in
+    let i = slot-room s (last-known (a .s) s (a .scratch .now) (record { head = a .a; residues = a .residues .now }) (length (a .out .now)) (sym ((c .before .before .before .check .ensures ∙ ap judged (last-tests (a .s) s (a .scratch .now) (record { head = a .a; residues = a .residues .now }) (length (a .out .now))))) ∙ ap checked (c .enum-told .given .1)) .later .session-open .half .inside) in search needs
 
 mul-write : tie.Need-mul-write
-mul-write c = let i = slot-room (slotAt (c .before .before .before .before .before .before .before .before .before .before .before .args .pool .now) (c .before .before .before .before .before .before .before .before .before .before .before .args .size) (c .before .before .before .before .before .before .before .before .before .before .before .args .index)) (last-known (c .before .before .before .before .before .before .before .before .before .before .before .args .s) (slotAt (c .before .before .before .before .before .before .before .before .before .before .before .args .pool .now) (c .before .before .before .before .before .before .before .before .before .before .before .args .size) (c .before .before .before .before .before .before .before .before .before .before .before .args .index)) (c .before .before .before .before .before .before .before .before .before .before .before .args .scratch .now) (record { head = c .before .before .before .before .before .before .before .before .before .before .before .args .a; residues = c .before .before .before .before .before .before .before .before .before .before .before .args .residues .now }) (length (c .before .before .before .before .before .before .before .before .before .before .before .args .out .now)) (sym ((c .before .before .before .check .ensures ∙ ap judged (last-tests (c .before .before .before .before .before .before .before .before .before .before .before .args .s) (slotAt (c .before .before .before .before .before .before .before .before .before .before .before .args .pool .now) (c .before .before .before .before .before .before .before .before .before .before .before .args .size) (c .before .before .before .before .before .before .before .before .before .before .before .args .index)) (c .before .before .before .before .before .before .before .before .before .before .before .args .scratch .now) (record { head = c .before .before .before .before .before .before .before .before .before .before .before .args .a; residues = c .before .before .before .before .before .before .before .before .before .before .before .args .residues .now }) (length (c .before .before .before .before .before .before .before .before .before .before .before .args .out .now))))) ∙ ap checked (c .enum-told .given .1)) .later .session-open .half .inside) in search needs
+mul-write c =
+    let a = c .before .before .before .before .before .before .before .before .before .before .before .args in
+    let s = slotAt (a .pool .now) (a .size) (a .index) in
+    let i = slot-room s (last-known (a .s) s (a .scratch .now) (record { head = a .a; residues = a .residues .now }) (length (a .out .now)) (sym ((c .before .before .before .check .ensures ∙ ap judged (last-tests (a .s) s (a .scratch .now) (record { head = a .a; residues = a .residues .now }) (length (a .out .now))))) ∙ ap checked (c .enum-told .given .1)) .later .session-open .half .inside) in search needs
 
 sub-write : tie.Need-sub-write
 sub-write c = search needs
@@ -55,12 +67,18 @@ part-write-start : tie.Need-part-write-start
 part-write-start c = search needs
 
 part-write-end : tie.Need-part-write-end
-part-write-end c = let i = slot-room (slotAt (c .before .before .before .before .before .before .before .before .before .before .before .args .pool .now) (c .before .before .before .before .before .before .before .before .before .before .before .args .size) (c .before .before .before .before .before .before .before .before .before .before .before .args .index)) (last-known (c .before .before .before .before .before .before .before .before .before .before .before .args .s) (slotAt (c .before .before .before .before .before .before .before .before .before .before .before .args .pool .now) (c .before .before .before .before .before .before .before .before .before .before .before .args .size) (c .before .before .before .before .before .before .before .before .before .before .before .args .index)) (c .before .before .before .before .before .before .before .before .before .before .before .args .scratch .now) (record { head = c .before .before .before .before .before .before .before .before .before .before .before .args .a; residues = c .before .before .before .before .before .before .before .before .before .before .before .args .residues .now }) (length (c .before .before .before .before .before .before .before .before .before .before .before .args .out .now)) (sym ((c .before .before .before .check .ensures ∙ ap judged (last-tests (c .before .before .before .before .before .before .before .before .before .before .before .args .s) (slotAt (c .before .before .before .before .before .before .before .before .before .before .before .args .pool .now) (c .before .before .before .before .before .before .before .before .before .before .before .args .size) (c .before .before .before .before .before .before .before .before .before .before .before .args .index)) (c .before .before .before .before .before .before .before .before .before .before .before .args .scratch .now) (record { head = c .before .before .before .before .before .before .before .before .before .before .before .args .a; residues = c .before .before .before .before .before .before .before .before .before .before .before .args .residues .now }) (length (c .before .before .before .before .before .before .before .before .before .before .before .args .out .now))))) ∙ ap checked (c .enum-told .given .1)) .later .session-open .half .inside) in search needs
+part-write-end c =
+    let a = c .before .before .before .before .before .before .before .before .before .before .before .args in
+    let s = slotAt (a .pool .now) (a .size) (a .index) in
+    let i = slot-room s (last-known (a .s) s (a .scratch .now) (record { head = a .a; residues = a .residues .now }) (length (a .out .now)) (sym ((c .before .before .before .check .ensures ∙ ap judged (last-tests (a .s) s (a .scratch .now) (record { head = a .a; residues = a .residues .now }) (length (a .out .now))))) ∙ ap checked (c .enum-told .given .1)) .later .session-open .half .inside) in search needs
 
 write-requires : tie.Need-write-requires
-write-requires c κs = let f = last-known (c .before .before .before .before .before .before .before .before .before .before .before .before .before .before .args .s) (slotAt (c .before .before .before .before .before .before .before .before .before .before .before .before .before .before .args .pool .now) (c .before .before .before .before .before .before .before .before .before .before .before .before .before .before .args .size) (c .before .before .before .before .before .before .before .before .before .before .before .before .before .before .args .index)) (c .before .before .before .before .before .before .before .before .before .before .before .before .before .before .args .scratch .now) (record { head = c .before .before .before .before .before .before .before .before .before .before .before .before .before .before .args .a; residues = c .before .before .before .before .before .before .before .before .before .before .before .before .before .before .args .residues .now }) (length (c .before .before .before .before .before .before .before .before .before .before .before .before .before .before .args .out .now)) (sym ((c .before .before .before .before .before .before .check .ensures ∙ ap judged (last-tests (c .before .before .before .before .before .before .before .before .before .before .before .before .before .before .args .s) (slotAt (c .before .before .before .before .before .before .before .before .before .before .before .before .before .before .args .pool .now) (c .before .before .before .before .before .before .before .before .before .before .before .before .before .before .args .size) (c .before .before .before .before .before .before .before .before .before .before .before .before .before .before .args .index)) (c .before .before .before .before .before .before .before .before .before .before .before .before .before .before .args .scratch .now) (record { head = c .before .before .before .before .before .before .before .before .before .before .before .before .before .before .args .a; residues = c .before .before .before .before .before .before .before .before .before .before .before .before .before .before .args .residues .now }) (length (c .before .before .before .before .before .before .before .before .before .before .before .before .before .before .args .out .now))))) ∙ ap checked (c .before .before .before .enum-told .given .1)) in
-    let i = slot-room (slotAt (c .before .before .before .before .before .before .before .before .before .before .before .before .before .before .args .pool .now) (c .before .before .before .before .before .before .before .before .before .before .before .before .before .before .args .size) (c .before .before .before .before .before .before .before .before .before .before .before .before .before .before .args .index)) (f .later .session-open .half .inside) in
-    last-shape (c .before .before .before .before .before .before .before .before .before .before .before .before .before .before .args .s) (slotAt (c .before .before .before .before .before .before .before .before .before .before .before .before .before .before .args .pool .now) (c .before .before .before .before .before .before .before .before .before .before .before .before .before .before .args .size) (c .before .before .before .before .before .before .before .before .before .before .before .before .before .before .args .index)) (c .before .before .before .before .before .before .before .before .before .before .before .before .before .before .args .scratch .now) (record { head = c .before .before .before .before .before .before .before .before .before .before .before .before .before .before .args .a; residues = c .before .before .before .before .before .before .before .before .before .before .before .before .before .before .args .residues .now }) (length (c .before .before .before .before .before .before .before .before .before .before .before .before .before .before .args .out .now)) _ (slot-part-length (c .before .before .before .before .before .before .before .before .before .before .before .before .before .before .args .pool .now) (c .before .before .before .before .before .before .before .before .before .before .before .before .before .before .args .size) (c .before .before .before .before .before .before .before .before .before .before .before .before .before .before .args .index) i) f
+write-requires c κs =
+    let a = c .before .before .before .before .before .before .before .before .before .before .before .before .before .before .args in
+    let s = slotAt (a .pool .now) (a .size) (a .index) in
+    let f = last-known (a .s) s (a .scratch .now) (record { head = a .a; residues = a .residues .now }) (length (a .out .now)) (sym ((c .before .before .before .before .before .before .check .ensures ∙ ap judged (last-tests (a .s) s (a .scratch .now) (record { head = a .a; residues = a .residues .now }) (length (a .out .now))))) ∙ ap checked (c .before .before .before .enum-told .given .1)) in
+    let i = slot-room s (f .later .session-open .half .inside) in
+    last-shape (a .s) s (a .scratch .now) (record { head = a .a; residues = a .residues .now }) (length (a .out .now)) _ (slot-part-length (a .pool .now) (a .size) (a .index) i) f
 
 closed-requires : tie.Need-closed-requires
 closed-requires c κs = search needs
@@ -75,14 +93,20 @@ same-length-5 : tie.Need-same-length-5
 same-length-5 c = search needs
 
 returns-2 : tie.Need-returns-2
-returns-2 c = let f = last-known (c .before .before .before .before .before .before .before .before .before .before .before .before .before .before .before .before .before .before .before .before .before .before .args .s) (slotAt (c .before .before .before .before .before .before .before .before .before .before .before .before .before .before .before .before .before .before .before .before .before .before .args .pool .now) (c .before .before .before .before .before .before .before .before .before .before .before .before .before .before .before .before .before .before .before .before .before .before .args .size) (c .before .before .before .before .before .before .before .before .before .before .before .before .before .before .before .before .before .before .before .before .before .before .args .index)) (c .before .before .before .before .before .before .before .before .before .before .before .before .before .before .before .before .before .before .before .before .before .before .args .scratch .now) (record { head = c .before .before .before .before .before .before .before .before .before .before .before .before .before .before .before .before .before .before .before .before .before .before .args .a; residues = c .before .before .before .before .before .before .before .before .before .before .before .before .before .before .before .before .before .before .before .before .before .before .args .residues .now }) (length (c .before .before .before .before .before .before .before .before .before .before .before .before .before .before .before .before .before .before .before .before .before .before .args .out .now)) (sym ((c .before .before .before .before .before .before .before .before .before .before .before .before .before .before .check .ensures ∙ ap judged (last-tests (c .before .before .before .before .before .before .before .before .before .before .before .before .before .before .before .before .before .before .before .before .before .before .args .s) (slotAt (c .before .before .before .before .before .before .before .before .before .before .before .before .before .before .before .before .before .before .before .before .before .before .args .pool .now) (c .before .before .before .before .before .before .before .before .before .before .before .before .before .before .before .before .before .before .before .before .before .before .args .size) (c .before .before .before .before .before .before .before .before .before .before .before .before .before .before .before .before .before .before .before .before .before .before .args .index)) (c .before .before .before .before .before .before .before .before .before .before .before .before .before .before .before .before .before .before .before .before .before .before .args .scratch .now) (record { head = c .before .before .before .before .before .before .before .before .before .before .before .before .before .before .before .before .before .before .before .before .before .before .args .a; residues = c .before .before .before .before .before .before .before .before .before .before .before .before .before .before .before .before .before .before .before .before .before .before .args .residues .now }) (length (c .before .before .before .before .before .before .before .before .before .before .before .before .before .before .before .before .before .before .before .before .before .before .args .out .now))))) ∙ ap checked (c .before .before .before .before .before .before .before .before .before .before .before .enum-told .given .1)) in
-    let i = slot-room (slotAt (c .before .before .before .before .before .before .before .before .before .before .before .before .before .before .before .before .before .before .before .before .before .before .args .pool .now) (c .before .before .before .before .before .before .before .before .before .before .before .before .before .before .before .before .before .before .before .before .before .before .args .size) (c .before .before .before .before .before .before .before .before .before .before .before .before .before .before .before .before .before .before .before .before .before .before .args .index)) (f .later .session-open .half .inside) in
-    last-done (c .before .before .before .before .before .before .before .before .before .before .before .before .before .before .before .before .before .before .before .before .before .before .args .s) (slotAt (c .before .before .before .before .before .before .before .before .before .before .before .before .before .before .before .before .before .before .before .before .before .before .args .pool .now) (c .before .before .before .before .before .before .before .before .before .before .before .before .before .before .before .before .before .before .before .before .before .before .args .size) (c .before .before .before .before .before .before .before .before .before .before .before .before .before .before .before .before .before .before .before .before .before .before .args .index)) (c .before .before .before .before .before .before .before .before .before .before .before .before .before .before .before .before .before .before .before .before .before .before .args .scratch .now) (record { head = c .before .before .before .before .before .before .before .before .before .before .before .before .before .before .before .before .before .before .before .before .before .before .args .a; residues = c .before .before .before .before .before .before .before .before .before .before .before .before .before .before .before .before .before .before .before .before .before .before .args .residues .now }) (c .before .before .before .before .before .before .before .before .before .before .before .before .before .before .before .before .before .before .before .before .before .before .args .out .now) (sym ((c .before .before .before .before .before .before .before .before .before .before .before .before .before .before .check .ensures ∙ ap judged (last-tests (c .before .before .before .before .before .before .before .before .before .before .before .before .before .before .before .before .before .before .before .before .before .before .args .s) (slotAt (c .before .before .before .before .before .before .before .before .before .before .before .before .before .before .before .before .before .before .before .before .before .before .args .pool .now) (c .before .before .before .before .before .before .before .before .before .before .before .before .before .before .before .before .before .before .before .before .before .before .args .size) (c .before .before .before .before .before .before .before .before .before .before .before .before .before .before .before .before .before .before .before .before .before .before .args .index)) (c .before .before .before .before .before .before .before .before .before .before .before .before .before .before .before .before .before .before .before .before .before .before .args .scratch .now) (record { head = c .before .before .before .before .before .before .before .before .before .before .before .before .before .before .before .before .before .before .before .before .before .before .args .a; residues = c .before .before .before .before .before .before .before .before .before .before .before .before .before .before .before .before .before .before .before .before .before .before .args .residues .now }) (length (c .before .before .before .before .before .before .before .before .before .before .before .before .before .before .before .before .before .before .before .before .before .before .args .out .now))))) ∙ ap checked (c .before .before .before .before .before .before .before .before .before .before .before .enum-told .given .1)) (f .later .session-open .terms .sides) (last-shape (c .before .before .before .before .before .before .before .before .before .before .before .before .before .before .before .before .before .before .before .before .before .before .args .s) (slotAt (c .before .before .before .before .before .before .before .before .before .before .before .before .before .before .before .before .before .before .before .before .before .before .args .pool .now) (c .before .before .before .before .before .before .before .before .before .before .before .before .before .before .before .before .before .before .before .before .before .before .args .size) (c .before .before .before .before .before .before .before .before .before .before .before .before .before .before .before .before .before .before .before .before .before .before .args .index)) (c .before .before .before .before .before .before .before .before .before .before .before .before .before .before .before .before .before .before .before .before .before .before .args .scratch .now) (record { head = c .before .before .before .before .before .before .before .before .before .before .before .before .before .before .before .before .before .before .before .before .before .before .args .a; residues = c .before .before .before .before .before .before .before .before .before .before .before .before .before .before .before .before .before .before .before .before .before .before .args .residues .now }) (length (c .before .before .before .before .before .before .before .before .before .before .before .before .before .before .before .before .before .before .before .before .before .before .args .out .now)) _ (slot-part-length (c .before .before .before .before .before .before .before .before .before .before .before .before .before .before .before .before .before .before .before .before .before .before .args .pool .now) (c .before .before .before .before .before .before .before .before .before .before .before .before .before .before .before .before .before .before .before .before .before .before .args .size) (c .before .before .before .before .before .before .before .before .before .before .before .before .before .before .before .before .before .before .before .before .before .before .args .index) i) f .full)
+returns-2 c =
+    let a = c .before .before .before .before .before .before .before .before .before .before .before .before .before .before .before .before .before .before .before .before .before .before .args in
+    let check = c .before .before .before .before .before .before .before .before .before .before .before .before .before .before .check in
+    let enum-told = c .before .before .before .before .before .before .before .before .before .before .before .enum-told in
+    let write = c .before .before .before .before .before .before .before .write in
+    let s = slotAt (a .pool .now) (a .size) (a .index) in
+    let f = last-known (a .s) s (a .scratch .now) (record { head = a .a; residues = a .residues .now }) (length (a .out .now)) (sym ((check .ensures ∙ ap judged (last-tests (a .s) s (a .scratch .now) (record { head = a .a; residues = a .residues .now }) (length (a .out .now))))) ∙ ap checked (enum-told .given .1)) in
+    let i = slot-room s (f .later .session-open .half .inside) in
+    last-done (a .s) s (a .scratch .now) (record { head = a .a; residues = a .residues .now }) (a .out .now) (sym ((check .ensures ∙ ap judged (last-tests (a .s) s (a .scratch .now) (record { head = a .a; residues = a .residues .now }) (length (a .out .now))))) ∙ ap checked (enum-told .given .1)) (f .later .session-open .terms .sides) (last-shape (a .s) s (a .scratch .now) (record { head = a .a; residues = a .residues .now }) (length (a .out .now)) _ (slot-part-length (a .pool .now) (a .size) (a .index) i) f .full)
     (c .closed .ensures)
     (c .before .before .before .before .before .before .before .before .before .before .before .before .before .no-head .ensures)
-    (slot-written (c .before .before .before .before .before .before .before .before .before .before .before .before .before .before .before .before .before .before .before .before .before .before .args .pool .now) _ (c .before .before .before .before .before .before .before .before .before .before .before .before .before .before .before .before .before .before .before .before .before .before .args .size) (c .before .before .before .before .before .before .before .before .before .before .before .before .before .before .before .before .before .before .before .before .before .before .args .index) (wordsSpent blinder (c .before .before .before .before .before .before .before .before .before .before .before .before .before .before .before .before .before .before .before .before .before .before .args .s .terms)) i (λ ws e. spent-keeps blinder (c .before .before .before .before .before .before .before .before .before .before .before .before .before .before .before .before .before .before .before .before .before .before .args .s .terms) ws (omega (arith, f .later .session-open .half .room, e)) ∙ e) (c .before .before .before .before .before .before .before .write .ensures .0))
-    (c .before .before .before .before .before .before .before .write .ensures .1 .0)
-    (rw (slot-part (c .before .before .before .before .before .before .before .before .before .before .before .before .before .before .before .before .before .before .before .before .before .before .args .pool .now) (c .before .before .before .before .before .before .before .before .before .before .before .before .before .before .before .before .before .before .before .before .before .before .args .size) (c .before .before .before .before .before .before .before .before .before .before .before .before .before .before .before .before .before .before .before .before .before .before .args .index)) at (c .before .before .before .before .before .before .before .write .ensures .1 .1))
+    (slot-written (a .pool .now) _ (a .size) (a .index) (wordsSpent blinder (a .s .terms)) i (λ ws e. spent-keeps blinder (a .s .terms) ws (omega (arith, f .later .session-open .half .room, e)) ∙ e) (write .ensures .0))
+    (write .ensures .1 .0)
+    (rw (slot-part (a .pool .now) (a .size) (a .index)) at (write .ensures .1 .1))
 
 pub blinder-last-spec : {M : Type 1} → statement M
 blinder-last-spec =

@@ -26,16 +26,28 @@ times-requires-2 : tie.Need-times-requires-2
 times-requires-2 c κs = search needs
 
 add-from : tie.Need-add-from
-add-from c = omega (arith, c .before .times .ensures, c .times2 .ensures, square-bound (c .before .before .before .before .before .before .before .before .args .t) (c .before .before .before .before .before .before .before .before .pre .sides), wide-bound (c .before .before .before .before .before .before .before .before .args .t) (c .before .before .before .before .before .before .before .before .pre .sides))
+add-from c =
+    let a = c .before .before .before .before .before .before .before .before .args in
+    let h = c .before .before .before .before .before .before .before .before .pre in
+    omega (arith, c .before .times .ensures, c .times2 .ensures, square-bound (a .t) (h .sides), wide-bound (a .t) (h .sides))
 
 add-from-2 : tie.Need-add-from-2
-add-from-2 c = omega (arith, c .before .times .ensures, c .times2 .ensures, square-bound (c .before .before .before .before .before .before .before .before .args .t) (c .before .before .before .before .before .before .before .before .pre .sides), wide-bound (c .before .before .before .before .before .before .before .before .args .t) (c .before .before .before .before .before .before .before .before .pre .sides))
+add-from-2 c =
+    let a = c .before .before .before .before .before .before .before .before .args in
+    let h = c .before .before .before .before .before .before .before .before .pre in
+    omega (arith, c .before .times .ensures, c .times2 .ensures, square-bound (a .t) (h .sides), wide-bound (a .t) (h .sides))
 
 add-to : tie.Need-add-to
-add-to c = omega (arith, c .before .times .ensures, c .times2 .ensures, square-bound (c .before .before .before .before .before .before .before .before .args .t) (c .before .before .before .before .before .before .before .before .pre .sides), wide-bound (c .before .before .before .before .before .before .before .before .args .t) (c .before .before .before .before .before .before .before .before .pre .sides))
+add-to c =
+    let a = c .before .before .before .before .before .before .before .before .args in
+    let h = c .before .before .before .before .before .before .before .before .pre in
+    omega (arith, c .before .times .ensures, c .times2 .ensures, square-bound (a .t) (h .sides), wide-bound (a .t) (h .sides))
 
 mul-write-product : tie.Need-mul-write-product
-mul-write-product c = let u = unknowns (c .before .before .before .before .before .before .before .before .args .t .m) (c .before .before .before .before .before .before .before .before .args .t .k) (c .before .before .before .before .before .before .before .before .args .t .p) (c .before .before .before .before .before .before .before .before .pre .sides) in let same : c .before .before .before .before .before .before .before .before .args .t .m * c .before .before .before .before .before .before .before .before .args .t .k ≡ c .before .before .before .before .before .before .before .before .args .t .m * c .before .before .before .before .before .before .before .before .args .t .m = ap (λ (k : ℕ). c .before .before .before .before .before .before .before .before .args .t .m * k) (u .square) in let b : 7 + (c .before .times .result + c .times2 .result) + c .before .times .result ≤ length (c .before .before .before .before .before .before .before .before .args .slot .now) = omega (arith, c .before .times .ensures, c .times2 .ensures, half-is (c .before .before .before .before .before .before .before .before .args .t), same, c .before .before .before .before .before .before .before .before .pre .half) in search needs
+mul-write-product c =
+    let a = c .before .before .before .before .before .before .before .before .args in
+    let h = c .before .before .before .before .before .before .before .before .pre in
+    let u = unknowns (a .t .m) (a .t .k) (a .t .p) (h .sides) in let same : a .t .m * a .t .k ≡ a .t .m * a .t .m = ap (λ (k : ℕ). a .t .m * k) (u .square) in let b : 7 + (c .before .times .result + c .times2 .result) + c .before .times .result ≤ length (a .slot .now) = omega (arith, c .before .times .ensures, c .times2 .ensures, half-is (a .t), same, h .half) in search needs
 
 sub-write-product : tie.Need-sub-write-product
 sub-write-product c = search needs
@@ -44,19 +56,26 @@ part-write-product-start : tie.Need-part-write-product-start
 part-write-product-start c = search needs
 
 part-write-product-end : tie.Need-part-write-product-end
-part-write-product-end c = let u = unknowns (c .before .before .before .before .before .before .before .before .before .args .t .m) (c .before .before .before .before .before .before .before .before .before .args .t .k) (c .before .before .before .before .before .before .before .before .before .args .t .p) (c .before .before .before .before .before .before .before .before .before .pre .sides) in let same : c .before .before .before .before .before .before .before .before .before .args .t .m * c .before .before .before .before .before .before .before .before .before .args .t .k ≡ c .before .before .before .before .before .before .before .before .before .args .t .m * c .before .before .before .before .before .before .before .before .before .args .t .m = ap (λ (k : ℕ). c .before .before .before .before .before .before .before .before .before .args .t .m * k) (u .square) in let b : 7 + (c .before .before .times .result + c .before .times2 .result) + c .before .before .times .result ≤ length (c .before .before .before .before .before .before .before .before .before .args .slot .now) = omega (arith, c .before .before .times .ensures, c .before .times2 .ensures, half-is (c .before .before .before .before .before .before .before .before .before .args .t), same, c .before .before .before .before .before .before .before .before .before .pre .half) in search needs
+part-write-product-end c =
+    let a = c .before .before .before .before .before .before .before .before .before .args in
+    let h = c .before .before .before .before .before .before .before .before .before .pre in
+    let u = unknowns (a .t .m) (a .t .k) (a .t .p) (h .sides) in let same : a .t .m * a .t .k ≡ a .t .m * a .t .m = ap (λ (k : ℕ). a .t .m * k) (u .square) in let b : 7 + (c .before .before .times .result + c .before .times2 .result) + c .before .before .times .result ≤ length (a .slot .now) = omega (arith, c .before .before .times .ensures, c .before .times2 .ensures, half-is (a .t), same, h .half) in search needs
 
 write-product-requires : tie.Need-write-product-requires
-write-product-requires c κs = let u = unknowns (c .before .before .before .before .before .before .before .before .before .before .before .args .t .m) (c .before .before .before .before .before .before .before .before .before .before .before .args .t .k) (c .before .before .before .before .before .before .before .before .before .before .before .args .t .p) (c .before .before .before .before .before .before .before .before .before .before .before .pre .sides) in let same : c .before .before .before .before .before .before .before .before .before .before .before .args .t .m * c .before .before .before .before .before .before .before .before .before .before .before .args .t .k ≡ c .before .before .before .before .before .before .before .before .before .before .before .args .t .m * c .before .before .before .before .before .before .before .before .before .before .before .args .t .m = ap (λ (k : ℕ). c .before .before .before .before .before .before .before .before .before .before .before .args .t .m * k) (u .square) in let b : 7 + (c .before .before .before .before .times .result + c .before .before .before .times2 .result) + c .before .before .before .before .times .result ≤ length (c .before .before .before .before .before .before .before .before .before .before .before .args .slot .now) = omega (arith, c .before .before .before .before .times .ensures, c .before .before .before .times2 .ensures, half-is (c .before .before .before .before .before .before .before .before .before .before .before .args .t), same, c .before .before .before .before .before .before .before .before .before .before .before .pre .half) in
+write-product-requires c κs =
+    let a = c .before .before .before .before .before .before .before .before .before .before .before .args in
+    let h = c .before .before .before .before .before .before .before .before .before .before .before .pre in
+    let times = c .before .before .before .before .times in
+    let u = unknowns (a .t .m) (a .t .k) (a .t .p) (h .sides) in let same : a .t .m * a .t .k ≡ a .t .m * a .t .m = ap (λ (k : ℕ). a .t .m * k) (u .square) in let b : 7 + (times .result + c .before .before .before .times2 .result) + times .result ≤ length (a .slot .now) = omega (arith, times .ensures, c .before .before .before .times2 .ensures, half-is (a .t), same, h .half) in
     record {
-      some-q = c .before .before .before .before .before .before .before .before .before .before .before .pre .some-q;
-      small-q = c .before .before .before .before .before .before .before .before .before .before .before .pre .small-q;
+      some-q = h .some-q;
+      small-q = h .small-q;
       some-p = omega (arith, u .wide);
       few-k = omega (arith, u .few);
-      few-y = omega (arith, side-is (c .before .before .before .before .before .before .before .before .before .before .before .args .t) (c .before .before .before .before .before .before .before .before .before .before .before .pre .sides), side-bound (c .before .before .before .before .before .before .before .before .before .before .before .args .t) (c .before .before .before .before .before .before .before .before .before .before .before .pre .sides));
-      full-x = simp (length-take, length-drop) (omega (arith, b, c .before .before .before .before .times .ensures));
-      full-y = omega (arith, side-is (c .before .before .before .before .before .before .before .before .before .before .before .args .t) (c .before .before .before .before .before .before .before .before .before .before .before .pre .sides), c .before .before .before .before .before .before .before .before .before .before .before .pre .full);
-      room = omega (arith, side-is (c .before .before .before .before .before .before .before .before .before .before .before .args .t) (c .before .before .before .before .before .before .before .before .before .before .before .pre .sides), c .before .before .before .before .before .before .before .before .before .before .before .pre .room);
+      few-y = omega (arith, side-is (a .t) (h .sides), side-bound (a .t) (h .sides));
+      full-x = simp (length-take, length-drop) (omega (arith, b, times .ensures));
+      full-y = omega (arith, side-is (a .t) (h .sides), h .full);
+      room = omega (arith, side-is (a .t) (h .sides), h .room);
     }
 
 spend-requires : tie.Need-spend-requires
@@ -79,7 +98,8 @@ same-length-3 c = search needs
 
 returns : tie.Need-returns
 returns c =
-    let cut : 7 + ((c .before .before .before .before .before .before .before .before .before .before .before .before .before .before .before .before .before .before .before .before .before .before .before .args .t .m * c .before .before .before .before .before .before .before .before .before .before .before .before .before .before .before .before .before .before .before .before .before .before .before .args .t .m) + (c .before .before .before .before .before .before .before .before .before .before .before .before .before .before .before .before .before .before .before .before .before .before .before .args .t .m * c .before .before .before .before .before .before .before .before .before .before .before .before .before .before .before .before .before .before .before .before .before .before .before .args .t .p)) + (c .before .before .before .before .before .before .before .before .before .before .before .before .before .before .before .before .before .before .before .before .before .before .before .args .t .m * c .before .before .before .before .before .before .before .before .before .before .before .before .before .before .before .before .before .before .before .before .before .before .before .args .t .m) - (7 + ((c .before .before .before .before .before .before .before .before .before .before .before .before .before .before .before .before .before .before .before .before .before .before .before .args .t .m * c .before .before .before .before .before .before .before .before .before .before .before .before .before .before .before .before .before .before .before .before .before .before .before .args .t .m) + (c .before .before .before .before .before .before .before .before .before .before .before .before .before .before .before .before .before .before .before .before .before .before .before .args .t .m * c .before .before .before .before .before .before .before .before .before .before .before .before .before .before .before .before .before .before .before .before .before .before .before .args .t .p))) ≡ (c .before .before .before .before .before .before .before .before .before .before .before .before .before .before .before .before .before .before .before .before .before .before .before .args .t .m * c .before .before .before .before .before .before .before .before .before .before .before .before .before .before .before .before .before .before .before .before .before .before .before .args .t .m) = omega arith in
+    let a = c .before .before .before .before .before .before .before .before .before .before .before .before .before .before .before .before .before .before .before .before .before .before .before .args in
+    let cut : 7 + ((a .t .m * a .t .m) + (a .t .m * a .t .p)) + (a .t .m * a .t .m) - (7 + ((a .t .m * a .t .m) + (a .t .m * a .t .p))) ≡ (a .t .m * a .t .m) = omega arith in
     (c .before .before .before .before .before .before .before .spend .ensures, (rw (c .before .before .before .before .scratch-size .ensures) at (c .before .before .write-zeros .ensures), rw (c .before .before .before .before .before .before .before .before .before .before .before .before .before .before .before .before .times .ensures, c .before .before .before .before .before .before .before .before .before .before .before .before .before .before .before .times2 .ensures, cut) at (c .before .before .before .before .before .before .before .before .before .before .before .write-product .ensures)))
 
 pub write-spec : {M : Type 1} → statement M

@@ -37,23 +37,32 @@ array-share-prefix-last : tie.Need-array-share-prefix-last
 array-share-prefix-last c = search needs
 
 slice-aggregate-write-sum : tie.Need-slice-aggregate-write-sum
-slice-aggregate-write-sum c = start-length (c .before .before .before .before .before .before .before .before .before .before .before .args .n * c .before .before .before .before .before .before .before .before .before .before .before .args .rhs) _ _ _ (cols-length (c .before .before .before .before .before .before .before .before .before .before .before .args .n) (c .before .before .before .before .before .before .before .before .before .before .before .args .n + c .before .before .before .before .before .before .before .before .before .before .before .args .rhs) (c .before .before .before .before .before .before .before .before .before .before .before .args .n) (c .before .before .before .before .before .before .before .before .before .before .before .args .rhs) (c .before .before .before .before .before .before .before .before .before .before .before .args .u0 .now)) (c .before .before .before .before .before .write-cols .ensures)
+slice-aggregate-write-sum c =
+    let a = c .before .before .before .before .before .before .before .before .before .before .before .args in
+    start-length (a .n * a .rhs) _ _ _ (cols-length (a .n) (a .n + a .rhs) (a .n) (a .rhs) (a .u0 .now)) (c .before .before .before .before .before .write-cols .ensures)
 
 array-share-prefix-product : tie.Need-array-share-prefix-product
 array-share-prefix-product c = search needs
 
 slice-aggregate-write-sum-2 : tie.Need-slice-aggregate-write-sum-2
-slice-aggregate-write-sum-2 c = start-length (c .before .before .before .before .before .before .before .before .before .before .before .before .args .n * c .before .before .before .before .before .before .before .before .before .before .before .before .args .rhs) _ _ _ (mul-residues (c .before .before .before .before .before .before .before .before .before .before .before .before .pre .0 .some-q) (c .before .before .before .before .before .before .before .before .before .before .before .before .args .n) (c .before .before .before .before .before .before .before .before .before .before .before .before .args .n) (c .before .before .before .before .before .before .before .before .before .before .before .before .args .rhs) (c .before .before .before .before .before .before .before .before .before .before .before .before .args .pm .now) (c .before .before .before .before .before .before .before .before .before .before .before .before .args .y .now) .size) (c .before .before .before .write-product .ensures)
+slice-aggregate-write-sum-2 c =
+    let a = c .before .before .before .before .before .before .before .before .before .before .before .before .args in
+    start-length (a .n * a .rhs) _ _ _ (mul-residues (c .before .before .before .before .before .before .before .before .before .before .before .before .pre .0 .some-q) (a .n) (a .n) (a .rhs) (a .pm .now) (a .y .now) .size) (c .before .before .before .write-product .ensures)
 
 write-sum-requires : tie.Need-write-sum-requires
-write-sum-requires c κs = (c .before .before .before .before .before .before .before .before .before .before .before .before .before .pre .0 .some-q, omega (arith, start-length (c .before .before .before .before .before .before .before .before .before .before .before .before .before .args .n * c .before .before .before .before .before .before .before .before .before .before .before .before .before .args .rhs) _ _ _ (cols-length (c .before .before .before .before .before .before .before .before .before .before .before .before .before .args .n) (c .before .before .before .before .before .before .before .before .before .before .before .before .before .args .n + c .before .before .before .before .before .before .before .before .before .before .before .before .before .args .rhs) (c .before .before .before .before .before .before .before .before .before .before .before .before .before .args .n) (c .before .before .before .before .before .before .before .before .before .before .before .before .before .args .rhs) (c .before .before .before .before .before .before .before .before .before .before .before .before .before .args .u0 .now)) (c .before .before .before .before .before .before .before .write-cols .ensures)), omega (arith, start-length (c .before .before .before .before .before .before .before .before .before .before .before .before .before .args .n * c .before .before .before .before .before .before .before .before .before .before .before .before .before .args .rhs) _ _ _ (mul-residues (c .before .before .before .before .before .before .before .before .before .before .before .before .before .pre .0 .some-q) (c .before .before .before .before .before .before .before .before .before .before .before .before .before .args .n) (c .before .before .before .before .before .before .before .before .before .before .before .before .before .args .n) (c .before .before .before .before .before .before .before .before .before .before .before .before .before .args .rhs) (c .before .before .before .before .before .before .before .before .before .before .before .before .before .args .pm .now) (c .before .before .before .before .before .before .before .before .before .before .before .before .before .args .y .now) .size) (c .before .before .before .before .write-product .ensures)), c .before .before .before .before .before .before .before .before .before .before .before .before .before .pre .4)
+write-sum-requires c κs =
+    let a = c .before .before .before .before .before .before .before .before .before .before .before .before .before .args in
+    let h = c .before .before .before .before .before .before .before .before .before .before .before .before .before .pre in
+    (h .0 .some-q, omega (arith, start-length (a .n * a .rhs) _ _ _ (cols-length (a .n) (a .n + a .rhs) (a .n) (a .rhs) (a .u0 .now)) (c .before .before .before .before .before .before .before .write-cols .ensures)), omega (arith, start-length (a .n * a .rhs) _ _ _ (mul-residues (h .0 .some-q) (a .n) (a .n) (a .rhs) (a .pm .now) (a .y .now) .size) (c .before .before .before .before .write-product .ensures)), h .4)
 
 same-length : tie.Need-same-length
 same-length c = search needs
 
 returns : tie.Need-returns
 unfolding sendC
-returns c = rw (start-is (c .before .before .before .before .before .before .before .before .before .before .before .before .before .before .before .before .args .n * c .before .before .before .before .before .before .before .before .before .before .before .before .before .before .before .before .args .rhs) _ _ _ (cols-length (c .before .before .before .before .before .before .before .before .before .before .before .before .before .before .before .before .args .n) (c .before .before .before .before .before .before .before .before .before .before .before .before .before .before .before .before .args .n + c .before .before .before .before .before .before .before .before .before .before .before .before .before .before .before .before .args .rhs) (c .before .before .before .before .before .before .before .before .before .before .before .before .before .before .before .before .args .n) (c .before .before .before .before .before .before .before .before .before .before .before .before .before .before .before .before .args .rhs) (c .before .before .before .before .before .before .before .before .before .before .before .before .before .before .before .before .args .u0 .now)) (c .before .before .before .before .before .before .before .before .before .before .write-cols .ensures), start-is (c .before .before .before .before .before .before .before .before .before .before .before .before .before .before .before .before .args .n * c .before .before .before .before .before .before .before .before .before .before .before .before .before .before .before .before .args .rhs) _ _ _ (mul-residues (c .before .before .before .before .before .before .before .before .before .before .before .before .before .before .before .before .pre .0 .some-q) (c .before .before .before .before .before .before .before .before .before .before .before .before .before .before .before .before .args .n) (c .before .before .before .before .before .before .before .before .before .before .before .before .before .before .before .before .args .n) (c .before .before .before .before .before .before .before .before .before .before .before .before .before .before .before .before .args .rhs) (c .before .before .before .before .before .before .before .before .before .before .before .before .before .before .before .before .args .pm .now) (c .before .before .before .before .before .before .before .before .before .before .before .before .before .before .before .before .args .y .now) .size) (c .before .before .before .before .before .before .before .write-product .ensures)) at (c .before .before .write-sum .ensures)
+returns c =
+    let a = c .before .before .before .before .before .before .before .before .before .before .before .before .before .before .before .before .args in
+    rw (start-is (a .n * a .rhs) _ _ _ (cols-length (a .n) (a .n + a .rhs) (a .n) (a .rhs) (a .u0 .now)) (c .before .before .before .before .before .before .before .before .before .before .write-cols .ensures), start-is (a .n * a .rhs) _ _ _ (mul-residues (c .before .before .before .before .before .before .before .before .before .before .before .before .before .before .before .before .pre .0 .some-q) (a .n) (a .n) (a .rhs) (a .pm .now) (a .y .now) .size) (c .before .before .before .before .before .before .before .write-product .ensures)) at (c .before .before .write-sum .ensures)
 
 pub write-c-spec : {M : Type 1} → statement M
 write-c-spec =

@@ -26,17 +26,24 @@ array-share-prefix-first : tie.Need-array-share-prefix-first
 array-share-prefix-first c = search needs
 
 slice-aggregate-write-share : tie.Need-slice-aggregate-write-share
-slice-aggregate-write-share c = start-length (c .before .before .before .before .before .before .before .before .before .args .n * c .before .before .before .before .before .before .before .before .before .args .n) _ _ _ (cols-length (c .before .before .before .before .before .before .before .before .before .args .n) (c .before .before .before .before .before .before .before .before .before .args .n + c .before .before .before .before .before .before .before .before .before .args .rhs) 0 (c .before .before .before .before .before .before .before .before .before .args .n) (c .before .before .before .before .before .before .before .before .before .args .u0 .now)) (c .before .before .write-cols .ensures)
+slice-aggregate-write-share c =
+    let a = c .before .before .before .before .before .before .before .before .before .args in
+    start-length (a .n * a .n) _ _ _ (cols-length (a .n) (a .n + a .rhs) 0 (a .n) (a .u0 .now)) (c .before .before .write-cols .ensures)
 
 write-share-requires : tie.Need-write-share-requires
-write-share-requires c κs = (record { some-q = c .before .before .before .before .before .before .before .before .before .before .pre .0 .some-q; small-q = c .before .before .before .before .before .before .before .before .before .before .pre .0 .small-q; some-p = c .before .before .before .before .before .before .before .before .before .before .pre .0 .some-n; few-k = omega (arith, c .before .before .before .before .before .before .before .before .before .before .pre .0 .few-n); few-y = omega (arith, c .before .before .before .before .before .before .before .before .before .before .pre .0 .square); full-x = omega (arith, c .before .before .before .before .before .before .before .before .before .before .pre .3); full-y = omega (arith, c .before .before .before .before .before .before .before .before .before .before .pre .4); room = c .before .before .before .before .before .before .before .before .before .before .pre .5 }, omega (arith, start-length (c .before .before .before .before .before .before .before .before .before .before .args .n * c .before .before .before .before .before .before .before .before .before .before .args .n) _ _ _ (cols-length (c .before .before .before .before .before .before .before .before .before .before .args .n) (c .before .before .before .before .before .before .before .before .before .before .args .n + c .before .before .before .before .before .before .before .before .before .before .args .rhs) 0 (c .before .before .before .before .before .before .before .before .before .before .args .n) (c .before .before .before .before .before .before .before .before .before .before .args .u0 .now)) (c .before .before .before .write-cols .ensures)), omega (arith, c .before .before .before .before .before .before .before .before .before .before .pre .2))
+write-share-requires c κs =
+    let a = c .before .before .before .before .before .before .before .before .before .before .args in
+    let h = c .before .before .before .before .before .before .before .before .before .before .pre in
+    (record { some-q = h .0 .some-q; small-q = h .0 .small-q; some-p = h .0 .some-n; few-k = omega (arith, h .0 .few-n); few-y = omega (arith, h .0 .square); full-x = omega (arith, h .3); full-y = omega (arith, h .4); room = h .5 }, omega (arith, start-length (a .n * a .n) _ _ _ (cols-length (a .n) (a .n + a .rhs) 0 (a .n) (a .u0 .now)) (c .before .before .before .write-cols .ensures)), omega (arith, h .2))
 
 same-length : tie.Need-same-length
 same-length c = search needs
 
 returns : tie.Need-returns
 unfolding innerW
-returns c = rw (start-is (c .before .before .before .before .before .before .before .before .before .before .before .before .before .args .n * c .before .before .before .before .before .before .before .before .before .before .before .before .before .args .n) _ _ _ (cols-length (c .before .before .before .before .before .before .before .before .before .before .before .before .before .args .n) (c .before .before .before .before .before .before .before .before .before .before .before .before .before .args .n + c .before .before .before .before .before .before .before .before .before .before .before .before .before .args .rhs) 0 (c .before .before .before .before .before .before .before .before .before .before .before .before .before .args .n) (c .before .before .before .before .before .before .before .before .before .before .before .before .before .args .u0 .now)) (c .before .before .before .before .before .before .write-cols .ensures)) at (c .before .before .write-share .ensures)
+returns c =
+    let a = c .before .before .before .before .before .before .before .before .before .before .before .before .before .args in
+    rw (start-is (a .n * a .n) _ _ _ (cols-length (a .n) (a .n + a .rhs) 0 (a .n) (a .u0 .now)) (c .before .before .before .before .before .before .write-cols .ensures)) at (c .before .before .write-share .ensures)
 
 pub write-inner-spec : {M : Type 1} → statement M
 write-inner-spec =

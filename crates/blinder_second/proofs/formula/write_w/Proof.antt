@@ -22,16 +22,24 @@ array-share-prefix-inner : tie.Need-array-share-prefix-inner
 array-share-prefix-inner c = search needs
 
 slice-aggregate-write-deal : tie.Need-slice-aggregate-write-deal
-slice-aggregate-write-deal c = start-length (c .before .before .before .before .before .before .before .before .before .before .before .args .n * c .before .before .before .before .before .before .before .before .before .before .before .args .n) _ _ _ (inner-length (c .before .before .before .before .before .before .before .before .before .before .before .pre .0 .some-q) (c .before .before .before .before .before .before .before .before .before .before .before .args .n) (c .before .before .before .before .before .before .before .before .before .before .before .args .rhs) (c .before .before .before .before .before .before .before .before .before .before .before .args .u0 .now) (c .before .before .before .before .before .before .before .before .before .before .before .args .f .now) (c .before .before .before .before .before .before .before .before .before .before .before .args .pm .now) (c .before .before .before .before .before .before .before .before .before .before .before .args .mm .now)) (c .before .before .write-inner .ensures)
+slice-aggregate-write-deal c =
+    let a = c .before .before .before .before .before .before .before .before .before .before .before .args in
+    start-length (a .n * a .n) _ _ _ (inner-length (c .before .before .before .before .before .before .before .before .before .before .before .pre .0 .some-q) (a .n) (a .rhs) (a .u0 .now) (a .f .now) (a .pm .now) (a .mm .now)) (c .before .before .write-inner .ensures)
 
 write-deal-requires : tie.Need-write-deal-requires
-write-deal-requires c κs = (record { some-q = c .before .before .before .before .before .before .before .before .before .before .before .before .pre .0 .some-q; small-q = c .before .before .before .before .before .before .before .before .before .before .before .before .pre .0 .small-q; some-p = c .before .before .before .before .before .before .before .before .before .before .before .before .pre .0 .some-n; few-k = omega (arith, c .before .before .before .before .before .before .before .before .before .before .before .before .pre .0 .few-n); few-y = omega (arith, c .before .before .before .before .before .before .before .before .before .before .before .before .pre .0 .square); full-x = omega (arith, start-length (c .before .before .before .before .before .before .before .before .before .before .before .before .args .n * c .before .before .before .before .before .before .before .before .before .before .before .before .args .n) _ _ _ (inner-length (c .before .before .before .before .before .before .before .before .before .before .before .before .pre .0 .some-q) (c .before .before .before .before .before .before .before .before .before .before .before .before .args .n) (c .before .before .before .before .before .before .before .before .before .before .before .before .args .rhs) (c .before .before .before .before .before .before .before .before .before .before .before .before .args .u0 .now) (c .before .before .before .before .before .before .before .before .before .before .before .before .args .f .now) (c .before .before .before .before .before .before .before .before .before .before .before .before .args .pm .now) (c .before .before .before .before .before .before .before .before .before .before .before .before .args .mm .now)) (c .before .before .before .write-inner .ensures)); full-y = omega (arith, c .before .before .before .before .before .before .before .before .before .before .before .before .pre .3); room = c .before .before .before .before .before .before .before .before .before .before .before .before .pre .7 }, omega (arith, c .before .before .before .before .before .before .before .before .before .before .before .before .pre .6))
+write-deal-requires c κs =
+    let a = c .before .before .before .before .before .before .before .before .before .before .before .before .args in
+    let h = c .before .before .before .before .before .before .before .before .before .before .before .before .pre in
+    (record { some-q = h .0 .some-q; small-q = h .0 .small-q; some-p = h .0 .some-n; few-k = omega (arith, h .0 .few-n); few-y = omega (arith, h .0 .square); full-x = omega (arith, start-length (a .n * a .n) _ _ _ (inner-length (h .0 .some-q) (a .n) (a .rhs) (a .u0 .now) (a .f .now) (a .pm .now) (a .mm .now)) (c .before .before .before .write-inner .ensures)); full-y = omega (arith, h .3); room = h .7 }, omega (arith, h .6))
 
 same-length : tie.Need-same-length
 same-length c = search needs
 
 returns : tie.Need-returns
-returns c = rw (start-is (c .before .before .before .before .before .before .before .before .before .before .before .before .before .before .before .args .n * c .before .before .before .before .before .before .before .before .before .before .before .before .before .before .before .args .n) _ _ _ (inner-length (c .before .before .before .before .before .before .before .before .before .before .before .before .before .before .before .pre .0 .some-q) (c .before .before .before .before .before .before .before .before .before .before .before .before .before .before .before .args .n) (c .before .before .before .before .before .before .before .before .before .before .before .before .before .before .before .args .rhs) (c .before .before .before .before .before .before .before .before .before .before .before .before .before .before .before .args .u0 .now) (c .before .before .before .before .before .before .before .before .before .before .before .before .before .before .before .args .f .now) (c .before .before .before .before .before .before .before .before .before .before .before .before .before .before .before .args .pm .now) (c .before .before .before .before .before .before .before .before .before .before .before .before .before .before .before .args .mm .now)) (c .before .before .before .before .before .before .write-inner .ensures), factored (c .before .before .before .before .before .before .before .before .before .before .before .before .before .before .before .pre .0 .some-q) (c .before .before .before .before .before .before .before .before .before .before .before .before .before .before .before .args .n) (c .before .before .before .before .before .before .before .before .before .before .before .before .before .before .before .args .rhs) (c .before .before .before .before .before .before .before .before .before .before .before .before .before .before .before .args .u0 .now) (c .before .before .before .before .before .before .before .before .before .before .before .before .before .before .before .args .f .now) (c .before .before .before .before .before .before .before .before .before .before .before .before .before .before .before .args .pm .now) (c .before .before .before .before .before .before .before .before .before .before .before .before .before .before .before .args .mm .now) (c .before .before .before .before .before .before .before .before .before .before .before .before .before .before .before .args .qm .now) (c .before .before .before .before .before .before .before .before .before .before .before .before .before .before .before .args .g .now)) at (c .before .before .write-deal .ensures)
+returns c =
+    let a = c .before .before .before .before .before .before .before .before .before .before .before .before .before .before .before .args in
+    let h = c .before .before .before .before .before .before .before .before .before .before .before .before .before .before .before .pre in
+    rw (start-is (a .n * a .n) _ _ _ (inner-length (h .0 .some-q) (a .n) (a .rhs) (a .u0 .now) (a .f .now) (a .pm .now) (a .mm .now)) (c .before .before .before .before .before .before .write-inner .ensures), factored (h .0 .some-q) (a .n) (a .rhs) (a .u0 .now) (a .f .now) (a .pm .now) (a .mm .now) (a .qm .now) (a .g .now)) at (c .before .before .write-deal .ensures)
 
 pub write-w-spec : {M : Type 1} → statement M
 write-w-spec =

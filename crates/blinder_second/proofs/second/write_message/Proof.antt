@@ -56,7 +56,9 @@ part-write-w-end-2 : tie.Need-part-write-w-end-2
 part-write-w-end-2 c = search needs
 
 slice-aggregate-write-w : tie.Need-slice-aggregate-write-w
-slice-aggregate-write-w c = sym (length-take-le (c .before .before .before .before .before .before .before .before .before .args .n * c .before .before .before .before .before .before .before .before .before .args .n) (c .before .before .before .before .before .before .before .before .before .args .scratch .now) (omega (arith, c .before .before .before .before .before .before .before .before .before .pre .coins)))
+slice-aggregate-write-w c =
+    let a = c .before .before .before .before .before .before .before .before .before .args in
+    sym (length-take-le (a .n * a .n) (a .scratch .now) (omega (arith, c .before .before .before .before .before .before .before .before .before .pre .coins)))
 
 mul-write-w-3 : tie.Need-mul-write-w-3
 mul-write-w-3 c = search needs
@@ -71,7 +73,9 @@ part-write-w-end-3 : tie.Need-part-write-w-end-3
 part-write-w-end-3 c = search needs
 
 write-w-requires : tie.Need-write-w-requires
-write-w-requires c κs = (c .before .before .before .before .before .before .before .before .before .before .before .pre .small, simp (length-take, length-drop) (omega (arith, c .before .before .before .before .before .before .before .before .before .before .before .pre .coins)), c .before .before .before .before .before .before .before .before .before .before .before .pre .full, simp (length-take, length-drop) (omega (arith, c .before .before .before .before .before .before .before .before .before .before .before .pre .half)), simp length-take (omega (arith, c .before .before .before .before .before .before .before .before .before .before .before .pre .coins)), c .before .before .before .before .before .before .before .before .before .before .before .pre .kept-m, simp (length-take, length-drop) (omega (arith, c .before .before .before .before .before .before .before .before .before .before .before .pre .half)), omega (arith, c .before .before .before .before .before .before .before .before .before .before .before .pre .room))
+write-w-requires c κs =
+    let h = c .before .before .before .before .before .before .before .before .before .before .before .pre in
+    (h .small, simp (length-take, length-drop) (omega (arith, h .coins)), h .full, simp (length-take, length-drop) (omega (arith, h .half)), simp length-take (omega (arith, h .coins)), h .kept-m, simp (length-take, length-drop) (omega (arith, h .half)), omega (arith, h .room))
 
 mul-write-c : tie.Need-mul-write-c
 mul-write-c c = search needs
@@ -86,7 +90,9 @@ part-write-c-end : tie.Need-part-write-c-end
 part-write-c-end c = search needs
 
 slice-aggregate-write-c : tie.Need-slice-aggregate-write-c
-slice-aggregate-write-c c = sym (length-take-le (c .before .before .before .before .before .before .before .before .before .before .before .before .before .before .before .before .args .n * c .before .before .before .before .before .before .before .before .before .before .before .before .before .before .before .before .args .n) (c .before .before .before .before .before .before .before .before .before .before .before .before .before .before .before .before .args .scratch .now) (omega (arith, c .before .before .before .before .before .before .before .before .before .before .before .before .before .before .before .before .pre .coins)))
+slice-aggregate-write-c c =
+    let a = c .before .before .before .before .before .before .before .before .before .before .before .before .before .before .before .before .args in
+    sym (length-take-le (a .n * a .n) (a .scratch .now) (omega (arith, c .before .before .before .before .before .before .before .before .before .before .before .before .before .before .before .before .pre .coins)))
 
 mul-write-c-2 : tie.Need-mul-write-c-2
 mul-write-c-2 c = search needs
@@ -101,7 +107,10 @@ part-write-c-end-2 : tie.Need-part-write-c-end-2
 part-write-c-end-2 c = search needs
 
 write-c-requires : tie.Need-write-c-requires
-write-c-requires c κs = let long = w-after (c .before .before .before .before .before .before .before .before .before .before .before .before .before .before .before .before .before .args .q) (c .before .before .before .before .before .before .before .before .before .before .before .before .before .before .before .before .before .args .n) (c .before .before .before .before .before .before .before .before .before .before .before .before .before .before .before .before .before .args .rhs) _ _ _ _ _ _ (c .before .before .before .before .before .before .before .before .before .before .before .before .before .before .before .before .before .pre .small .some-q) (c .before .before .before .before .before .before .before .before .before .before .before .before .before .before .before .before .before .args .out .now) (omega (arith, c .before .before .before .before .before .before .before .before .before .before .before .before .before .before .before .before .before .pre .room)) (c .before .before .before .before .before .write-w .ensures) in (c .before .before .before .before .before .before .before .before .before .before .before .before .before .before .before .before .before .pre .small, simp (length-take, length-drop) (omega (arith, c .before .before .before .before .before .before .before .before .before .before .before .before .before .before .before .before .before .pre .coins)), simp length-take (omega (arith, c .before .before .before .before .before .before .before .before .before .before .before .before .before .before .before .before .before .pre .coins)), c .before .before .before .before .before .before .before .before .before .before .before .before .before .before .before .before .before .pre .kept-y, simp (length-take, length-drop) (omega (arith, long, c .before .before .before .before .before .before .before .before .before .before .before .before .before .before .before .before .before .pre .room)))
+write-c-requires c κs =
+    let a = c .before .before .before .before .before .before .before .before .before .before .before .before .before .before .before .before .before .args in
+    let h = c .before .before .before .before .before .before .before .before .before .before .before .before .before .before .before .before .before .pre in
+    let long = w-after (a .q) (a .n) (a .rhs) _ _ _ _ _ _ (h .small .some-q) (a .out .now) (omega (arith, h .room)) (c .before .before .before .before .before .write-w .ensures) in (h .small, simp (length-take, length-drop) (omega (arith, h .coins)), simp length-take (omega (arith, h .coins)), h .kept-y, simp (length-take, length-drop) (omega (arith, long, h .room)))
 
 same-length : tie.Need-same-length
 same-length c = search needs
@@ -109,11 +118,14 @@ same-length c = search needs
 returns : tie.Need-returns
 unfolding secondSent
 returns c =
-    let wide : (c .before .before .before .before .before .before .before .before .before .before .before .before .before .before .before .before .before .before .before .before .args .n * c .before .before .before .before .before .before .before .before .before .before .before .before .before .before .before .before .before .before .before .before .args .n) + c .before .before .before .before .before .before .before .before .before .before .before .before .before .before .before .before .before .before .before .before .args .n * (c .before .before .before .before .before .before .before .before .before .before .before .before .before .before .before .before .before .before .before .before .args .n + c .before .before .before .before .before .before .before .before .before .before .before .before .before .before .before .before .before .before .before .before .args .rhs) - (c .before .before .before .before .before .before .before .before .before .before .before .before .before .before .before .before .before .before .before .before .args .n * c .before .before .before .before .before .before .before .before .before .before .before .before .before .before .before .before .before .before .before .before .args .n) ≡ c .before .before .before .before .before .before .before .before .before .before .before .before .before .before .before .before .before .before .before .before .args .n * (c .before .before .before .before .before .before .before .before .before .before .before .before .before .before .before .before .before .before .before .before .args .n + c .before .before .before .before .before .before .before .before .before .before .before .before .before .before .before .before .before .before .before .before .args .rhs) = omega arith in
-    let first : 7 + ((c .before .before .before .before .before .before .before .before .before .before .before .before .before .before .before .before .before .before .before .before .args .n * c .before .before .before .before .before .before .before .before .before .before .before .before .before .before .before .before .before .before .before .before .args .n) + c .before .before .before .before .before .before .before .before .before .before .before .before .before .before .before .before .before .before .before .before .args .n * (c .before .before .before .before .before .before .before .before .before .before .before .before .before .before .before .before .before .before .before .before .args .n + c .before .before .before .before .before .before .before .before .before .before .before .before .before .before .before .before .before .before .before .before .args .rhs)) + (c .before .before .before .before .before .before .before .before .before .before .before .before .before .before .before .before .before .before .before .before .args .n * c .before .before .before .before .before .before .before .before .before .before .before .before .before .before .before .before .before .before .before .before .args .n) - (7 + ((c .before .before .before .before .before .before .before .before .before .before .before .before .before .before .before .before .before .before .before .before .args .n * c .before .before .before .before .before .before .before .before .before .before .before .before .before .before .before .before .before .before .before .before .args .n) + c .before .before .before .before .before .before .before .before .before .before .before .before .before .before .before .before .before .before .before .before .args .n * (c .before .before .before .before .before .before .before .before .before .before .before .before .before .before .before .before .before .before .before .before .args .n + c .before .before .before .before .before .before .before .before .before .before .before .before .before .before .before .before .before .before .before .before .args .rhs))) ≡ c .before .before .before .before .before .before .before .before .before .before .before .before .before .before .before .before .before .before .before .before .args .n * c .before .before .before .before .before .before .before .before .before .before .before .before .before .before .before .before .before .before .before .before .args .n = omega arith in
-    let second : 7 + ((c .before .before .before .before .before .before .before .before .before .before .before .before .before .before .before .before .before .before .before .before .args .n * c .before .before .before .before .before .before .before .before .before .before .before .before .before .before .before .before .before .before .before .before .args .n) + c .before .before .before .before .before .before .before .before .before .before .before .before .before .before .before .before .before .before .before .before .args .n * (c .before .before .before .before .before .before .before .before .before .before .before .before .before .before .before .before .before .before .before .before .args .n + c .before .before .before .before .before .before .before .before .before .before .before .before .before .before .before .before .before .before .before .before .args .rhs)) + (c .before .before .before .before .before .before .before .before .before .before .before .before .before .before .before .before .before .before .before .before .args .n * c .before .before .before .before .before .before .before .before .before .before .before .before .before .before .before .before .before .before .before .before .args .n) + (c .before .before .before .before .before .before .before .before .before .before .before .before .before .before .before .before .before .before .before .before .args .n * c .before .before .before .before .before .before .before .before .before .before .before .before .before .before .before .before .before .before .before .before .args .n) - (7 + ((c .before .before .before .before .before .before .before .before .before .before .before .before .before .before .before .before .before .before .before .before .args .n * c .before .before .before .before .before .before .before .before .before .before .before .before .before .before .before .before .before .before .before .before .args .n) + c .before .before .before .before .before .before .before .before .before .before .before .before .before .before .before .before .before .before .before .before .args .n * (c .before .before .before .before .before .before .before .before .before .before .before .before .before .before .before .before .before .before .before .before .args .n + c .before .before .before .before .before .before .before .before .before .before .before .before .before .before .before .before .before .before .before .before .args .rhs)) + (c .before .before .before .before .before .before .before .before .before .before .before .before .before .before .before .before .before .before .before .before .args .n * c .before .before .before .before .before .before .before .before .before .before .before .before .before .before .before .before .before .before .before .before .args .n)) ≡ c .before .before .before .before .before .before .before .before .before .before .before .before .before .before .before .before .before .before .before .before .args .n * c .before .before .before .before .before .before .before .before .before .before .before .before .before .before .before .before .before .before .before .before .args .n = omega arith in
-    let long = w-after (c .before .before .before .before .before .before .before .before .before .before .before .before .before .before .before .before .before .before .before .before .args .q) (c .before .before .before .before .before .before .before .before .before .before .before .before .before .before .before .before .before .before .before .before .args .n) (c .before .before .before .before .before .before .before .before .before .before .before .before .before .before .before .before .before .before .before .before .args .rhs) _ _ _ _ _ _ (c .before .before .before .before .before .before .before .before .before .before .before .before .before .before .before .before .before .before .before .before .pre .small .some-q) (c .before .before .before .before .before .before .before .before .before .before .before .before .before .before .before .before .before .before .before .before .args .out .now) (omega (arith, c .before .before .before .before .before .before .before .before .before .before .before .before .before .before .before .before .before .before .before .before .pre .room)) (c .before .before .before .before .before .before .before .before .write-w .ensures) in
-    part-then _ _ (c .before .before .before .before .before .before .before .before .before .before .before .before .before .before .before .before .before .before .before .before .args .out .now) _ _ (c .before .before .before .before .before .before .before .before .before .before .before .before .before .before .before .before .before .before .before .before .args .n * c .before .before .before .before .before .before .before .before .before .before .before .before .before .before .before .before .before .before .before .before .args .n) (w-length (c .before .before .before .before .before .before .before .before .before .before .before .before .before .before .before .before .before .before .before .before .args .q) (c .before .before .before .before .before .before .before .before .before .before .before .before .before .before .before .before .before .before .before .before .args .n) (c .before .before .before .before .before .before .before .before .before .before .before .before .before .before .before .before .before .before .before .before .args .rhs) _ _ _ _ _ _ (c .before .before .before .before .before .before .before .before .before .before .before .before .before .before .before .before .before .before .before .before .pre .small .some-q)) (omega (arith, long, c .before .before .before .before .before .before .before .before .before .before .before .before .before .before .before .before .before .before .before .before .pre .room)) (rw (wide, first, second) at (c .before .before .before .before .before .before .before .before .write-w .ensures)) (rw wide at (c .before .before .write-c .ensures))
+    let a = c .before .before .before .before .before .before .before .before .before .before .before .before .before .before .before .before .before .before .before .before .args in
+    let h = c .before .before .before .before .before .before .before .before .before .before .before .before .before .before .before .before .before .before .before .before .pre in
+    let write-w = c .before .before .before .before .before .before .before .before .write-w in
+    let wide : (a .n * a .n) + a .n * (a .n + a .rhs) - (a .n * a .n) ≡ a .n * (a .n + a .rhs) = omega arith in
+    let first : 7 + ((a .n * a .n) + a .n * (a .n + a .rhs)) + (a .n * a .n) - (7 + ((a .n * a .n) + a .n * (a .n + a .rhs))) ≡ a .n * a .n = omega arith in
+    let second : 7 + ((a .n * a .n) + a .n * (a .n + a .rhs)) + (a .n * a .n) + (a .n * a .n) - (7 + ((a .n * a .n) + a .n * (a .n + a .rhs)) + (a .n * a .n)) ≡ a .n * a .n = omega arith in
+    let long = w-after (a .q) (a .n) (a .rhs) _ _ _ _ _ _ (h .small .some-q) (a .out .now) (omega (arith, h .room)) (write-w .ensures) in
+    part-then _ _ (a .out .now) _ _ (a .n * a .n) (w-length (a .q) (a .n) (a .rhs) _ _ _ _ _ _ (h .small .some-q)) (omega (arith, long, h .room)) (rw (wide, first, second) at (write-w .ensures)) (rw wide at (c .before .before .write-c .ensures))
 
 pub write-message-spec : {M : Type 1} → statement M
 write-message-spec =

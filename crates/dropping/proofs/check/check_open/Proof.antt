@@ -16,7 +16,9 @@ check-closed-requires : tie.Need-check-closed-requires
 check-closed-requires c κs = search needs
 
 returns : tie.Need-returns
-returns c = c .check-closed .ensures ∙ sym (closed-judged (role (c .before .before .before .args .end)) (c .before .before .before .args .due) (c .before .before .before .args .t) (slotAt (c .before .before .before .args .pool .now) (c .before .before .before .args .size) (c .before .before .before .args .index)) (c .before .if1 .taken))
+returns c =
+    let a = c .before .before .before .args in
+    c .check-closed .ensures ∙ sym (closed-judged (role (a .end)) (a .due) (a .t) (slotAt (a .pool .now) (a .size) (a .index)) (c .before .if1 .taken))
 
 check-numbers-requires : tie.Need-check-numbers-requires
 check-numbers-requires c κs = search needs
@@ -28,16 +30,24 @@ enum-told-2 : tie.Need-enum-told-2
 enum-told-2 c = search needs
 
 returns-2 : tie.Need-returns-2
-returns-2 c = hands-on (c .before .before .check-numbers .result) _ (c .before .before .check-numbers .ensures) (c .enum-told2 .given .1) ∙ sym (open-phases (role (c .before .before .before .before .before .args .end)) (c .before .before .before .before .before .args .due) (c .before .before .before .before .before .args .t) (slotAt (c .before .before .before .before .before .args .pool .now) (c .before .before .before .before .before .args .size) (c .before .before .before .before .before .args .index)) (open-due (c .before .before .before .before .before .args .due) .1 (omega (arith, c .before .before .before .if1 .left))))
+returns-2 c =
+    let a = c .before .before .before .before .before .args in
+    hands-on (c .before .before .check-numbers .result) _ (c .before .before .check-numbers .ensures) (c .enum-told2 .given .1) ∙ sym (open-phases (role (a .end)) (a .due) (a .t) (slotAt (a .pool .now) (a .size) (a .index)) (open-due (a .due) .1 (omega (arith, c .before .before .before .if1 .left))))
 
 mul-at : tie.Need-mul-at
-mul-at c = let k = numbers-placed (role (c .before .before .before .before .before .args .end)) (c .before .before .before .before .before .args .t) _ (c .before .before .before .before .before .args .size) (c .before .before .before .before .before .args .index) (sym (c .before .before .check-numbers .ensures) ∙ ap checked (c .enum-told .given .1)) .0 in search needs
+mul-at c =
+    let a = c .before .before .before .before .before .args in
+    let k = numbers-placed (role (a .end)) (a .t) _ (a .size) (a .index) (sym (c .before .before .check-numbers .ensures) ∙ ap checked (c .enum-told .given .1)) .0 in search needs
 
 add-stop : tie.Need-add-stop
-add-stop c = let k = numbers-placed (role (c .before .before .before .before .before .args .end)) (c .before .before .before .before .before .args .t) _ (c .before .before .before .before .before .args .size) (c .before .before .before .before .before .args .index) (sym (c .before .before .check-numbers .ensures) ∙ ap checked (c .enum-told .given .1)) .0 in search needs
+add-stop c =
+    let a = c .before .before .before .before .before .args in
+    let k = numbers-placed (role (a .end)) (a .t) _ (a .size) (a .index) (sym (c .before .before .check-numbers .ensures) ∙ ap checked (c .enum-told .given .1)) .0 in search needs
 
 mul-check-tape : tie.Need-mul-check-tape
-mul-check-tape c = let k = numbers-placed (role (c .before .before .before .before .before .args .end)) (c .before .before .before .before .before .args .t) _ (c .before .before .before .before .before .args .size) (c .before .before .before .before .before .args .index) (sym (c .before .before .check-numbers .ensures) ∙ ap checked (c .enum-told .given .1)) .0 in search needs
+mul-check-tape c =
+    let a = c .before .before .before .before .before .args in
+    let k = numbers-placed (role (a .end)) (a .t) _ (a .size) (a .index) (sym (c .before .before .check-numbers .ensures) ∙ ap checked (c .enum-told .given .1)) .0 in search needs
 
 sub-check-tape : tie.Need-sub-check-tape
 sub-check-tape c = search needs
@@ -46,13 +56,20 @@ part-check-tape-start : tie.Need-part-check-tape-start
 part-check-tape-start c = search needs
 
 part-check-tape-end : tie.Need-part-check-tape-end
-part-check-tape-end c = let k = numbers-placed (role (c .before .before .before .before .before .args .end)) (c .before .before .before .before .before .args .t) _ (c .before .before .before .before .before .args .size) (c .before .before .before .before .before .args .index) (sym (c .before .before .check-numbers .ensures) ∙ ap checked (c .enum-told .given .1)) .0 in search needs
+part-check-tape-end c =
+    let a = c .before .before .before .before .before .args in
+    let k = numbers-placed (role (a .end)) (a .t) _ (a .size) (a .index) (sym (c .before .before .check-numbers .ensures) ∙ ap checked (c .enum-told .given .1)) .0 in search needs
 
 check-tape-requires : tie.Need-check-tape-requires
-check-tape-requires c κs = let k = numbers-placed (role (c .before .before .before .before .before .before .args .end)) (c .before .before .before .before .before .before .args .t) _ (c .before .before .before .before .before .before .args .size) (c .before .before .before .before .before .before .args .index) (sym (c .before .before .before .check-numbers .ensures) ∙ ap checked (c .before .enum-told .given .1)) in omega (arith, k .1, half-body (role (c .before .before .before .before .before .before .args .end)) (c .before .before .before .before .before .before .args .t), slot-part-length (c .before .before .before .before .before .before .args .pool .now) (c .before .before .before .before .before .before .args .size) (c .before .before .before .before .before .before .args .index) (k .0))
+check-tape-requires c κs =
+    let a = c .before .before .before .before .before .before .args in
+    let k = numbers-placed (role (a .end)) (a .t) _ (a .size) (a .index) (sym (c .before .before .before .check-numbers .ensures) ∙ ap checked (c .before .enum-told .given .1)) in omega (arith, k .1, half-body (role (a .end)) (a .t), slot-part-length (a .pool .now) (a .size) (a .index) (k .0))
 
 returns-3 : tie.Need-returns-3
-returns-3 c = (rw (slot-part (c .before .before .before .before .before .before .before .args .pool .now) (c .before .before .before .before .before .before .before .args .size) (c .before .before .before .before .before .before .before .args .index)) at (c .check-tape .ensures)) ∙ sym (open-phases (role (c .before .before .before .before .before .before .before .args .end)) (c .before .before .before .before .before .before .before .args .due) (c .before .before .before .before .before .before .before .args .t) (slotAt (c .before .before .before .before .before .before .before .args .pool .now) (c .before .before .before .before .before .before .before .args .size) (c .before .before .before .before .before .before .before .args .index)) (open-due (c .before .before .before .before .before .before .before .args .due) .1 (omega (arith, c .before .before .before .before .before .if1 .left))) ∙ goes-past (c .before .before .before .before .check-numbers .result) (c .before .before .before .before .check-numbers .ensures) (c .before .before .enum-told .given .1))
+returns-3 c =
+    let a = c .before .before .before .before .before .before .before .args in
+    let check-numbers = c .before .before .before .before .check-numbers in
+    (rw (slot-part (a .pool .now) (a .size) (a .index)) at (c .check-tape .ensures)) ∙ sym (open-phases (role (a .end)) (a .due) (a .t) (slotAt (a .pool .now) (a .size) (a .index)) (open-due (a .due) .1 (omega (arith, c .before .before .before .before .before .if1 .left))) ∙ goes-past (check-numbers .result) (check-numbers .ensures) (c .before .before .enum-told .given .1))
 
 pub check-open-spec : {M : Type 1} → statement M
 check-open-spec =

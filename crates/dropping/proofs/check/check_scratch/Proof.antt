@@ -16,7 +16,9 @@ need-requires : tie.Need-need-requires
 need-requires c κs = search needs
 
 returns-2 : tie.Need-returns-2
-returns-2 c = (rw (c .before .scratch-fits .ensures) at (c .need .ensures)) ∙ scratch-open (c .before .before .before .args .due) _ (c .before .before .before .args .room) (open-due (c .before .before .before .args .due) .1 (omega arith))
+returns-2 c =
+    let a = c .before .before .before .args in
+    (rw (c .before .scratch-fits .ensures) at (c .need .ensures)) ∙ scratch-open (a .due) _ (a .room) (open-due (a .due) .1 (omega arith))
 
 pub check-scratch-spec : {M : Type 1} → statement M
 check-scratch-spec = tie.close (tie.spec returns scratch-fits-requires need-requires returns-2)

@@ -13,14 +13,18 @@ times-requires c κs = search needs
 
 returns : tie.Need-returns
 unfolding scratchSize
-returns c = sym (lt-leb (c .before .before .args .t .m * c .before .before .args .t .m + c .before .before .args .t .m * c .before .before .args .t .p) (c .before .before .args .room) (omega (arith, c .before .times .ensures, c .if1 .taken)))
+returns c =
+    let a = c .before .before .args in
+    sym (lt-leb (a .t .m * a .t .m + a .t .m * a .t .p) (a .room) (omega (arith, c .before .times .ensures, c .if1 .taken)))
 
 times-requires-2 : tie.Need-times-requires-2
 times-requires-2 c κs = search needs
 
 returns-2 : tie.Need-returns-2
 unfolding scratchSize
-returns-2 c = rw (c .times2 .ensures, c .before .before .times .ensures) (room-left (c .before .before .before .args .t .m * c .before .before .before .args .t .m) (c .before .before .before .args .t .m * c .before .before .before .args .t .p) (c .before .before .before .args .room) (omega (arith, c .before .before .times .ensures, c .before .if1 .left)))
+returns-2 c =
+    let a = c .before .before .before .args in
+    rw (c .times2 .ensures, c .before .before .times .ensures) (room-left (a .t .m * a .t .m) (a .t .m * a .t .p) (a .room) (omega (arith, c .before .before .times .ensures, c .before .if1 .left)))
 
 pub scratch-fits-spec : {M : Type 1} → statement M
 scratch-fits-spec = tie.close (tie.spec times-requires returns times-requires-2 returns-2)

@@ -20,7 +20,9 @@ enum-told-2 : tie.Need-enum-told-2
 enum-told-2 c = search needs
 
 returns : tie.Need-returns
-returns c = hands-on (c .before .before .check-numbers .result) _ (c .before .before .check-numbers .ensures) (c .enum-told2 .given .1) ∙ sym (first-phases (c .before .before .before .before .before .args .t) (slotAt (c .before .before .before .before .before .args .pool .now) (c .before .before .before .before .before .args .size) (c .before .before .before .before .before .args .index)) (c .before .before .before .before .before .args .y .now) (c .before .before .before .before .before .args .room))
+returns c =
+    let a = c .before .before .before .before .before .args in
+    hands-on (c .before .before .check-numbers .result) _ (c .before .before .check-numbers .ensures) (c .enum-told2 .given .1) ∙ sym (first-phases (a .t) (slotAt (a .pool .now) (a .size) (a .index)) (a .y .now) (a .room))
 
 mul-at : tie.Need-mul-at
 mul-at c = let k = first-placed (c .before .before .before .before .before .args .t) _ _ _ _ _ (sym (c .before .before .check-numbers .ensures) ∙ ap checked (c .enum-told .given .1)) in search needs
@@ -41,10 +43,15 @@ part-check-words-end : tie.Need-part-check-words-end
 part-check-words-end c = let k = first-placed (c .before .before .before .before .before .args .t) _ _ _ _ _ (sym (c .before .before .check-numbers .ensures) ∙ ap checked (c .enum-told .given .1)) in search needs
 
 check-words-requires : tie.Need-check-words-requires
-check-words-requires c κs = let k = first-placed (c .before .before .before .before .before .before .args .t) _ _ _ _ _ (sym (c .before .before .before .check-numbers .ensures) ∙ ap checked (c .before .enum-told .given .1)) in (k .sides, omega (arith, k .room, slot-part-length (c .before .before .before .before .before .before .args .pool .now) (c .before .before .before .before .before .before .args .size) (c .before .before .before .before .before .before .args .index) (k .inside)))
+check-words-requires c κs =
+    let a = c .before .before .before .before .before .before .args in
+    let k = first-placed (a .t) _ _ _ _ _ (sym (c .before .before .before .check-numbers .ensures) ∙ ap checked (c .before .enum-told .given .1)) in (k .sides, omega (arith, k .room, slot-part-length (a .pool .now) (a .size) (a .index) (k .inside)))
 
 returns-2 : tie.Need-returns-2
-returns-2 c = (rw (slot-part (c .before .before .before .before .before .before .before .args .pool .now) (c .before .before .before .before .before .before .before .args .size) (c .before .before .before .before .before .before .before .args .index)) at (c .check-words .ensures)) ∙ sym (first-phases (c .before .before .before .before .before .before .before .args .t) (slotAt (c .before .before .before .before .before .before .before .args .pool .now) (c .before .before .before .before .before .before .before .args .size) (c .before .before .before .before .before .before .before .args .index)) (c .before .before .before .before .before .before .before .args .y .now) (c .before .before .before .before .before .before .before .args .room) ∙ goes-past (c .before .before .before .before .check-numbers .result) (c .before .before .before .before .check-numbers .ensures) (c .before .before .enum-told .given .1))
+returns-2 c =
+    let a = c .before .before .before .before .before .before .before .args in
+    let check-numbers = c .before .before .before .before .check-numbers in
+    (rw (slot-part (a .pool .now) (a .size) (a .index)) at (c .check-words .ensures)) ∙ sym (first-phases (a .t) (slotAt (a .pool .now) (a .size) (a .index)) (a .y .now) (a .room) ∙ goes-past (check-numbers .result) (check-numbers .ensures) (c .before .before .enum-told .given .1))
 
 pub check-spec : {M : Type 1} → statement M
 check-spec =

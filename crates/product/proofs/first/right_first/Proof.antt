@@ -36,16 +36,28 @@ same-length c = search needs
 
 returns : tie.Need-returns
 unfolding rightFirst
-returns c = rw (c .answer-of .ensures, c .before .enum-told2 .given .1, c .before .before .before .before .no-head .ensures) (sym (refused-leaves noRight (slotAt (c .before .before .before .before .before .before .before .before .before .before .args .pool .now) (c .before .before .before .before .before .before .before .before .before .before .args .size) (c .before .before .before .before .before .before .before .before .before .before .args .index)) [] (c .before .before .before .before .before .before .before .before .before .before .args .out .now) [] _ (rightFirstEffect (c .before .before .before .before .before .before .before .before .before .before .args .t) (slotAt (c .before .before .before .before .before .before .before .before .before .before .args .pool .now) (c .before .before .before .before .before .before .before .before .before .before .args .size) (c .before .before .before .before .before .before .before .before .before .before .args .index)) (c .before .before .before .before .before .before .before .before .before .before .args .y .now)) (sym (c .before .before .before .before .before .check .ensures) ∙ ap checked (c .before .enum-told2 .given .1))))
+returns c =
+    let a = c .before .before .before .before .before .before .before .before .before .before .args in
+    let s = slotAt (a .pool .now) (a .size) (a .index) in
+    rw (c .answer-of .ensures, c .before .enum-told2 .given .1, c .before .before .before .before .no-head .ensures) (sym (refused-leaves noRight s [] (a .out .now) [] _ (rightFirstEffect (a .t) s (a .y .now)) (sym (c .before .before .before .before .before .check .ensures) ∙ ap checked (c .before .enum-told2 .given .1))))
 
 mul-at : tie.Need-mul-at
-mul-at c = let i = slot-room (slotAt (c .before .before .before .before .before .before .before .before .before .args .pool .now) (c .before .before .before .before .before .before .before .before .before .args .size) (c .before .before .before .before .before .before .before .before .before .args .index)) (first-known (c .before .before .before .before .before .before .before .before .before .args .t) (slotAt (c .before .before .before .before .before .before .before .before .before .args .pool .now) (c .before .before .before .before .before .before .before .before .before .args .size) (c .before .before .before .before .before .before .before .before .before .args .index)) (c .before .before .before .before .before .before .before .before .before .args .y .now) (length (c .before .before .before .before .before .before .before .before .before .args .out .now)) (sym (c .before .before .before .before .check .ensures) ∙ ap checked (c .enum-told .given .1)) .first .half .inside) in search needs
+mul-at c =
+    let a = c .before .before .before .before .before .before .before .before .before .args in
+    let s = slotAt (a .pool .now) (a .size) (a .index) in
+    let i = slot-room s (first-known (a .t) s (a .y .now) (length (a .out .now)) (sym (c .before .before .before .before .check .ensures) ∙ ap checked (c .enum-told .given .1)) .first .half .inside) in search needs
 
 add-end : tie.Need-add-end
-add-end c = let i = slot-room (slotAt (c .before .before .before .before .before .before .before .before .before .args .pool .now) (c .before .before .before .before .before .before .before .before .before .args .size) (c .before .before .before .before .before .before .before .before .before .args .index)) (first-known (c .before .before .before .before .before .before .before .before .before .args .t) (slotAt (c .before .before .before .before .before .before .before .before .before .args .pool .now) (c .before .before .before .before .before .before .before .before .before .args .size) (c .before .before .before .before .before .before .before .before .before .args .index)) (c .before .before .before .before .before .before .before .before .before .args .y .now) (length (c .before .before .before .before .before .before .before .before .before .args .out .now)) (sym (c .before .before .before .before .check .ensures) ∙ ap checked (c .enum-told .given .1)) .first .half .inside) in search needs
+add-end c =
+    let a = c .before .before .before .before .before .before .before .before .before .args in
+    let s = slotAt (a .pool .now) (a .size) (a .index) in
+    let i = slot-room s (first-known (a .t) s (a .y .now) (length (a .out .now)) (sym (c .before .before .before .before .check .ensures) ∙ ap checked (c .enum-told .given .1)) .first .half .inside) in search needs
 
 mul-write : tie.Need-mul-write
-mul-write c = let i = slot-room (slotAt (c .before .before .before .before .before .before .before .before .before .args .pool .now) (c .before .before .before .before .before .before .before .before .before .args .size) (c .before .before .before .before .before .before .before .before .before .args .index)) (first-known (c .before .before .before .before .before .before .before .before .before .args .t) (slotAt (c .before .before .before .before .before .before .before .before .before .args .pool .now) (c .before .before .before .before .before .before .before .before .before .args .size) (c .before .before .before .before .before .before .before .before .before .args .index)) (c .before .before .before .before .before .before .before .before .before .args .y .now) (length (c .before .before .before .before .before .before .before .before .before .args .out .now)) (sym (c .before .before .before .before .check .ensures) ∙ ap checked (c .enum-told .given .1)) .first .half .inside) in search needs
+mul-write c =
+    let a = c .before .before .before .before .before .before .before .before .before .args in
+    let s = slotAt (a .pool .now) (a .size) (a .index) in
+    let i = slot-room s (first-known (a .t) s (a .y .now) (length (a .out .now)) (sym (c .before .before .before .before .check .ensures) ∙ ap checked (c .enum-told .given .1)) .first .half .inside) in search needs
 
 sub-write : tie.Need-sub-write
 sub-write c = search needs
@@ -54,7 +66,10 @@ part-write-start : tie.Need-part-write-start
 part-write-start c = search needs
 
 part-write-end : tie.Need-part-write-end
-part-write-end c = let i = slot-room (slotAt (c .before .before .before .before .before .before .before .before .before .args .pool .now) (c .before .before .before .before .before .before .before .before .before .args .size) (c .before .before .before .before .before .before .before .before .before .args .index)) (first-known (c .before .before .before .before .before .before .before .before .before .args .t) (slotAt (c .before .before .before .before .before .before .before .before .before .args .pool .now) (c .before .before .before .before .before .before .before .before .before .args .size) (c .before .before .before .before .before .before .before .before .before .args .index)) (c .before .before .before .before .before .before .before .before .before .args .y .now) (length (c .before .before .before .before .before .before .before .before .before .args .out .now)) (sym (c .before .before .before .before .check .ensures) ∙ ap checked (c .enum-told .given .1)) .first .half .inside) in search needs
+part-write-end c =
+    let a = c .before .before .before .before .before .before .before .before .before .args in
+    let s = slotAt (a .pool .now) (a .size) (a .index) in
+    let i = slot-room s (first-known (a .t) s (a .y .now) (length (a .out .now)) (sym (c .before .before .before .before .check .ensures) ∙ ap checked (c .enum-told .given .1)) .first .half .inside) in search needs
 
 write-requires : tie.Need-write-requires
 write-requires c κs =
@@ -74,11 +89,17 @@ same-length-3 : tie.Need-same-length-3
 same-length-3 c = search needs
 
 returns-2 : tie.Need-returns-2
-returns-2 c = let f = first-known (c .before .before .before .before .before .before .before .before .before .before .before .before .before .before .before .before .args .t) (slotAt (c .before .before .before .before .before .before .before .before .before .before .before .before .before .before .before .before .args .pool .now) (c .before .before .before .before .before .before .before .before .before .before .before .before .before .before .before .before .args .size) (c .before .before .before .before .before .before .before .before .before .before .before .before .before .before .before .before .args .index)) (c .before .before .before .before .before .before .before .before .before .before .before .before .before .before .before .before .args .y .now) (length (c .before .before .before .before .before .before .before .before .before .before .before .before .before .before .before .before .args .out .now)) (sym (c .before .before .before .before .before .before .before .before .before .before .before .check .ensures) ∙ ap checked (c .before .before .before .before .before .before .before .enum-told .given .1)) in
-    let i = slot-room (slotAt (c .before .before .before .before .before .before .before .before .before .before .before .before .before .before .before .before .args .pool .now) (c .before .before .before .before .before .before .before .before .before .before .before .before .before .before .before .before .args .size) (c .before .before .before .before .before .before .before .before .before .before .before .before .before .before .before .before .args .index)) (f .first .half .inside) in
-    first-done (c .before .before .before .before .before .before .before .before .before .before .before .before .before .before .before .before .args .t) (slotAt (c .before .before .before .before .before .before .before .before .before .before .before .before .before .before .before .before .args .pool .now) (c .before .before .before .before .before .before .before .before .before .before .before .before .before .before .before .before .args .size) (c .before .before .before .before .before .before .before .before .before .before .before .before .before .before .before .before .args .index)) (c .before .before .before .before .before .before .before .before .before .before .before .before .before .before .before .before .args .y .now) (c .before .before .before .before .before .before .before .before .before .before .before .before .before .before .before .before .args .out .now) (sym (c .before .before .before .before .before .before .before .before .before .before .before .check .ensures) ∙ ap checked (c .before .before .before .before .before .before .before .enum-told .given .1))
-    (slot-written (c .before .before .before .before .before .before .before .before .before .before .before .before .before .before .before .before .args .pool .now) _ (c .before .before .before .before .before .before .before .before .before .before .before .before .before .before .before .before .args .size) (c .before .before .before .before .before .before .before .before .before .before .before .before .before .before .before .before .args .index) wordsInUse i (λ ws e. in-use-length ws (omega (arith, f .first .half .room, half-body right (c .before .before .before .before .before .before .before .before .before .before .before .before .before .before .before .before .args .t), e)) ∙ e) (c .before .before .before .before .write .ensures .0))
-    (rw (slot-part (c .before .before .before .before .before .before .before .before .before .before .before .before .before .before .before .before .args .pool .now) (c .before .before .before .before .before .before .before .before .before .before .before .before .before .before .before .before .args .size) (c .before .before .before .before .before .before .before .before .before .before .before .before .before .before .before .before .args .index)) at (c .before .before .before .before .write .ensures .1))
+returns-2 c =
+    let a = c .before .before .before .before .before .before .before .before .before .before .before .before .before .before .before .before .args in
+    let check = c .before .before .before .before .before .before .before .before .before .before .before .check in
+    let enum-told = c .before .before .before .before .before .before .before .enum-told in
+    let write = c .before .before .before .before .write in
+    let s = slotAt (a .pool .now) (a .size) (a .index) in
+    let f = first-known (a .t) s (a .y .now) (length (a .out .now)) (sym (check .ensures) ∙ ap checked (enum-told .given .1)) in
+    let i = slot-room s (f .first .half .inside) in
+    first-done (a .t) s (a .y .now) (a .out .now) (sym (check .ensures) ∙ ap checked (enum-told .given .1))
+    (slot-written (a .pool .now) _ (a .size) (a .index) wordsInUse i (λ ws e. in-use-length ws (omega (arith, f .first .half .room, half-body right (a .t), e)) ∙ e) (write .ensures .0))
+    (rw (slot-part (a .pool .now) (a .size) (a .index)) at (write .ensures .1))
 
 pub right-first-spec : {M : Type 1} → statement M
 right-first-spec =

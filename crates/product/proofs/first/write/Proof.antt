@@ -24,7 +24,9 @@ part-subtract-residues-start : tie.Need-part-subtract-residues-start
 part-subtract-residues-start c = search needs
 
 part-subtract-residues-end : tie.Need-part-subtract-residues-end
-part-subtract-residues-end c = omega (arith, right-size (c .before .before .before .before .before .args .t .m) (c .before .before .before .before .before .args .t .k) (c .before .before .before .before .before .args .t .p), c .before .times .ensures, c .before .before .before .before .before .pre .1)
+part-subtract-residues-end c =
+    let a = c .before .before .before .before .before .args in
+    omega (arith, right-size (a .t .m) (a .t .k) (a .t .p), c .before .times .ensures, c .before .before .before .before .before .pre .1)
 
 subtract-residues-requires : tie.Need-subtract-residues-requires
 subtract-residues-requires c κs =
@@ -41,7 +43,9 @@ subtract-residues-requires c κs =
     )
 
 take-up-requires : tie.Need-take-up-requires
-take-up-requires c κs = omega (arith, right-size (c .before .before .before .before .before .before .before .before .before .before .before .args .t .m) (c .before .before .before .before .before .before .before .before .before .before .before .args .t .k) (c .before .before .before .before .before .before .before .before .before .before .before .args .t .p), c .before .before .before .before .before .before .before .before .before .before .before .pre .1)
+take-up-requires c κs =
+    let a = c .before .before .before .before .before .before .before .before .before .before .before .args in
+    omega (arith, right-size (a .t .m) (a .t .k) (a .t .p), c .before .before .before .before .before .before .before .before .before .before .before .pre .1)
 
 same-length : tie.Need-same-length
 same-length c = search needs
@@ -51,7 +55,9 @@ same-length-2 c = search needs
 
 returns : tie.Need-returns
 unfolding sendY
-returns c = (c .before .before .take-up .ensures, rw (c .before .before .before .before .before .before .before .before .before .before .times .ensures, first-matrix right (c .before .before .before .before .before .before .before .before .before .before .before .before .before .before .args .t) (c .before .before .before .before .before .before .before .before .before .before .before .before .before .before .args .slot .now) (c .before .before .before .before .before .before .before .before .before .before .before .before .before .before .args .t .k * c .before .before .before .before .before .before .before .before .before .before .before .before .before .before .args .t .p) (c .before .before .before .before .before .before .before .before .before .before .before .before .before .before .args .t .m * c .before .before .before .before .before .before .before .before .before .before .before .before .before .before .args .t .p) refl) at (c .before .before .before .before .before .before .subtract-residues .ensures))
+returns c =
+    let a = c .before .before .before .before .before .before .before .before .before .before .before .before .before .before .args in
+    (c .before .before .take-up .ensures, rw (c .before .before .before .before .before .before .before .before .before .before .times .ensures, first-matrix right (a .t) (a .slot .now) (a .t .k * a .t .p) (a .t .m * a .t .p) refl) at (c .before .before .before .before .before .before .subtract-residues .ensures))
 
 pub write-spec : {M : Type 1} → statement M
 write-spec =

@@ -35,16 +35,28 @@ same-length c = search needs
 
 returns : tie.Need-returns
 unfolding rightLast
-returns c = rw (c .answer-of .ensures, c .before .enum-told2 .given .1, c .before .before .before .no-head .ensures) (sym (refused-leaves (c .before .before .before .before .before .before .before .before .before .args .s) (slotAt (c .before .before .before .before .before .before .before .before .before .args .pool .now) (c .before .before .before .before .before .before .before .before .before .args .size) (c .before .before .before .before .before .before .before .before .before .args .index)) [] [] (c .before .before .before .before .before .before .before .before .before .args .share .now) _ (rightLastEffect (c .before .before .before .before .before .before .before .before .before .args .s) (slotAt (c .before .before .before .before .before .before .before .before .before .args .pool .now) (c .before .before .before .before .before .before .before .before .before .args .size) (c .before .before .before .before .before .before .before .before .before .args .index)) (record { head = c .before .before .before .before .before .before .before .before .before .args .a; residues = c .before .before .before .before .before .before .before .before .before .args .residues .now })) (sym (c .before .before .before .before .check .ensures) ∙ ap checked (c .before .enum-told2 .given .1))))
+returns c =
+    let a = c .before .before .before .before .before .before .before .before .before .args in
+    let s = slotAt (a .pool .now) (a .size) (a .index) in
+    rw (c .answer-of .ensures, c .before .enum-told2 .given .1, c .before .before .before .no-head .ensures) (sym (refused-leaves (a .s) s [] [] (a .share .now) _ (rightLastEffect (a .s) s (record { head = a .a; residues = a .residues .now })) (sym (c .before .before .before .before .check .ensures) ∙ ap checked (c .before .enum-told2 .given .1))))
 
 mul-at : tie.Need-mul-at
-mul-at c = let i = slot-room (slotAt (c .before .before .before .before .before .before .before .before .before .args .pool .now) (c .before .before .before .before .before .before .before .before .before .args .size) (c .before .before .before .before .before .before .before .before .before .args .index)) (last-known (c .before .before .before .before .before .before .before .before .before .args .s) (slotAt (c .before .before .before .before .before .before .before .before .before .args .pool .now) (c .before .before .before .before .before .before .before .before .before .args .size) (c .before .before .before .before .before .before .before .before .before .args .index)) (record { head = c .before .before .before .before .before .before .before .before .before .args .a; residues = c .before .before .before .before .before .before .before .before .before .args .residues .now }) (length (c .before .before .before .before .before .before .before .before .before .args .share .now)) (sym (c .before .before .before .before .check .ensures) ∙ ap checked (c .before .enum-told .given .1)) .later .session-open .half .inside) in search needs
+mul-at c =
+    let a = c .before .before .before .before .before .before .before .before .before .args in
+    let s = slotAt (a .pool .now) (a .size) (a .index) in
+    let i = slot-room s (last-known (a .s) s (record { head = a .a; residues = a .residues .now }) (length (a .share .now)) (sym (c .before .before .before .before .check .ensures) ∙ ap checked (c .before .enum-told .given .1)) .later .session-open .half .inside) in search needs
 
 add-end : tie.Need-add-end
-add-end c = let i = slot-room (slotAt (c .before .before .before .before .before .before .before .before .before .args .pool .now) (c .before .before .before .before .before .before .before .before .before .args .size) (c .before .before .before .before .before .before .before .before .before .args .index)) (last-known (c .before .before .before .before .before .before .before .before .before .args .s) (slotAt (c .before .before .before .before .before .before .before .before .before .args .pool .now) (c .before .before .before .before .before .before .before .before .before .args .size) (c .before .before .before .before .before .before .before .before .before .args .index)) (record { head = c .before .before .before .before .before .before .before .before .before .args .a; residues = c .before .before .before .before .before .before .before .before .before .args .residues .now }) (length (c .before .before .before .before .before .before .before .before .before .args .share .now)) (sym (c .before .before .before .before .check .ensures) ∙ ap checked (c .before .enum-told .given .1)) .later .session-open .half .inside) in search needs
+add-end c =
+    let a = c .before .before .before .before .before .before .before .before .before .args in
+    let s = slotAt (a .pool .now) (a .size) (a .index) in
+    let i = slot-room s (last-known (a .s) s (record { head = a .a; residues = a .residues .now }) (length (a .share .now)) (sym (c .before .before .before .before .check .ensures) ∙ ap checked (c .before .enum-told .given .1)) .later .session-open .half .inside) in search needs
 
 mul-write : tie.Need-mul-write
-mul-write c = let i = slot-room (slotAt (c .before .before .before .before .before .before .before .before .before .args .pool .now) (c .before .before .before .before .before .before .before .before .before .args .size) (c .before .before .before .before .before .before .before .before .before .args .index)) (last-known (c .before .before .before .before .before .before .before .before .before .args .s) (slotAt (c .before .before .before .before .before .before .before .before .before .args .pool .now) (c .before .before .before .before .before .before .before .before .before .args .size) (c .before .before .before .before .before .before .before .before .before .args .index)) (record { head = c .before .before .before .before .before .before .before .before .before .args .a; residues = c .before .before .before .before .before .before .before .before .before .args .residues .now }) (length (c .before .before .before .before .before .before .before .before .before .args .share .now)) (sym (c .before .before .before .before .check .ensures) ∙ ap checked (c .before .enum-told .given .1)) .later .session-open .half .inside) in search needs
+mul-write c =
+    let a = c .before .before .before .before .before .before .before .before .before .args in
+    let s = slotAt (a .pool .now) (a .size) (a .index) in
+    let i = slot-room s (last-known (a .s) s (record { head = a .a; residues = a .residues .now }) (length (a .share .now)) (sym (c .before .before .before .before .check .ensures) ∙ ap checked (c .before .enum-told .given .1)) .later .session-open .half .inside) in search needs
 
 sub-write : tie.Need-sub-write
 sub-write c = search needs
@@ -53,12 +65,18 @@ part-write-start : tie.Need-part-write-start
 part-write-start c = search needs
 
 part-write-end : tie.Need-part-write-end
-part-write-end c = let i = slot-room (slotAt (c .before .before .before .before .before .before .before .before .before .args .pool .now) (c .before .before .before .before .before .before .before .before .before .args .size) (c .before .before .before .before .before .before .before .before .before .args .index)) (last-known (c .before .before .before .before .before .before .before .before .before .args .s) (slotAt (c .before .before .before .before .before .before .before .before .before .args .pool .now) (c .before .before .before .before .before .before .before .before .before .args .size) (c .before .before .before .before .before .before .before .before .before .args .index)) (record { head = c .before .before .before .before .before .before .before .before .before .args .a; residues = c .before .before .before .before .before .before .before .before .before .args .residues .now }) (length (c .before .before .before .before .before .before .before .before .before .args .share .now)) (sym (c .before .before .before .before .check .ensures) ∙ ap checked (c .before .enum-told .given .1)) .later .session-open .half .inside) in search needs
+part-write-end c =
+    let a = c .before .before .before .before .before .before .before .before .before .args in
+    let s = slotAt (a .pool .now) (a .size) (a .index) in
+    let i = slot-room s (last-known (a .s) s (record { head = a .a; residues = a .residues .now }) (length (a .share .now)) (sym (c .before .before .before .before .check .ensures) ∙ ap checked (c .before .enum-told .given .1)) .later .session-open .half .inside) in search needs
 
 write-requires : tie.Need-write-requires
-write-requires c κs = let f = last-known (c .before .before .before .before .before .before .before .before .before .before .before .args .s) (slotAt (c .before .before .before .before .before .before .before .before .before .before .before .args .pool .now) (c .before .before .before .before .before .before .before .before .before .before .before .args .size) (c .before .before .before .before .before .before .before .before .before .before .before .args .index)) (record { head = c .before .before .before .before .before .before .before .before .before .before .before .args .a; residues = c .before .before .before .before .before .before .before .before .before .before .before .args .residues .now }) (length (c .before .before .before .before .before .before .before .before .before .before .before .args .share .now)) (sym (c .before .before .before .before .before .before .check .ensures) ∙ ap checked (c .before .before .before .enum-told .given .1)) in
-    let i = slot-room (slotAt (c .before .before .before .before .before .before .before .before .before .before .before .args .pool .now) (c .before .before .before .before .before .before .before .before .before .before .before .args .size) (c .before .before .before .before .before .before .before .before .before .before .before .args .index)) (f .later .session-open .half .inside) in
-    (last-shape (c .before .before .before .before .before .before .before .before .before .before .before .args .s) (slotAt (c .before .before .before .before .before .before .before .before .before .before .before .args .pool .now) (c .before .before .before .before .before .before .before .before .before .before .before .args .size) (c .before .before .before .before .before .before .before .before .before .before .before .args .index)) (record { head = c .before .before .before .before .before .before .before .before .before .before .before .args .a; residues = c .before .before .before .before .before .before .before .before .before .before .before .args .residues .now }) (length (c .before .before .before .before .before .before .before .before .before .before .before .args .share .now)) _ f (slot-part-length (c .before .before .before .before .before .before .before .before .before .before .before .args .pool .now) (c .before .before .before .before .before .before .before .before .before .before .before .args .size) (c .before .before .before .before .before .before .before .before .before .before .before .args .index) i), f .later .session-open .terms .sides)
+write-requires c κs =
+    let a = c .before .before .before .before .before .before .before .before .before .before .before .args in
+    let s = slotAt (a .pool .now) (a .size) (a .index) in
+    let f = last-known (a .s) s (record { head = a .a; residues = a .residues .now }) (length (a .share .now)) (sym (c .before .before .before .before .before .before .check .ensures) ∙ ap checked (c .before .before .before .enum-told .given .1)) in
+    let i = slot-room s (f .later .session-open .half .inside) in
+    (last-shape (a .s) s (record { head = a .a; residues = a .residues .now }) (length (a .share .now)) _ f (slot-part-length (a .pool .now) (a .size) (a .index) i), f .later .session-open .terms .sides)
 
 same-length-2 : tie.Need-same-length-2
 same-length-2 c = search needs
@@ -67,13 +85,19 @@ same-length-3 : tie.Need-same-length-3
 same-length-3 c = search needs
 
 returns-2 : tie.Need-returns-2
-returns-2 c = let f = last-known (c .before .before .before .before .before .before .before .before .before .before .before .before .before .before .before .before .args .s) (slotAt (c .before .before .before .before .before .before .before .before .before .before .before .before .before .before .before .before .args .pool .now) (c .before .before .before .before .before .before .before .before .before .before .before .before .before .before .before .before .args .size) (c .before .before .before .before .before .before .before .before .before .before .before .before .before .before .before .before .args .index)) (record { head = c .before .before .before .before .before .before .before .before .before .before .before .before .before .before .before .before .args .a; residues = c .before .before .before .before .before .before .before .before .before .before .before .before .before .before .before .before .args .residues .now }) (length (c .before .before .before .before .before .before .before .before .before .before .before .before .before .before .before .before .args .share .now)) (sym (c .before .before .before .before .before .before .before .before .before .before .before .check .ensures) ∙ ap checked (c .before .before .before .before .before .before .before .before .enum-told .given .1)) in
-    let i = slot-room (slotAt (c .before .before .before .before .before .before .before .before .before .before .before .before .before .before .before .before .args .pool .now) (c .before .before .before .before .before .before .before .before .before .before .before .before .before .before .before .before .args .size) (c .before .before .before .before .before .before .before .before .before .before .before .before .before .before .before .before .args .index)) (f .later .session-open .half .inside) in
+returns-2 c =
+    let a = c .before .before .before .before .before .before .before .before .before .before .before .before .before .before .before .before .args in
+    let check = c .before .before .before .before .before .before .before .before .before .before .before .check in
+    let enum-told = c .before .before .before .before .before .before .before .before .enum-told in
+    let write = c .before .before .before .before .write in
+    let s = slotAt (a .pool .now) (a .size) (a .index) in
+    let f = last-known (a .s) s (record { head = a .a; residues = a .residues .now }) (length (a .share .now)) (sym (check .ensures) ∙ ap checked (enum-told .given .1)) in
+    let i = slot-room s (f .later .session-open .half .inside) in
     rw (c .before .before .before .before .before .before .before .before .before .before .no-head .ensures)
-    (last-done (c .before .before .before .before .before .before .before .before .before .before .before .before .before .before .before .before .args .s) (slotAt (c .before .before .before .before .before .before .before .before .before .before .before .before .before .before .before .before .args .pool .now) (c .before .before .before .before .before .before .before .before .before .before .before .before .before .before .before .before .args .size) (c .before .before .before .before .before .before .before .before .before .before .before .before .before .before .before .before .args .index)) (record { head = c .before .before .before .before .before .before .before .before .before .before .before .before .before .before .before .before .args .a; residues = c .before .before .before .before .before .before .before .before .before .before .before .before .before .before .before .before .args .residues .now }) (c .before .before .before .before .before .before .before .before .before .before .before .before .before .before .before .before .args .share .now) (sym (c .before .before .before .before .before .before .before .before .before .before .before .check .ensures) ∙ ap checked (c .before .before .before .before .before .before .before .before .enum-told .given .1))
-    (f .message .residues .size ∙ sym (size-2 (c .before .before .before .before .before .before .before .before .before .before .before .before .before .before .before .before .args .s .terms)))
-    (slot-written (c .before .before .before .before .before .before .before .before .before .before .before .before .before .before .before .before .args .pool .now) _ (c .before .before .before .before .before .before .before .before .before .before .before .before .before .before .before .before .args .size) (c .before .before .before .before .before .before .before .before .before .before .before .before .before .before .before .before .args .index) (wordsSpent right (c .before .before .before .before .before .before .before .before .before .before .before .before .before .before .before .before .args .s .terms)) i (λ ws e. spent-keeps right (c .before .before .before .before .before .before .before .before .before .before .before .before .before .before .before .before .args .s .terms) ws (omega (arith, f .later .session-open .half .room, e)) ∙ e) (c .before .before .before .before .write .ensures .0))
-    (rw (slot-part (c .before .before .before .before .before .before .before .before .before .before .before .before .before .before .before .before .args .pool .now) (c .before .before .before .before .before .before .before .before .before .before .before .before .before .before .before .before .args .size) (c .before .before .before .before .before .before .before .before .before .before .before .before .before .before .before .before .args .index)) at (c .before .before .before .before .write .ensures .1)))
+    (last-done (a .s) s (record { head = a .a; residues = a .residues .now }) (a .share .now) (sym (check .ensures) ∙ ap checked (enum-told .given .1))
+    (f .message .residues .size ∙ sym (size-2 (a .s .terms)))
+    (slot-written (a .pool .now) _ (a .size) (a .index) (wordsSpent right (a .s .terms)) i (λ ws e. spent-keeps right (a .s .terms) ws (omega (arith, f .later .session-open .half .room, e)) ∙ e) (write .ensures .0))
+    (rw (slot-part (a .pool .now) (a .size) (a .index)) at (write .ensures .1)))
 
 pub right-last-spec : {M : Type 1} → statement M
 right-last-spec =

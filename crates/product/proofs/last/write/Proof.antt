@@ -74,6 +74,9 @@ part-write-share-end-3 c = search needs
 
 write-share-requires : tie.Need-write-share-requires
 write-share-requires c κs =
+    let times = c .before .before .before .before .before .before .before .before .before .before .before .times in
+    let times2 = c .before .before .before .before .before .before .before .before .before .before .times2 in
+    let times3 = c .before .before .before .before .before .before .before .before .before .times3 in
     let p = c .before .before .before .before .before .before .before .before .before .before .before .before .before .before .before .pre .0 in (
       record {
         some-q = p .some-q;
@@ -81,16 +84,19 @@ write-share-requires c κs =
         some-p = p .some-p;
         few-k = p .few-k;
         few-y = p .few-kp;
-        full-x = simp length-take (omega (arith, c .before .before .before .before .before .before .before .before .before .before .before .times .ensures, c .before .before .before .before .before .before .before .before .before .before .times2 .ensures, c .before .before .before .before .before .before .before .before .before .times3 .ensures, p .full));
-        full-y = simp (length-take, length-drop) (omega (arith, c .before .before .before .before .before .before .before .before .before .before .before .times .ensures, c .before .before .before .before .before .before .before .before .before .before .times2 .ensures, c .before .before .before .before .before .before .before .before .before .times3 .ensures, p .half));
+        full-x = simp length-take (omega (arith, times .ensures, times2 .ensures, times3 .ensures, p .full));
+        full-y = simp (length-take, length-drop) (omega (arith, times .ensures, times2 .ensures, times3 .ensures, p .half));
         room = p .room;
       },
-      simp (length-take, length-drop) (omega (arith, c .before .before .before .before .before .before .before .before .before .before .before .times .ensures, c .before .before .before .before .before .before .before .before .before .before .times2 .ensures, c .before .before .before .before .before .before .before .before .before .times3 .ensures, p .full)),
-      simp (length-take, length-drop) (omega (arith, c .before .before .before .before .before .before .before .before .before .before .before .times .ensures, c .before .before .before .before .before .before .before .before .before .before .times2 .ensures, c .before .before .before .before .before .before .before .before .before .times3 .ensures, p .half)),
+      simp (length-take, length-drop) (omega (arith, times .ensures, times2 .ensures, times3 .ensures, p .full)),
+      simp (length-take, length-drop) (omega (arith, times .ensures, times2 .ensures, times3 .ensures, p .half)),
     )
 
 spend-requires : tie.Need-spend-requires
-spend-requires c κs = (c .before .before .before .before .before .before .before .before .before .before .before .before .before .before .before .before .before .before .before .pre .1, omega (arith, c .before .before .before .before .before .before .before .before .before .before .before .before .before .before .before .before .before .before .before .pre .0 .half, right-size (c .before .before .before .before .before .before .before .before .before .before .before .before .before .before .before .before .before .before .before .args .t .m) (c .before .before .before .before .before .before .before .before .before .before .before .before .before .before .before .before .before .before .before .args .t .k) (c .before .before .before .before .before .before .before .before .before .before .before .before .before .before .before .before .before .before .before .args .t .p)))
+spend-requires c κs =
+    let a = c .before .before .before .before .before .before .before .before .before .before .before .before .before .before .before .before .before .before .before .args in
+    let h = c .before .before .before .before .before .before .before .before .before .before .before .before .before .before .before .before .before .before .before .pre in
+    (h .1, omega (arith, h .0 .half, right-size (a .t .m) (a .t .k) (a .t .p)))
 
 same-length : tie.Need-same-length
 same-length c = search needs
@@ -100,7 +106,9 @@ same-length-2 c = search needs
 
 returns : tie.Need-returns
 unfolding rightShare
-returns c = (c .before .before .spend .ensures, rw (c .before .before .before .before .before .before .before .before .before .before .before .before .before .before .before .before .before .before .times .ensures, c .before .before .before .before .before .before .before .before .before .before .before .before .before .before .before .before .before .times2 .ensures, c .before .before .before .before .before .before .before .before .before .before .before .before .before .before .before .before .times3 .ensures, first-matrix right (c .before .before .before .before .before .before .before .before .before .before .before .before .before .before .before .before .before .before .before .before .before .before .args .t) (c .before .before .before .before .before .before .before .before .before .before .before .before .before .before .before .before .before .before .before .before .before .before .args .slot .now) (c .before .before .before .before .before .before .before .before .before .before .before .before .before .before .before .before .before .before .before .before .before .before .args .t .k * c .before .before .before .before .before .before .before .before .before .before .before .before .before .before .before .before .before .before .before .before .before .before .args .t .p) (c .before .before .before .before .before .before .before .before .before .before .before .before .before .before .before .before .before .before .before .before .before .before .args .t .m * c .before .before .before .before .before .before .before .before .before .before .before .before .before .before .before .before .before .before .before .before .before .before .args .t .p) refl, second-matrix right (c .before .before .before .before .before .before .before .before .before .before .before .before .before .before .before .before .before .before .before .before .before .before .args .t) (c .before .before .before .before .before .before .before .before .before .before .before .before .before .before .before .before .before .before .before .before .before .before .args .slot .now) (c .before .before .before .before .before .before .before .before .before .before .before .before .before .before .before .before .before .before .before .before .before .before .args .t .k * c .before .before .before .before .before .before .before .before .before .before .before .before .before .before .before .before .before .before .before .before .before .before .args .t .p) (c .before .before .before .before .before .before .before .before .before .before .before .before .before .before .before .before .before .before .before .before .before .before .args .t .m * c .before .before .before .before .before .before .before .before .before .before .before .before .before .before .before .before .before .before .before .before .before .before .args .t .p) refl, tail-part (c .before .before .before .before .before .before .before .before .before .before .before .before .before .before .before .before .before .before .before .before .before .before .args .t .m * c .before .before .before .before .before .before .before .before .before .before .before .before .before .before .before .before .before .before .before .before .before .before .args .t .k) (c .before .before .before .before .before .before .before .before .before .before .before .before .before .before .before .before .before .before .before .before .before .before .args .residues .now)) at (c .before .before .before .before .before .before .write-share .ensures))
+returns c =
+    let a = c .before .before .before .before .before .before .before .before .before .before .before .before .before .before .before .before .before .before .before .before .before .before .args in
+    (c .before .before .spend .ensures, rw (c .before .before .before .before .before .before .before .before .before .before .before .before .before .before .before .before .before .before .times .ensures, c .before .before .before .before .before .before .before .before .before .before .before .before .before .before .before .before .before .times2 .ensures, c .before .before .before .before .before .before .before .before .before .before .before .before .before .before .before .before .times3 .ensures, first-matrix right (a .t) (a .slot .now) (a .t .k * a .t .p) (a .t .m * a .t .p) refl, second-matrix right (a .t) (a .slot .now) (a .t .k * a .t .p) (a .t .m * a .t .p) refl, tail-part (a .t .m * a .t .k) (a .residues .now)) at (c .before .before .before .before .before .before .write-share .ensures))
 
 pub write-spec : {M : Type 1} → statement M
 write-spec =

@@ -18,11 +18,15 @@ enum-told-2 c = search needs
 
 returns : tie.Need-returns
 unfolding drawTests
-returns c = judged-true Dry ((enough-many (c .before .before .before .before .args .q) (c .before .before .before .before .args .n) (c .before .before .before .before .args .words .now) (sym (c .before .before .read .ensures) ∙ c .enum-told .given .1)) .0)
+returns c =
+    let a = c .before .before .before .before .args in
+    judged-true Dry ((enough-many (a .q) (a .n) (a .words .now) (sym (c .before .before .read .ensures) ∙ c .enum-told .given .1)) .0)
 
 returns-2 : tie.Need-returns-2
 unfolding drawTests
-returns-2 c = judged-false Dry (dry-few (c .before .before .before .before .args .q) (c .before .before .before .before .args .n) (c .before .before .before .before .args .words .now) (sym (c .before .before .read .ensures) ∙ c .enum-told2 .given .1))
+returns-2 c =
+    let a = c .before .before .before .before .args in
+    judged-false Dry (dry-few (a .q) (a .n) (a .words .now) (sym (c .before .before .read .ensures) ∙ c .enum-told2 .given .1))
 
 pub check-coins-spec : {M : Type 1} → statement M
 check-coins-spec = tie.close (tie.spec read-requires enum-told enum-told-2 returns returns-2)

@@ -37,16 +37,28 @@ same-length c = search needs
 
 returns : tie.Need-returns
 unfolding leftStep
-returns c = rw (c .before .answer-of .ensures, c .before .before .enum-told2 .given .1, c .no-head .ensures) (sym (refused-leaves tt (slotAt (c .before .before .before .before .before .before .before .before .before .before .before .before .args .pool .now) (c .before .before .before .before .before .before .before .before .before .before .before .before .args .size) (c .before .before .before .before .before .before .before .before .before .before .before .before .args .index)) [] (c .before .before .before .before .before .before .before .before .before .before .before .before .args .out .now) (c .before .before .before .before .before .before .before .before .before .before .before .before .args .share .now) _ (leftEffect (c .before .before .before .before .before .before .before .before .before .before .before .before .args .t) (slotAt (c .before .before .before .before .before .before .before .before .before .before .before .before .args .pool .now) (c .before .before .before .before .before .before .before .before .before .before .before .before .args .size) (c .before .before .before .before .before .before .before .before .before .before .before .before .args .index)) (c .before .before .before .before .before .before .before .before .before .before .before .before .args .x .now) (c .before .before .before .before .before .before .before .before .before .before .before .before .args .words .now) (record { head = c .before .before .before .before .before .before .before .before .before .before .before .before .args .a; residues = c .before .before .before .before .before .before .before .before .before .before .before .before .args .residues .now })) (sym (c .before .before .before .before .check .ensures) ∙ ap checked (c .before .before .enum-told2 .given .1))))
+returns c =
+    let a = c .before .before .before .before .before .before .before .before .before .before .before .before .args in
+    let s = slotAt (a .pool .now) (a .size) (a .index) in
+    rw (c .before .answer-of .ensures, c .before .before .enum-told2 .given .1, c .no-head .ensures) (sym (refused-leaves tt s [] (a .out .now) (a .share .now) _ (leftEffect (a .t) s (a .x .now) (a .words .now) (record { head = a .a; residues = a .residues .now })) (sym (c .before .before .before .before .check .ensures) ∙ ap checked (c .before .before .enum-told2 .given .1))))
 
 mul-at : tie.Need-mul-at
-mul-at c = let i = slot-room (slotAt (c .before .before .before .before .before .before .before .before .before .before .args .pool .now) (c .before .before .before .before .before .before .before .before .before .before .args .size) (c .before .before .before .before .before .before .before .before .before .before .args .index)) (left-known (c .before .before .before .before .before .before .before .before .before .before .args .t) (slotAt (c .before .before .before .before .before .before .before .before .before .before .args .pool .now) (c .before .before .before .before .before .before .before .before .before .before .args .size) (c .before .before .before .before .before .before .before .before .before .before .args .index)) (c .before .before .before .before .before .before .before .before .before .before .args .x .now) (c .before .before .before .before .before .before .before .before .before .before .args .words .now) (record { head = c .before .before .before .before .before .before .before .before .before .before .args .a; residues = c .before .before .before .before .before .before .before .before .before .before .args .residues .now }) (length (c .before .before .before .before .before .before .before .before .before .before .args .out .now)) (length (c .before .before .before .before .before .before .before .before .before .before .args .share .now)) (sym (c .before .before .check .ensures) ∙ ap checked (c .enum-told .given .1)) .first .half .inside) in search needs
+mul-at c =
+    let a = c .before .before .before .before .before .before .before .before .before .before .args in
+    let s = slotAt (a .pool .now) (a .size) (a .index) in
+    let i = slot-room s (left-known (a .t) s (a .x .now) (a .words .now) (record { head = a .a; residues = a .residues .now }) (length (a .out .now)) (length (a .share .now)) (sym (c .before .before .check .ensures) ∙ ap checked (c .enum-told .given .1)) .first .half .inside) in search needs
 
 add-end : tie.Need-add-end
-add-end c = let i = slot-room (slotAt (c .before .before .before .before .before .before .before .before .before .before .args .pool .now) (c .before .before .before .before .before .before .before .before .before .before .args .size) (c .before .before .before .before .before .before .before .before .before .before .args .index)) (left-known (c .before .before .before .before .before .before .before .before .before .before .args .t) (slotAt (c .before .before .before .before .before .before .before .before .before .before .args .pool .now) (c .before .before .before .before .before .before .before .before .before .before .args .size) (c .before .before .before .before .before .before .before .before .before .before .args .index)) (c .before .before .before .before .before .before .before .before .before .before .args .x .now) (c .before .before .before .before .before .before .before .before .before .before .args .words .now) (record { head = c .before .before .before .before .before .before .before .before .before .before .args .a; residues = c .before .before .before .before .before .before .before .before .before .before .args .residues .now }) (length (c .before .before .before .before .before .before .before .before .before .before .args .out .now)) (length (c .before .before .before .before .before .before .before .before .before .before .args .share .now)) (sym (c .before .before .check .ensures) ∙ ap checked (c .enum-told .given .1)) .first .half .inside) in search needs
+add-end c =
+    let a = c .before .before .before .before .before .before .before .before .before .before .args in
+    let s = slotAt (a .pool .now) (a .size) (a .index) in
+    let i = slot-room s (left-known (a .t) s (a .x .now) (a .words .now) (record { head = a .a; residues = a .residues .now }) (length (a .out .now)) (length (a .share .now)) (sym (c .before .before .check .ensures) ∙ ap checked (c .enum-told .given .1)) .first .half .inside) in search needs
 
 mul-write : tie.Need-mul-write
-mul-write c = let i = slot-room (slotAt (c .before .before .before .before .before .before .before .before .before .before .args .pool .now) (c .before .before .before .before .before .before .before .before .before .before .args .size) (c .before .before .before .before .before .before .before .before .before .before .args .index)) (left-known (c .before .before .before .before .before .before .before .before .before .before .args .t) (slotAt (c .before .before .before .before .before .before .before .before .before .before .args .pool .now) (c .before .before .before .before .before .before .before .before .before .before .args .size) (c .before .before .before .before .before .before .before .before .before .before .args .index)) (c .before .before .before .before .before .before .before .before .before .before .args .x .now) (c .before .before .before .before .before .before .before .before .before .before .args .words .now) (record { head = c .before .before .before .before .before .before .before .before .before .before .args .a; residues = c .before .before .before .before .before .before .before .before .before .before .args .residues .now }) (length (c .before .before .before .before .before .before .before .before .before .before .args .out .now)) (length (c .before .before .before .before .before .before .before .before .before .before .args .share .now)) (sym (c .before .before .check .ensures) ∙ ap checked (c .enum-told .given .1)) .first .half .inside) in search needs
+mul-write c =
+    let a = c .before .before .before .before .before .before .before .before .before .before .args in
+    let s = slotAt (a .pool .now) (a .size) (a .index) in
+    let i = slot-room s (left-known (a .t) s (a .x .now) (a .words .now) (record { head = a .a; residues = a .residues .now }) (length (a .out .now)) (length (a .share .now)) (sym (c .before .before .check .ensures) ∙ ap checked (c .enum-told .given .1)) .first .half .inside) in search needs
 
 sub-write : tie.Need-sub-write
 sub-write c = search needs
@@ -55,7 +67,10 @@ part-write-start : tie.Need-part-write-start
 part-write-start c = search needs
 
 part-write-end : tie.Need-part-write-end
-part-write-end c = let i = slot-room (slotAt (c .before .before .before .before .before .before .before .before .before .before .args .pool .now) (c .before .before .before .before .before .before .before .before .before .before .args .size) (c .before .before .before .before .before .before .before .before .before .before .args .index)) (left-known (c .before .before .before .before .before .before .before .before .before .before .args .t) (slotAt (c .before .before .before .before .before .before .before .before .before .before .args .pool .now) (c .before .before .before .before .before .before .before .before .before .before .args .size) (c .before .before .before .before .before .before .before .before .before .before .args .index)) (c .before .before .before .before .before .before .before .before .before .before .args .x .now) (c .before .before .before .before .before .before .before .before .before .before .args .words .now) (record { head = c .before .before .before .before .before .before .before .before .before .before .args .a; residues = c .before .before .before .before .before .before .before .before .before .before .args .residues .now }) (length (c .before .before .before .before .before .before .before .before .before .before .args .out .now)) (length (c .before .before .before .before .before .before .before .before .before .before .args .share .now)) (sym (c .before .before .check .ensures) ∙ ap checked (c .enum-told .given .1)) .first .half .inside) in search needs
+part-write-end c =
+    let a = c .before .before .before .before .before .before .before .before .before .before .args in
+    let s = slotAt (a .pool .now) (a .size) (a .index) in
+    let i = slot-room s (left-known (a .t) s (a .x .now) (a .words .now) (record { head = a .a; residues = a .residues .now }) (length (a .out .now)) (length (a .share .now)) (sym (c .before .before .check .ensures) ∙ ap checked (c .enum-told .given .1)) .first .half .inside) in search needs
 
 write-requires : tie.Need-write-requires
 write-requires c κs =
@@ -80,14 +95,20 @@ same-length-4 : tie.Need-same-length-4
 same-length-4 c = search needs
 
 returns-2 : tie.Need-returns-2
-returns-2 c = let f = left-known (c .before .before .before .before .before .before .before .before .before .before .before .before .before .before .before .before .before .before .before .before .args .t) (slotAt (c .before .before .before .before .before .before .before .before .before .before .before .before .before .before .before .before .before .before .before .before .args .pool .now) (c .before .before .before .before .before .before .before .before .before .before .before .before .before .before .before .before .before .before .before .before .args .size) (c .before .before .before .before .before .before .before .before .before .before .before .before .before .before .before .before .before .before .before .before .args .index)) (c .before .before .before .before .before .before .before .before .before .before .before .before .before .before .before .before .before .before .before .before .args .x .now) (c .before .before .before .before .before .before .before .before .before .before .before .before .before .before .before .before .before .before .before .before .args .words .now) (record { head = c .before .before .before .before .before .before .before .before .before .before .before .before .before .before .before .before .before .before .before .before .args .a; residues = c .before .before .before .before .before .before .before .before .before .before .before .before .before .before .before .before .before .before .before .before .args .residues .now }) (length (c .before .before .before .before .before .before .before .before .before .before .before .before .before .before .before .before .before .before .before .before .args .out .now)) (length (c .before .before .before .before .before .before .before .before .before .before .before .before .before .before .before .before .before .before .before .before .args .share .now)) (sym (c .before .before .before .before .before .before .before .before .before .before .before .before .check .ensures) ∙ ap checked (c .before .before .before .before .before .before .before .before .before .before .enum-told .given .1)) in
-    let i = slot-room (slotAt (c .before .before .before .before .before .before .before .before .before .before .before .before .before .before .before .before .before .before .before .before .args .pool .now) (c .before .before .before .before .before .before .before .before .before .before .before .before .before .before .before .before .before .before .before .before .args .size) (c .before .before .before .before .before .before .before .before .before .before .before .before .before .before .before .before .before .before .before .before .args .index)) (f .first .half .inside) in
-    left-done (c .before .before .before .before .before .before .before .before .before .before .before .before .before .before .before .before .before .before .before .before .args .t) (slotAt (c .before .before .before .before .before .before .before .before .before .before .before .before .before .before .before .before .before .before .before .before .args .pool .now) (c .before .before .before .before .before .before .before .before .before .before .before .before .before .before .before .before .before .before .before .before .args .size) (c .before .before .before .before .before .before .before .before .before .before .before .before .before .before .before .before .before .before .before .before .args .index)) (c .before .before .before .before .before .before .before .before .before .before .before .before .before .before .before .before .before .before .before .before .args .x .now) (c .before .before .before .before .before .before .before .before .before .before .before .before .before .before .before .before .before .before .before .before .args .words .now) (record { head = c .before .before .before .before .before .before .before .before .before .before .before .before .before .before .before .before .before .before .before .before .args .a; residues = c .before .before .before .before .before .before .before .before .before .before .before .before .before .before .before .before .before .before .before .before .args .residues .now }) (c .before .before .before .before .before .before .before .before .before .before .before .before .before .before .before .before .before .before .before .before .args .out .now) (c .before .before .before .before .before .before .before .before .before .before .before .before .before .before .before .before .before .before .before .before .args .share .now) (sym (c .before .before .before .before .before .before .before .before .before .before .before .before .check .ensures) ∙ ap checked (c .before .before .before .before .before .before .before .before .before .before .enum-told .given .1))
-    (whole-message (c .before .before .before .before .before .before .before .before .before .before .before .before .before .before .before .before .before .before .before .before .args .t) (record { head = c .before .before .before .before .before .before .before .before .before .before .before .before .before .before .before .before .before .before .before .before .args .a; residues = c .before .before .before .before .before .before .before .before .before .before .before .before .before .before .before .before .before .before .before .before .args .residues .now }) (f .message .residues .size ∙ sym (size-1 (c .before .before .before .before .before .before .before .before .before .before .before .before .before .before .before .before .before .before .before .before .args .t))))
-    (c .before .before .before .before .before .before .write .ensures .0)
-    (slot-written (c .before .before .before .before .before .before .before .before .before .before .before .before .before .before .before .before .before .before .before .before .args .pool .now) _ (c .before .before .before .before .before .before .before .before .before .before .before .before .before .before .before .before .before .before .before .before .args .size) (c .before .before .before .before .before .before .before .before .before .before .before .before .before .before .before .before .before .before .before .before .args .index) (wordsSpent left (c .before .before .before .before .before .before .before .before .before .before .before .before .before .before .before .before .before .before .before .before .args .t)) i (λ ws e. spent-keeps left (c .before .before .before .before .before .before .before .before .before .before .before .before .before .before .before .before .before .before .before .before .args .t) ws (omega (arith, f .first .half .room, e)) ∙ e) (c .before .before .before .before .before .before .write .ensures .1 .0))
-    (rw (slot-part (c .before .before .before .before .before .before .before .before .before .before .before .before .before .before .before .before .before .before .before .before .args .pool .now) (c .before .before .before .before .before .before .before .before .before .before .before .before .before .before .before .before .before .before .before .before .args .size) (c .before .before .before .before .before .before .before .before .before .before .before .before .before .before .before .before .before .before .before .before .args .index)) at (c .before .before .before .before .before .before .write .ensures .1 .1 .0))
-    (c .before .before .before .before .before .before .write .ensures .1 .1 .1)
+returns-2 c =
+    let a = c .before .before .before .before .before .before .before .before .before .before .before .before .before .before .before .before .before .before .before .before .args in
+    let check = c .before .before .before .before .before .before .before .before .before .before .before .before .check in
+    let enum-told = c .before .before .before .before .before .before .before .before .before .before .enum-told in
+    let write = c .before .before .before .before .before .before .write in
+    let s = slotAt (a .pool .now) (a .size) (a .index) in
+    let f = left-known (a .t) s (a .x .now) (a .words .now) (record { head = a .a; residues = a .residues .now }) (length (a .out .now)) (length (a .share .now)) (sym (check .ensures) ∙ ap checked (enum-told .given .1)) in
+    let i = slot-room s (f .first .half .inside) in
+    left-done (a .t) s (a .x .now) (a .words .now) (record { head = a .a; residues = a .residues .now }) (a .out .now) (a .share .now) (sym (check .ensures) ∙ ap checked (enum-told .given .1))
+    (whole-message (a .t) (record { head = a .a; residues = a .residues .now }) (f .message .residues .size ∙ sym (size-1 (a .t))))
+    (write .ensures .0)
+    (slot-written (a .pool .now) _ (a .size) (a .index) (wordsSpent left (a .t)) i (λ ws e. spent-keeps left (a .t) ws (omega (arith, f .first .half .room, e)) ∙ e) (write .ensures .1 .0))
+    (rw (slot-part (a .pool .now) (a .size) (a .index)) at (write .ensures .1 .1 .0))
+    (write .ensures .1 .1 .1)
 
 pub left-step-spec : {M : Type 1} → statement M
 left-step-spec =

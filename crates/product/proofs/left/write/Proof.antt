@@ -21,18 +21,26 @@ slice-reshare-prefix-write-message c = search needs
 
 slice-aggregate-write-message : tie.Need-slice-aggregate-write-message
 slice-aggregate-write-message c =
-    let few : c .before .before .before .before .before .times .result ≤ length (residuesOf (c .before .before .before .before .before .before .before .before .before .before .before .before .args .t .q) (c .before .before .before .before .before .before .before .before .before .before .before .before .args .words .now)) = omega (arith, c .before .before .before .before .before .times .ensures, c .before .before .before .before .before .before .before .before .before .before .before .before .pre .2) in
-    let u = coins-part _ _ (c .before .before .before .before .before .before .before .before .before .before .before .before .args .words .now) _ _ few (c .before .before .before .draw .ensures .1) in
+    let a = c .before .before .before .before .before .before .before .before .before .before .before .before .args in
+    let times = c .before .before .before .before .before .times in
+    let few : times .result ≤ length (residuesOf (a .t .q) (a .words .now)) = omega (arith, times .ensures, c .before .before .before .before .before .before .before .before .before .before .before .before .pre .2) in
+    let u = coins-part _ _ (a .words .now) _ _ few (c .before .before .before .draw .ensures .1) in
     sym (ap length u ∙ drawn-count _ _ _ few)
 
 write-message-requires : tie.Need-write-message-requires
 write-message-requires c κs =
-    let few : c .before .before .before .before .before .before .before .times .result ≤ length (residuesOf (c .before .before .before .before .before .before .before .before .before .before .before .before .before .before .args .t .q) (c .before .before .before .before .before .before .before .before .before .before .before .before .before .before .args .words .now)) = omega (arith, c .before .before .before .before .before .before .before .times .ensures, c .before .before .before .before .before .before .before .before .before .before .before .before .before .before .pre .2) in
-    let u = coins-part _ _ (c .before .before .before .before .before .before .before .before .before .before .before .before .before .before .args .words .now) _ _ few (c .before .before .before .before .before .draw .ensures .1) in
-    (c .before .before .before .before .before .before .before .before .before .before .before .before .before .before .pre .0, ap length u ∙ (drawn-count _ _ _ few ∙ c .before .before .before .before .before .before .before .times .ensures), c .before .before .before .before .before .before .before .before .before .before .before .before .before .before .pre .4)
+    let a = c .before .before .before .before .before .before .before .before .before .before .before .before .before .before .args in
+    let h = c .before .before .before .before .before .before .before .before .before .before .before .before .before .before .pre in
+    let times = c .before .before .before .before .before .before .before .times in
+    let few : times .result ≤ length (residuesOf (a .t .q) (a .words .now)) = omega (arith, times .ensures, h .2) in
+    let u = coins-part _ _ (a .words .now) _ _ few (c .before .before .before .before .before .draw .ensures .1) in
+    (h .0, ap length u ∙ (drawn-count _ _ _ few ∙ times .ensures), h .4)
 
 spend-requires : tie.Need-spend-requires
-spend-requires c κs = (c .before .before .before .before .before .before .before .before .before .before .before .before .before .before .before .before .before .before .pre .1, omega (arith, c .before .before .before .before .before .before .before .before .before .before .before .before .before .before .before .before .before .before .pre .0 .half, left-size (c .before .before .before .before .before .before .before .before .before .before .before .before .before .before .before .before .before .before .args .t .m) (c .before .before .before .before .before .before .before .before .before .before .before .before .before .before .before .before .before .before .args .t .k) (c .before .before .before .before .before .before .before .before .before .before .before .before .before .before .before .before .before .before .args .t .p)))
+spend-requires c κs =
+    let a = c .before .before .before .before .before .before .before .before .before .before .before .before .before .before .before .before .before .before .args in
+    let h = c .before .before .before .before .before .before .before .before .before .before .before .before .before .before .before .before .before .before .pre in
+    (h .1, omega (arith, h .0 .half, left-size (a .t .m) (a .t .k) (a .t .p)))
 
 same-length : tie.Need-same-length
 same-length c = search needs
@@ -45,9 +53,12 @@ same-length-3 c = search needs
 
 returns : tie.Need-returns
 returns c =
-    let few : c .before .before .before .before .before .before .before .before .before .before .before .before .before .before .times .result ≤ length (residuesOf (c .before .before .before .before .before .before .before .before .before .before .before .before .before .before .before .before .before .before .before .before .before .args .t .q) (c .before .before .before .before .before .before .before .before .before .before .before .before .before .before .before .before .before .before .before .before .before .args .words .now)) = omega (arith, c .before .before .before .before .before .before .before .before .before .before .before .before .before .before .times .ensures, c .before .before .before .before .before .before .before .before .before .before .before .before .before .before .before .before .before .before .before .before .before .pre .2) in
-    let u = coins-part _ _ (c .before .before .before .before .before .before .before .before .before .before .before .before .before .before .before .before .before .before .before .before .before .args .words .now) _ _ few (c .before .before .before .before .before .before .before .before .before .before .before .before .draw .ensures .1) in
-    (rw (c .before .before .before .before .before .before .before .before .before .before .before .before .before .before .times .ensures) at (c .before .before .before .before .before .before .before .before .before .before .before .before .draw .ensures .0), (c .before .before .spend .ensures, (rw (u, c .before .before .before .before .before .before .before .before .before .before .before .before .before .before .times .ensures) at (c .before .before .before .before .before .before .write-message .ensures), rw (c .before .before .before .before .before .before .before .before .before .before .before .before .before .before .times .ensures) at (c .before .before .before .before .before .before .before .before .before .before .before .before .draw .ensures .1))))
+    let a = c .before .before .before .before .before .before .before .before .before .before .before .before .before .before .before .before .before .before .before .before .before .args in
+    let draw = c .before .before .before .before .before .before .before .before .before .before .before .before .draw in
+    let times = c .before .before .before .before .before .before .before .before .before .before .before .before .before .before .times in
+    let few : times .result ≤ length (residuesOf (a .t .q) (a .words .now)) = omega (arith, times .ensures, c .before .before .before .before .before .before .before .before .before .before .before .before .before .before .before .before .before .before .before .before .before .pre .2) in
+    let u = coins-part _ _ (a .words .now) _ _ few (draw .ensures .1) in
+    (rw (times .ensures) at (draw .ensures .0), (c .before .before .spend .ensures, (rw (u, times .ensures) at (c .before .before .before .before .before .before .write-message .ensures), rw (times .ensures) at (draw .ensures .1))))
 
 pub write-spec : {M : Type 1} → statement M
 write-spec =

@@ -93,14 +93,17 @@ same-length c = search needs
 returns : tie.Need-returns
 unfolding sendX sendR
 returns c =
-    let mask = ap (λ (n : ℕ). take (7 + n - 7) (drop 7 (c .before .before .before .before .before .before .before .before .before .before .before .before .before .before .before .before .before .before .before .before .args .slot .now))) (c .before .before .before .before .before .before .before .before .before .before .before .before .before .before .times .ensures) ∙ first-matrix left (c .before .before .before .before .before .before .before .before .before .before .before .before .before .before .before .before .before .before .before .before .args .t) (c .before .before .before .before .before .before .before .before .before .before .before .before .before .before .before .before .before .before .before .before .args .slot .now) (c .before .before .before .before .before .before .before .before .before .before .before .before .before .before .before .before .before .before .before .before .args .t .m * c .before .before .before .before .before .before .before .before .before .before .before .before .before .before .before .before .before .before .before .before .args .t .k) (c .before .before .before .before .before .before .before .before .before .before .before .before .before .before .before .before .before .before .before .before .args .t .m * c .before .before .before .before .before .before .before .before .before .before .before .before .before .before .before .before .before .before .before .before .args .t .p) refl in
-    let sent : _≡_ {A = List ℕ} _ (over (matAdd (c .before .before .before .before .before .before .before .before .before .before .before .before .before .before .before .before .before .before .before .before .args .t .q) (c .before .before .before .before .before .before .before .before .before .before .before .before .before .before .times .result) (c .before .before .before .before .before .before .before .before .before .before .before .before .before .before .before .before .before .before .before .before .args .x .now) (take (7 + c .before .before .before .before .before .before .before .before .before .before .before .before .before .before .times .result - 7) (drop 7 (c .before .before .before .before .before .before .before .before .before .before .before .before .before .before .before .before .before .before .before .before .args .slot .now)))) (c .before .before .before .before .before .before .before .before .before .before .before .before .before .before .before .before .before .before .before .before .args .out .now)) = c .before .before .before .before .before .before .before .before .before .before .add-residues .ensures in
-    let e1 = sent ∙ ap₂ (λ (n : ℕ) (a : List ℕ). over (matAdd (c .before .before .before .before .before .before .before .before .before .before .before .before .before .before .before .before .before .before .before .before .args .t .q) n (c .before .before .before .before .before .before .before .before .before .before .before .before .before .before .before .before .before .before .before .before .args .x .now) a) (c .before .before .before .before .before .before .before .before .before .before .before .before .before .before .before .before .before .before .before .before .args .out .now)) (c .before .before .before .before .before .before .before .before .before .before .before .before .before .before .times .ensures) mask in
-    let e2 = rw (c .before .before .before .before .before .before .before .before .before .before .before .before .before .before .times .ensures, c .before .before .before .before .before .before .before .before .before .before .before .before .before .times2 .ensures, second-matrix left (c .before .before .before .before .before .before .before .before .before .before .before .before .before .before .before .before .before .before .before .before .args .t) (c .before .before .before .before .before .before .before .before .before .before .before .before .before .before .before .before .before .before .before .before .args .slot .now) (c .before .before .before .before .before .before .before .before .before .before .before .before .before .before .before .before .before .before .before .before .args .t .m * c .before .before .before .before .before .before .before .before .before .before .before .before .before .before .before .before .before .before .before .before .args .t .k) (c .before .before .before .before .before .before .before .before .before .before .before .before .before .before .before .before .before .before .before .before .args .t .m * c .before .before .before .before .before .before .before .before .before .before .before .before .before .before .before .before .before .before .before .before .args .t .p) refl) at (c .before .before .write-reply .ensures) in
-    let full = sum-residues (c .before .before .before .before .before .before .before .before .before .before .before .before .before .before .before .before .before .before .before .before .pre .0 .some-q) (c .before .before .before .before .before .before .before .before .before .before .before .before .before .before .before .before .before .before .before .before .args .t .m * c .before .before .before .before .before .before .before .before .before .before .before .before .before .before .before .before .before .before .before .before .args .t .k) (c .before .before .before .before .before .before .before .before .before .before .before .before .before .before .before .before .before .before .before .before .args .x .now) (_) .size in
-    rw (c .before .before .before .before .before .before .before .before .before .before .before .before .before .before .times .ensures)
-    (part-then _ _ (c .before .before .before .before .before .before .before .before .before .before .before .before .before .before .before .before .before .before .before .before .args .out .now) _ _ (c .before .before .before .before .before .before .before .before .before .before .before .before .before .before .before .before .before .before .before .before .args .t .m * c .before .before .before .before .before .before .before .before .before .before .before .before .before .before .before .before .before .before .before .before .args .t .k) full
-    (omega (arith, ap length e1 ∙ over-length _ (c .before .before .before .before .before .before .before .before .before .before .before .before .before .before .before .before .before .before .before .before .args .out .now) (omega (arith, full, c .before .before .before .before .before .before .before .before .before .before .before .before .before .before .before .before .before .before .before .before .pre .0 .room)), c .before .before .before .before .before .before .before .before .before .before .before .before .before .before .before .before .before .before .before .before .pre .0 .room)) e1 e2)
+    let arg = c .before .before .before .before .before .before .before .before .before .before .before .before .before .before .before .before .before .before .before .before .args in
+    let h = c .before .before .before .before .before .before .before .before .before .before .before .before .before .before .before .before .before .before .before .before .pre in
+    let times = c .before .before .before .before .before .before .before .before .before .before .before .before .before .before .times in
+    let mask = ap (λ (n : ℕ). take (7 + n - 7) (drop 7 (arg .slot .now))) (times .ensures) ∙ first-matrix left (arg .t) (arg .slot .now) (arg .t .m * arg .t .k) (arg .t .m * arg .t .p) refl in
+    let sent : _≡_ {A = List ℕ} _ (over (matAdd (arg .t .q) (times .result) (arg .x .now) (take (7 + times .result - 7) (drop 7 (arg .slot .now)))) (arg .out .now)) = c .before .before .before .before .before .before .before .before .before .before .add-residues .ensures in
+    let e1 = sent ∙ ap₂ (λ (n : ℕ) (a : List ℕ). over (matAdd (arg .t .q) n (arg .x .now) a) (arg .out .now)) (times .ensures) mask in
+    let e2 = rw (times .ensures, c .before .before .before .before .before .before .before .before .before .before .before .before .before .times2 .ensures, second-matrix left (arg .t) (arg .slot .now) (arg .t .m * arg .t .k) (arg .t .m * arg .t .p) refl) at (c .before .before .write-reply .ensures) in
+    let full = sum-residues (h .0 .some-q) (arg .t .m * arg .t .k) (arg .x .now) (_) .size in
+    rw (times .ensures)
+    (part-then _ _ (arg .out .now) _ _ (arg .t .m * arg .t .k) full
+    (omega (arith, ap length e1 ∙ over-length _ (arg .out .now) (omega (arith, full, h .0 .room)), h .0 .room)) e1 e2)
 
 pub write-message-spec : {M : Type 1} → statement M
 write-message-spec =

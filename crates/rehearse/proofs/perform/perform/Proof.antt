@@ -62,7 +62,13 @@ slice-aggregate-play-6 : tie.Need-slice-aggregate-play-6
 slice-aggregate-play-6 c = let a = c .before .before .before .before .before .before .before .before .before .before .before .before .before .before .before .args in let b = bounds (a .t) (a .x .now) (a .y .now) (a .dealer .now) (a .coins .now) (c .before .before .before .before .before .before .before .before .before .before .before .before .before .before .before .pre .0) in sym (length-take-le _ _ (omega (arith, b .few-mp, c .before .before .before .before .before .before .before .before .times2 .ensures, length-replicate {A = ℕ} 1024 0)))
 
 play-requires : tie.Need-play-requires
-play-requires c κs = let a = c .before .before .before .before .before .before .before .before .before .before .before .before .before .before .before .before .args in let b = bounds (a .t) (a .x .now) (a .y .now) (a .dealer .now) (a .coins .now) (c .before .before .before .before .before .before .before .before .before .before .before .before .before .before .before .before .pre .0) in (c .before .before .before .before .before .before .before .before .before .before .before .before .before .before .before .before .pre .0, pool-taken (a .t) (c .before .before .before .before .before .before .before .slot-size .result) 3079 (c .before .before .before .before .before .before .before .slot-size .ensures .1) (c .before .before .before .before .before .before .before .slot-size .ensures .0), pool-taken (a .t) (c .before .before .before .before .before .before .before .slot-size .result) 3079 (c .before .before .before .before .before .before .before .slot-size .ensures .1) (c .before .before .before .before .before .before .before .slot-size .ensures .0), rooms-taken (a .t) (c .before .before .before .before .before .before .before .before .before .before .times .result) (c .before .before .before .before .before .before .before .before .times3 .result + c .before .before .before .before .before .before .before .before .before .times2 .result) (c .before .before .before .before .before .before .before .before .before .times2 .result) (omega (arith, b .few-kp, c .before .before .before .before .before .before .before .before .before .before .times .ensures)) (omega (arith, b .few-mk, b .few-mp, c .before .before .before .before .before .before .before .before .before .times2 .ensures, c .before .before .before .before .before .before .before .before .times3 .ensures)) (omega (arith, b .few-mp, c .before .before .before .before .before .before .before .before .before .times2 .ensures)) (c .before .before .before .before .before .before .before .before .before .before .times .ensures) (omega (arith, c .before .before .before .before .before .before .before .before .before .times2 .ensures, c .before .before .before .before .before .before .before .before .times3 .ensures)) (c .before .before .before .before .before .before .before .before .before .times2 .ensures), c .before .before .before .before .before .before .before .before .before .before .before .before .before .before .before .before .pre .1)
+play-requires c κs =
+    let h = c .before .before .before .before .before .before .before .before .before .before .before .before .before .before .before .before .pre in
+    let slot-size = c .before .before .before .before .before .before .before .slot-size in
+    let times = c .before .before .before .before .before .before .before .before .before .before .times in
+    let times2 = c .before .before .before .before .before .before .before .before .before .times2 in
+    let times3 = c .before .before .before .before .before .before .before .before .times3 in
+    let a = c .before .before .before .before .before .before .before .before .before .before .before .before .before .before .before .before .args in let b = bounds (a .t) (a .x .now) (a .y .now) (a .dealer .now) (a .coins .now) (h .0) in (h .0, pool-taken (a .t) (slot-size .result) 3079 (slot-size .ensures .1) (slot-size .ensures .0), pool-taken (a .t) (slot-size .result) 3079 (slot-size .ensures .1) (slot-size .ensures .0), rooms-taken (a .t) (times .result) (times3 .result + times2 .result) (times2 .result) (omega (arith, b .few-kp, times .ensures)) (omega (arith, b .few-mk, b .few-mp, times2 .ensures, times3 .ensures)) (omega (arith, b .few-mp, times2 .ensures)) (times .ensures) (omega (arith, times2 .ensures, times3 .ensures)) (times2 .ensures), h .1)
 
 same-length : tie.Need-same-length
 same-length c = search needs

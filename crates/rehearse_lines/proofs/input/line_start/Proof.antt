@@ -29,10 +29,14 @@ loop-less : tie.Need-loop-less Inv-loop μ-loop
 loop-less c = search needs
 
 loop-again : tie.Need-loop-again Inv-loop μ-loop
-loop-again c = let s = c .before .before .before .before .args .s .now in let n = c .before .before .before .before .args .n in let l = c .before .before .loop in let z : suc (n - (l .i + 1)) ≡ n - l .i = omega arith in (omega arith, omega (arith, c .line-end .ensures, first-fits s (l .at) (l .inv .1)), ap (λ (a : ℕ). lineAt (n - (l .i + 1)) (drop a s)) (c .line-end .ensures) ∙ sym (line-next s (n - (l .i + 1)) (l .at)) ∙ ap (λ (k : ℕ). lineAt k (drop (l .at) s)) z ∙ l .inv .2)
+loop-again c =
+    let arg = c .before .before .before .before .args in
+    let s = arg .s .now in let n = arg .n in let l = c .before .before .loop in let z : suc (n - (l .i + 1)) ≡ n - l .i = omega arith in (omega arith, omega (arith, c .line-end .ensures, first-fits s (l .at) (l .inv .1)), ap (λ (a : ℕ). lineAt (n - (l .i + 1)) (drop a s)) (c .line-end .ensures) ∙ sym (line-next s (n - (l .i + 1)) (l .at)) ∙ ap (λ (k : ℕ). lineAt k (drop (l .at) s)) z ∙ l .inv .2)
 
 returns : tie.Need-returns Inv-loop μ-loop
-returns c = let s = c .before .before .before .args .s .now in let n = c .before .before .before .args .n in let l = c .before .loop in let z : n - l .i ≡ 0 = omega arith in (l .inv .1, sym (l .inv .2) ∙ ap (λ (k : ℕ). lineAt k (drop (l .at) s)) z ∙ line-zero (drop (l .at) s))
+returns c =
+    let a = c .before .before .before .args in
+    let s = a .s .now in let n = a .n in let l = c .before .loop in let z : n - l .i ≡ 0 = omega arith in (l .inv .1, sym (l .inv .2) ∙ ap (λ (k : ℕ). lineAt k (drop (l .at) s)) z ∙ line-zero (drop (l .at) s))
 
 pub line-start-spec : {M : Type 1} → statement M
 line-start-spec =

@@ -33,7 +33,11 @@ same-length : tie.Need-same-length
 same-length c = search needs
 
 returns : tie.Need-returns
-returns c = tallied-as 0 _ _ (c .before .before .before .before .before .before .before .before .before .args .out .now) (c .before .before .load .last .1 .0) (c .before .before .load .result) (ap numbersOf (sym (line-part (c .before .before .before .before .before .before .before .before .before .args .s .now) (c .before .before .before .before .before .before .before .before .before .args .n) (c .before .before .before .before .before .before .line-start .result) (c .before .before .before .before .before .line-end .result) (c .before .before .before .before .before .before .line-start .ensures .1) (c .before .before .before .before .before .line-end .ensures)))) (c .before .before .load .ensures)
+returns c =
+    let a = c .before .before .before .before .before .before .before .before .before .args in
+    let line-end = c .before .before .before .before .before .line-end in
+    let line-start = c .before .before .before .before .before .before .line-start in
+    tallied-as 0 _ _ (a .out .now) (c .before .before .load .last .1 .0) (c .before .before .load .result) (ap numbersOf (sym (line-part (a .s .now) (a .n) (line-start .result) (line-end .result) (line-start .ensures .1) (line-end .ensures)))) (c .before .before .load .ensures)
 
 pub load-line-spec : {M : Type 1} → statement M
 load-line-spec =

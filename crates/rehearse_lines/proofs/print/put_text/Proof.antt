@@ -25,7 +25,9 @@ add-out : tie.Need-add-out Inv-loop μ-loop
 add-out c = search needs
 
 slice-write-out : tie.Need-slice-write-out Inv-loop μ-loop
-slice-write-out c = omega (arith, ap length (c .before .before .loop .inv .0), length-sets (c .before .before .before .args .out .now) (c .before .before .before .args .at) (take (c .before .before .loop .j) (c .before .before .before .args .text .now)))
+slice-write-out c =
+    let a = c .before .before .before .args in
+    omega (arith, ap length (c .before .before .loop .inv .0), length-sets (a .out .now) (a .at) (take (c .before .before .loop .j) (a .text .now)))
 
 add-j : tie.Need-add-j Inv-loop μ-loop
 add-j c = search needs
@@ -40,10 +42,14 @@ add-result : tie.Need-add-result Inv-loop μ-loop
 add-result c = search needs
 
 same-length : tie.Need-same-length Inv-loop μ-loop
-same-length c = ap length (c .before .loop .inv .0) ∙ length-sets (c .before .before .args .out .now) (c .before .before .args .at) (take (c .before .loop .j) (c .before .before .args .text .now))
+same-length c =
+    let a = c .before .before .args in
+    ap length (c .before .loop .inv .0) ∙ length-sets (a .out .now) (a .at) (take (c .before .loop .j) (a .text .now))
 
 returns : tie.Need-returns Inv-loop μ-loop
-returns c = (omega arith, c .before .loop .inv .0 ∙ ap (sets (c .before .before .args .out .now) (c .before .before .args .at)) (take-all (c .before .loop .j) (c .before .before .args .text .now) (c .loop-test .left)))
+returns c =
+    let a = c .before .before .args in
+    (omega arith, c .before .loop .inv .0 ∙ ap (sets (a .out .now) (a .at)) (take-all (c .before .loop .j) (a .text .now) (c .loop-test .left)))
 
 pub put-text-spec : {M : Type 1} → statement M
 put-text-spec =

@@ -73,9 +73,10 @@ swapped kind s p q e = rw e (once (within 1 5 kind) (within 2 largestModulus q) 
 
 made : tie.After-worst3 → Judged Unit
 made c =
-    judged (tests.needs Form (within 1 5 (c .before .before .before .before .before .before .before .before .before .before .before .args .a .kind))
-    ∷ tests.needs Modulus (within 2 largestModulus (c .before .before .before .before .before .before .before .before .before .before .before .args .q))
-    ∷ tests.needs Composite (both (fieldFits (kindSort (c .before .before .before .before .before .before .before .before .before .before .before .args .a .kind)) (c .before .before .before .before .before .before .before .before .before .before .before .args .q)) (fieldFits (sort (c .before .before .before .before .before .before .before .before .before .before .before .args .end)) (c .before .before .before .before .before .before .before .before .before .before .before .args .q)))
+    let a = c .before .before .before .before .before .before .before .before .before .before .before .args in
+    judged (tests.needs Form (within 1 5 (a .a .kind))
+    ∷ tests.needs Modulus (within 2 largestModulus (a .q))
+    ∷ tests.needs Composite (both (fieldFits (kindSort (a .a .kind)) (a .q)) (fieldFits (sort (a .end)) (a .q)))
     ∷ [])
 
 simply : (c : tie.After-worst3) → checked (c .worst3 .result) ≡ made c

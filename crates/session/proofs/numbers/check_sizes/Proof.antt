@@ -23,11 +23,15 @@ enum-told-2 c = search needs
 
 returns : tie.Need-returns
 unfolding numberTests idTests placeTests
-returns c = hands-on (c .before .before .check-ids .result) _ (rw (c .before .before .before .sides-fit .ensures) at (c .before .before .check-ids .ensures)) (c .enum-told2 .given .1) ∙ sym (sizes-phases (sort (c .before .before .before .before .args .end)) (role (c .before .before .before .before .args .end)) (c .before .before .before .before .args .t) (c .before .before .before .before .args .pool) (c .before .before .before .before .args .size) (c .before .before .before .before .args .index))
+returns c =
+    let a = c .before .before .before .before .args in
+    hands-on (c .before .before .check-ids .result) _ (rw (c .before .before .before .sides-fit .ensures) at (c .before .before .check-ids .ensures)) (c .enum-told2 .given .1) ∙ sym (sizes-phases (sort (a .end)) (role (a .end)) (a .t) (a .pool) (a .size) (a .index))
 
 returns-2 : tie.Need-returns-2
 unfolding numberTests idTests placeTests
-returns-2 c = sym (sizes-phases (sort (c .before .before .before .before .before .args .end)) (role (c .before .before .before .before .before .args .end)) (c .before .before .before .before .before .args .t) (c .before .before .before .before .before .args .pool) (c .before .before .before .before .before .args .size) (c .before .before .before .before .before .args .index) ∙ goes-past (c .before .before .before .check-ids .result) (rw (c .before .before .before .before .sides-fit .ensures) at (c .before .before .before .check-ids .ensures)) (c .before .enum-told .given .1) ∙ no-place (role (c .before .before .before .before .before .args .end)) (c .before .before .before .before .before .args .t) (c .before .before .before .before .before .args .pool) (c .before .before .before .before .before .args .size) (c .before .before .before .before .before .args .index) (c .if1 .taken))
+returns-2 c =
+    let a = c .before .before .before .before .before .args in
+    sym (sizes-phases (sort (a .end)) (role (a .end)) (a .t) (a .pool) (a .size) (a .index) ∙ goes-past (c .before .before .before .check-ids .result) (rw (c .before .before .before .before .sides-fit .ensures) at (c .before .before .before .check-ids .ensures)) (c .before .enum-told .given .1) ∙ no-place (role (a .end)) (a .t) (a .pool) (a .size) (a .index) (c .if1 .taken))
 
 div-need : tie.Need-div-need
 div-need c = search needs
@@ -47,7 +51,10 @@ worst-requires c κs = search needs
 
 returns-3 : tie.Need-returns-3
 unfolding numberTests idTests placeTests
-returns-3 c = simp (c .worst .ensures, c .before .before .before .need .ensures, c .before .need2 .ensures, c .before .before .half-size .ensures) (sym (judged-cons _ _ _)) ∙ sym (sizes-phases (sort (c .before .before .before .before .before .before .before .before .before .args .end)) (role (c .before .before .before .before .before .before .before .before .before .args .end)) (c .before .before .before .before .before .before .before .before .before .args .t) (c .before .before .before .before .before .before .before .before .before .args .pool) (c .before .before .before .before .before .before .before .before .before .args .size) (c .before .before .before .before .before .before .before .before .before .args .index) ∙ goes-past (c .before .before .before .before .before .before .before .check-ids .result) (rw (c .before .before .before .before .before .before .before .before .sides-fit .ensures) at (c .before .before .before .before .before .before .before .check-ids .ensures)) (c .before .before .before .before .before .enum-told .given .1))
+returns-3 c =
+    let a = c .before .before .before .before .before .before .before .before .before .args in
+    let check-ids = c .before .before .before .before .before .before .before .check-ids in
+    simp (c .worst .ensures, c .before .before .before .need .ensures, c .before .need2 .ensures, c .before .before .half-size .ensures) (sym (judged-cons _ _ _)) ∙ sym (sizes-phases (sort (a .end)) (role (a .end)) (a .t) (a .pool) (a .size) (a .index) ∙ goes-past (check-ids .result) (rw (c .before .before .before .before .before .before .before .before .sides-fit .ensures) at (check-ids .ensures)) (c .before .before .before .before .before .enum-told .given .1))
 
 pub check-sizes-spec : {M : Type 1} → statement M
 check-sizes-spec =

@@ -38,7 +38,9 @@ is-prime-requires c κs = search needs
 
 returns-2 : tie.Need-returns-2
 unfolding fieldFits
-returns-2 c = rw (system-kind (c .before .before .args .kind) (c .before .if1 .left)) (c .is-prime .ensures ∙ joined (sort (c .before .before .args .end)) (c .before .before .args .q))
+returns-2 c =
+    let a = c .before .before .args in
+    rw (system-kind (a .kind) (c .before .if1 .left)) (c .is-prime .ensures ∙ joined (sort (a .end)) (a .q))
 
 pub fields-fit-spec : {M : Type 1} → statement M
 fields-fit-spec = tie.close (tie.spec field-fits-requires returns is-prime-requires returns-2)

@@ -19,49 +19,73 @@ enum-told : tie.Need-enum-told
 enum-told c = search needs
 
 add-result : tie.Need-add-result
-add-result c = let s = sides-of (sort (c .before .before .before .before .before .args .end)) (c .before .before .before .before .before .args .t .m) (c .before .before .before .before .before .args .t .k) (c .before .before .before .before .before .args .t .p) (c .before .before .before .before .before .pre) in omega (arith, s .few-mk, s .few-kp, s .few-mp, c .before .before .before .before .times .ensures, c .before .before .before .times2 .ensures, c .before .before .times3 .ensures)
+add-result c =
+    let a = c .before .before .before .before .before .args in
+    let s = sides-of (sort (a .end)) (a .t .m) (a .t .k) (a .t .p) (c .before .before .before .before .before .pre) in omega (arith, s .few-mk, s .few-kp, s .few-mp, c .before .before .before .before .times .ensures, c .before .before .before .times2 .ensures, c .before .before .times3 .ensures)
 
 add-result-2 : tie.Need-add-result-2
-add-result-2 c = let s = sides-of (sort (c .before .before .before .before .before .args .end)) (c .before .before .before .before .before .args .t .m) (c .before .before .before .before .before .args .t .k) (c .before .before .before .before .before .args .t .p) (c .before .before .before .before .before .pre) in omega (arith, s .few-mk, s .few-kp, s .few-mp, c .before .before .before .before .times .ensures, c .before .before .before .times2 .ensures, c .before .before .times3 .ensures)
+add-result-2 c =
+    let a = c .before .before .before .before .before .args in
+    let s = sides-of (sort (a .end)) (a .t .m) (a .t .k) (a .t .p) (c .before .before .before .before .before .pre) in omega (arith, s .few-mk, s .few-kp, s .few-mp, c .before .before .before .before .times .ensures, c .before .before .before .times2 .ensures, c .before .before .times3 .ensures)
 
 enum-told-2 : tie.Need-enum-told-2
 enum-told-2 c = search needs
 
 add-result-3 : tie.Need-add-result-3
-add-result-3 c = let s = sides-of (sort (c .before .before .before .before .before .args .end)) (c .before .before .before .before .before .args .t .m) (c .before .before .before .before .before .args .t .k) (c .before .before .before .before .before .args .t .p) (c .before .before .before .before .before .pre) in omega (arith, s .few-mk, s .few-kp, s .few-mp, c .before .before .before .before .times .ensures, c .before .before .before .times2 .ensures, c .before .before .times3 .ensures)
+add-result-3 c =
+    let a = c .before .before .before .before .before .args in
+    let s = sides-of (sort (a .end)) (a .t .m) (a .t .k) (a .t .p) (c .before .before .before .before .before .pre) in omega (arith, s .few-mk, s .few-kp, s .few-mp, c .before .before .before .before .times .ensures, c .before .before .before .times2 .ensures, c .before .before .times3 .ensures)
 
 add-result-4 : tie.Need-add-result-4
-add-result-4 c = let s = sides-of (sort (c .before .before .before .before .before .args .end)) (c .before .before .before .before .before .args .t .m) (c .before .before .before .before .before .args .t .k) (c .before .before .before .before .before .args .t .p) (c .before .before .before .before .before .pre) in omega (arith, s .few-mk, s .few-kp, s .few-mp, c .before .before .before .before .times .ensures, c .before .before .before .times2 .ensures, c .before .before .times3 .ensures)
+add-result-4 c =
+    let a = c .before .before .before .before .before .args in
+    let s = sides-of (sort (a .end)) (a .t .m) (a .t .k) (a .t .p) (c .before .before .before .before .before .pre) in omega (arith, s .few-mk, s .few-kp, s .few-mp, c .before .before .before .before .times .ensures, c .before .before .before .times2 .ensures, c .before .before .times3 .ensures)
 
 enum-told-3 : tie.Need-enum-told-3
 enum-told-3 c = search needs
 
 add-result-5 : tie.Need-add-result-5
-add-result-5 c = let s = sides-of (sort (c .before .before .before .before .before .args .end)) (c .before .before .before .before .before .args .t .m) (c .before .before .before .before .before .args .t .k) (c .before .before .before .before .before .args .t .p) (c .before .before .before .before .before .pre) in omega (arith, s .few-mk, s .few-kp, s .few-mp, c .before .before .before .before .times .ensures, c .before .before .before .times2 .ensures, c .before .before .times3 .ensures)
+add-result-5 c =
+    let a = c .before .before .before .before .before .args in
+    let s = sides-of (sort (a .end)) (a .t .m) (a .t .k) (a .t .p) (c .before .before .before .before .before .pre) in omega (arith, s .few-mk, s .few-kp, s .few-mp, c .before .before .before .before .times .ensures, c .before .before .before .times2 .ensures, c .before .before .times3 .ensures)
 
 add-result-6 : tie.Need-add-result-6
-add-result-6 c = let s = sides-of (sort (c .before .before .before .before .before .args .end)) (c .before .before .before .before .before .args .t .m) (c .before .before .before .before .before .args .t .k) (c .before .before .before .before .before .args .t .p) (c .before .before .before .before .before .pre) in omega (arith, s .few-mk, s .few-kp, s .few-mp, c .before .before .before .before .times .ensures, c .before .before .before .times2 .ensures, c .before .before .times3 .ensures)
+add-result-6 c =
+    let a = c .before .before .before .before .before .args in
+    let s = sides-of (sort (a .end)) (a .t .m) (a .t .k) (a .t .p) (c .before .before .before .before .before .pre) in omega (arith, s .few-mk, s .few-kp, s .few-mp, c .before .before .before .before .times .ensures, c .before .before .before .times2 .ensures, c .before .before .times3 .ensures)
 
 add-result-7 : tie.Need-add-result-7
-add-result-7 c = let s = sides-of (sort (c .before .before .before .before .before .args .end)) (c .before .before .before .before .before .args .t .m) (c .before .before .before .before .before .args .t .k) (c .before .before .before .before .before .args .t .p) (c .before .before .before .before .before .pre) in omega (arith, s .few-mk, s .few-kp, s .few-mp, c .before .before .before .before .times .ensures, c .before .before .before .times2 .ensures, c .before .before .times3 .ensures)
+add-result-7 c =
+    let a = c .before .before .before .before .before .args in
+    let s = sides-of (sort (a .end)) (a .t .m) (a .t .k) (a .t .p) (c .before .before .before .before .before .pre) in omega (arith, s .few-mk, s .few-kp, s .few-mp, c .before .before .before .before .times .ensures, c .before .before .before .times2 .ensures, c .before .before .times3 .ensures)
 
 add-result-8 : tie.Need-add-result-8
-add-result-8 c = let s = sides-of (sort (c .before .before .before .before .before .args .end)) (c .before .before .before .before .before .args .t .m) (c .before .before .before .before .before .args .t .k) (c .before .before .before .before .before .args .t .p) (c .before .before .before .before .before .pre) in omega (arith, s .few-mk, s .few-kp, s .few-mp, c .before .before .before .before .times .ensures, c .before .before .before .times2 .ensures, c .before .before .times3 .ensures)
+add-result-8 c =
+    let a = c .before .before .before .before .before .args in
+    let s = sides-of (sort (a .end)) (a .t .m) (a .t .k) (a .t .p) (c .before .before .before .before .before .pre) in omega (arith, s .few-mk, s .few-kp, s .few-mp, c .before .before .before .before .times .ensures, c .before .before .before .times2 .ensures, c .before .before .times3 .ensures)
 
 enum-told-4 : tie.Need-enum-told-4
 enum-told-4 c = search needs
 
 add-result-9 : tie.Need-add-result-9
-add-result-9 c = let s = sides-of (sort (c .before .before .before .before .before .args .end)) (c .before .before .before .before .before .args .t .m) (c .before .before .before .before .before .args .t .k) (c .before .before .before .before .before .args .t .p) (c .before .before .before .before .before .pre) in omega (arith, s .few-mk, s .few-kp, s .few-mp, c .before .before .before .before .times .ensures, c .before .before .before .times2 .ensures, c .before .before .times3 .ensures)
+add-result-9 c =
+    let a = c .before .before .before .before .before .args in
+    let s = sides-of (sort (a .end)) (a .t .m) (a .t .k) (a .t .p) (c .before .before .before .before .before .pre) in omega (arith, s .few-mk, s .few-kp, s .few-mp, c .before .before .before .before .times .ensures, c .before .before .before .times2 .ensures, c .before .before .times3 .ensures)
 
 add-result-10 : tie.Need-add-result-10
-add-result-10 c = let s = sides-of (sort (c .before .before .before .before .before .args .end)) (c .before .before .before .before .before .args .t .m) (c .before .before .before .before .before .args .t .k) (c .before .before .before .before .before .args .t .p) (c .before .before .before .before .before .pre) in omega (arith, s .few-mk, s .few-kp, s .few-mp, c .before .before .before .before .times .ensures, c .before .before .before .times2 .ensures, c .before .before .times3 .ensures)
+add-result-10 c =
+    let a = c .before .before .before .before .before .args in
+    let s = sides-of (sort (a .end)) (a .t .m) (a .t .k) (a .t .p) (c .before .before .before .before .before .pre) in omega (arith, s .few-mk, s .few-kp, s .few-mp, c .before .before .before .before .times .ensures, c .before .before .before .times2 .ensures, c .before .before .times3 .ensures)
 
 add-result-11 : tie.Need-add-result-11
-add-result-11 c = let s = sides-of (sort (c .before .before .before .before .before .args .end)) (c .before .before .before .before .before .args .t .m) (c .before .before .before .before .before .args .t .k) (c .before .before .before .before .before .args .t .p) (c .before .before .before .before .before .pre) in omega (arith, s .few-mk, s .few-kp, s .few-mp, c .before .before .before .before .times .ensures, c .before .before .before .times2 .ensures, c .before .before .times3 .ensures)
+add-result-11 c =
+    let a = c .before .before .before .before .before .args in
+    let s = sides-of (sort (a .end)) (a .t .m) (a .t .k) (a .t .p) (c .before .before .before .before .before .pre) in omega (arith, s .few-mk, s .few-kp, s .few-mp, c .before .before .before .before .times .ensures, c .before .before .before .times2 .ensures, c .before .before .times3 .ensures)
 
 add-result-12 : tie.Need-add-result-12
-add-result-12 c = let s = sides-of (sort (c .before .before .before .before .before .args .end)) (c .before .before .before .before .before .args .t .m) (c .before .before .before .before .before .args .t .k) (c .before .before .before .before .before .args .t .p) (c .before .before .before .before .before .pre) in omega (arith, s .few-mk, s .few-kp, s .few-mp, c .before .before .before .before .times .ensures, c .before .before .before .times2 .ensures, c .before .before .times3 .ensures)
+add-result-12 c =
+    let a = c .before .before .before .before .before .args in
+    let s = sides-of (sort (a .end)) (a .t .m) (a .t .k) (a .t .p) (c .before .before .before .before .before .pre) in omega (arith, s .few-mk, s .few-kp, s .few-mp, c .before .before .before .before .times .ensures, c .before .before .before .times2 .ensures, c .before .before .times3 .ensures)
 
 returns : tie.Need-returns
 unfolding tapeSize bodySize

@@ -10,16 +10,23 @@ half-size-requires : tie.Need-half-size-requires
 half-size-requires c κs = c .before .pre .0
 
 sub-write-spent : tie.Need-sub-write-spent
-sub-write-spent c = omega (arith, c .half-size .ensures, half-body (role (c .before .before .args .end)) (c .before .before .args .t))
+sub-write-spent c =
+    let a = c .before .before .args in
+    omega (arith, c .half-size .ensures, half-body (role (a .end)) (a .t))
 
 write-spent-requires : tie.Need-write-spent-requires
-write-spent-requires c κs = omega (arith, c .before .half-size .ensures, c .before .before .before .pre .1, half-body (role (c .before .before .before .args .end)) (c .before .before .before .args .t))
+write-spent-requires c κs =
+    let a = c .before .before .before .args in
+    omega (arith, c .before .half-size .ensures, c .before .before .before .pre .1, half-body (role (a .end)) (a .t))
 
 same-length : tie.Need-same-length
 same-length c = search needs
 
 returns : tie.Need-returns
-returns c = c .before .before .write-spent .ensures ∙ spent-is (role (c .before .before .before .before .before .before .args .end)) (c .before .before .before .before .before .before .args .t) (c .before .before .before .before .before .before .args .slot .now) (c .before .before .before .before .half-size .result) (c .before .before .before .before .half-size .ensures)
+returns c =
+    let a = c .before .before .before .before .before .before .args in
+    let half-size = c .before .before .before .before .half-size in
+    c .before .before .write-spent .ensures ∙ spent-is (role (a .end)) (a .t) (a .slot .now) (half-size .result) (half-size .ensures)
 
 pub spend-spec : {M : Type 1} → statement M
 spend-spec =

@@ -22,7 +22,9 @@ same-length : tie.Need-same-length
 same-length c = search needs
 
 returns : tie.Need-returns
-returns c = zeroed-spent (c .before .before .before .before .before .args .n) (c .before .before .before .before .before .args .slot .now) _ (c .before .before .before .before .before .pre) (c .before .before .write-zeros .ensures)
+returns c =
+    let a = c .before .before .before .before .before .args in
+    zeroed-spent (a .n) (a .slot .now) _ (c .before .before .before .before .before .pre) (c .before .before .write-zeros .ensures)
 
 pub write-spent-spec : {M : Type 1} → statement M
 write-spent-spec =

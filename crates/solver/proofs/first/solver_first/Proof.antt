@@ -36,16 +36,25 @@ same-length c = search needs
 
 returns : tie.Need-returns
 unfolding solverFirst
-returns c = rw (c .refused .ensures .0, c .refused .ensures .1, c .refused .ensures .2, c .before .no-session .ensures, c .before .before .enum-told2 .given .1) (sym (refused-leaves noSolver (slotAt (c .before .before .before .before .before .before .before .before .before .before .args .pool .now) (c .before .before .before .before .before .before .before .before .before .before .args .size) (c .before .before .before .before .before .before .before .before .before .before .args .index)) [] (c .before .before .before .before .before .before .before .before .before .before .args .out .now) [] _ (solverFirstEffect (c .before .before .before .before .before .before .before .before .before .before .args .t) (slotAt (c .before .before .before .before .before .before .before .before .before .before .args .pool .now) (c .before .before .before .before .before .before .before .before .before .before .args .size) (c .before .before .before .before .before .before .before .before .before .before .args .index)) (c .before .before .before .before .before .before .before .before .before .before .args .l .now) (c .before .before .before .before .before .before .before .before .before .before .args .x .now)) (sym (c .before .before .before .before .check .ensures) ∙ ap checked (c .before .before .enum-told2 .given .1))))
+returns c =
+    let a = c .before .before .before .before .before .before .before .before .before .before .args in
+    let s = slotAt (a .pool .now) (a .size) (a .index) in
+    rw (c .refused .ensures .0, c .refused .ensures .1, c .refused .ensures .2, c .before .no-session .ensures, c .before .before .enum-told2 .given .1) (sym (refused-leaves noSolver s [] (a .out .now) [] _ (solverFirstEffect (a .t) s (a .l .now) (a .x .now)) (sym (c .before .before .before .before .check .ensures) ∙ ap checked (c .before .before .enum-told2 .given .1))))
 
 mul-at : tie.Need-mul-at
-mul-at c = let k = first-known (c .before .before .before .before .before .before .before .before .args .t) _ _ _ _ _ _ (after-first _ _ (sym (first-phases (c .before .before .before .before .before .before .before .before .args .t) (slotAt (c .before .before .before .before .before .before .before .before .args .pool .now) (c .before .before .before .before .before .before .before .before .args .size) (c .before .before .before .before .before .before .before .before .args .index)) (c .before .before .before .before .before .before .before .before .args .l .now) (c .before .before .before .before .before .before .before .before .args .x .now) (length (c .before .before .before .before .before .before .before .before .args .out .now))) ∙ (sym (c .before .before .check .ensures) ∙ ap checked (c .enum-told .given .1)))) in let i = k .inside in search needs
+mul-at c =
+    let a = c .before .before .before .before .before .before .before .before .args in
+    let k = first-known (a .t) _ _ _ _ _ _ (after-first _ _ (sym (first-phases (a .t) (slotAt (a .pool .now) (a .size) (a .index)) (a .l .now) (a .x .now) (length (a .out .now))) ∙ (sym (c .before .before .check .ensures) ∙ ap checked (c .enum-told .given .1)))) in let i = k .inside in search needs
 
 add-end : tie.Need-add-end
-add-end c = let k = first-known (c .before .before .before .before .before .before .before .before .args .t) _ _ _ _ _ _ (after-first _ _ (sym (first-phases (c .before .before .before .before .before .before .before .before .args .t) (slotAt (c .before .before .before .before .before .before .before .before .args .pool .now) (c .before .before .before .before .before .before .before .before .args .size) (c .before .before .before .before .before .before .before .before .args .index)) (c .before .before .before .before .before .before .before .before .args .l .now) (c .before .before .before .before .before .before .before .before .args .x .now) (length (c .before .before .before .before .before .before .before .before .args .out .now))) ∙ (sym (c .before .before .check .ensures) ∙ ap checked (c .enum-told .given .1)))) in let i = k .inside in search needs
+add-end c =
+    let a = c .before .before .before .before .before .before .before .before .args in
+    let k = first-known (a .t) _ _ _ _ _ _ (after-first _ _ (sym (first-phases (a .t) (slotAt (a .pool .now) (a .size) (a .index)) (a .l .now) (a .x .now) (length (a .out .now))) ∙ (sym (c .before .before .check .ensures) ∙ ap checked (c .enum-told .given .1)))) in let i = k .inside in search needs
 
 mul-write : tie.Need-mul-write
-mul-write c = let k = first-known (c .before .before .before .before .before .before .before .before .args .t) _ _ _ _ _ _ (after-first _ _ (sym (first-phases (c .before .before .before .before .before .before .before .before .args .t) (slotAt (c .before .before .before .before .before .before .before .before .args .pool .now) (c .before .before .before .before .before .before .before .before .args .size) (c .before .before .before .before .before .before .before .before .args .index)) (c .before .before .before .before .before .before .before .before .args .l .now) (c .before .before .before .before .before .before .before .before .args .x .now) (length (c .before .before .before .before .before .before .before .before .args .out .now))) ∙ (sym (c .before .before .check .ensures) ∙ ap checked (c .enum-told .given .1)))) in let i = k .inside in search needs
+mul-write c =
+    let a = c .before .before .before .before .before .before .before .before .args in
+    let k = first-known (a .t) _ _ _ _ _ _ (after-first _ _ (sym (first-phases (a .t) (slotAt (a .pool .now) (a .size) (a .index)) (a .l .now) (a .x .now) (length (a .out .now))) ∙ (sym (c .before .before .check .ensures) ∙ ap checked (c .enum-told .given .1)))) in let i = k .inside in search needs
 
 sub-write : tie.Need-sub-write
 sub-write c = search needs
@@ -54,10 +63,14 @@ part-write-start : tie.Need-part-write-start
 part-write-start c = search needs
 
 part-write-end : tie.Need-part-write-end
-part-write-end c = let k = first-known (c .before .before .before .before .before .before .before .before .args .t) _ _ _ _ _ _ (after-first _ _ (sym (first-phases (c .before .before .before .before .before .before .before .before .args .t) (slotAt (c .before .before .before .before .before .before .before .before .args .pool .now) (c .before .before .before .before .before .before .before .before .args .size) (c .before .before .before .before .before .before .before .before .args .index)) (c .before .before .before .before .before .before .before .before .args .l .now) (c .before .before .before .before .before .before .before .before .args .x .now) (length (c .before .before .before .before .before .before .before .before .args .out .now))) ∙ (sym (c .before .before .check .ensures) ∙ ap checked (c .enum-told .given .1)))) in let i = k .inside in search needs
+part-write-end c =
+    let a = c .before .before .before .before .before .before .before .before .args in
+    let k = first-known (a .t) _ _ _ _ _ _ (after-first _ _ (sym (first-phases (a .t) (slotAt (a .pool .now) (a .size) (a .index)) (a .l .now) (a .x .now) (length (a .out .now))) ∙ (sym (c .before .before .check .ensures) ∙ ap checked (c .enum-told .given .1)))) in let i = k .inside in search needs
 
 write-requires : tie.Need-write-requires
-write-requires c κs = let k = first-known (c .before .before .before .before .before .before .before .before .before .before .args .t) _ _ _ _ _ _ (after-first _ _ (sym (first-phases (c .before .before .before .before .before .before .before .before .before .before .args .t) (slotAt (c .before .before .before .before .before .before .before .before .before .before .args .pool .now) (c .before .before .before .before .before .before .before .before .before .before .args .size) (c .before .before .before .before .before .before .before .before .before .before .args .index)) (c .before .before .before .before .before .before .before .before .before .before .args .l .now) (c .before .before .before .before .before .before .before .before .before .before .args .x .now) (length (c .before .before .before .before .before .before .before .before .before .before .args .out .now))) ∙ (sym (c .before .before .before .before .check .ensures) ∙ ap checked (c .before .before .enum-told .given .1)))) in first-shape (c .before .before .before .before .before .before .before .before .before .before .args .t) _ _ _ _ _ _ _ k (slot-part-length (c .before .before .before .before .before .before .before .before .before .before .args .pool .now) (c .before .before .before .before .before .before .before .before .before .before .args .size) (c .before .before .before .before .before .before .before .before .before .before .args .index) (k .inside))
+write-requires c κs =
+    let a = c .before .before .before .before .before .before .before .before .before .before .args in
+    let k = first-known (a .t) _ _ _ _ _ _ (after-first _ _ (sym (first-phases (a .t) (slotAt (a .pool .now) (a .size) (a .index)) (a .l .now) (a .x .now) (length (a .out .now))) ∙ (sym (c .before .before .before .before .check .ensures) ∙ ap checked (c .before .before .enum-told .given .1)))) in first-shape (a .t) _ _ _ _ _ _ _ k (slot-part-length (a .pool .now) (a .size) (a .index) (k .inside))
 
 same-length-2 : tie.Need-same-length-2
 same-length-2 c = search needs
@@ -67,9 +80,15 @@ same-length-3 c = search needs
 
 returns-2 : tie.Need-returns-2
 unfolding zeros tabulate
-returns-2 c = let k = first-known (c .before .before .before .before .before .before .before .before .before .before .before .before .before .before .before .args .t) _ _ _ _ _ _ (after-first _ _ (sym (first-phases (c .before .before .before .before .before .before .before .before .before .before .before .before .before .before .before .args .t) (slotAt (c .before .before .before .before .before .before .before .before .before .before .before .before .before .before .before .args .pool .now) (c .before .before .before .before .before .before .before .before .before .before .before .before .before .before .before .args .size) (c .before .before .before .before .before .before .before .before .before .before .before .before .before .before .before .args .index)) (c .before .before .before .before .before .before .before .before .before .before .before .before .before .before .before .args .l .now) (c .before .before .before .before .before .before .before .before .before .before .before .before .before .before .before .args .x .now) (length (c .before .before .before .before .before .before .before .before .before .before .before .before .before .before .before .args .out .now))) ∙ (sym (c .before .before .before .before .before .before .before .before .before .check .ensures) ∙ ap checked (c .before .before .before .before .before .before .before .enum-told .given .1)))) in first-done (c .before .before .before .before .before .before .before .before .before .before .before .before .before .before .before .args .t) (slotAt (c .before .before .before .before .before .before .before .before .before .before .before .before .before .before .before .args .pool .now) (c .before .before .before .before .before .before .before .before .before .before .before .before .before .before .before .args .size) (c .before .before .before .before .before .before .before .before .before .before .before .before .before .before .before .args .index)) (c .before .before .before .before .before .before .before .before .before .before .before .before .before .before .before .args .l .now) (c .before .before .before .before .before .before .before .before .before .before .before .before .before .before .before .args .x .now) (c .before .before .before .before .before .before .before .before .before .before .before .before .before .before .before .args .out .now) (sym (c .before .before .before .before .before .before .before .before .before .check .ensures) ∙ ap checked (c .before .before .before .before .before .before .before .enum-told .given .1))
-    (slot-written (c .before .before .before .before .before .before .before .before .before .before .before .before .before .before .before .args .pool .now) _ (c .before .before .before .before .before .before .before .before .before .before .before .before .before .before .before .args .size) (c .before .before .before .before .before .before .before .before .before .before .before .before .before .before .before .args .index) wordsInUse (k .inside) (λ ws e. in-use-length ws (omega (arith, k .half, solver-size (c .before .before .before .before .before .before .before .before .before .before .before .before .before .before .before .args .t .m) (c .before .before .before .before .before .before .before .before .before .before .before .before .before .before .before .args .t .k) (c .before .before .before .before .before .before .before .before .before .before .before .before .before .before .before .args .t .p), e)) ∙ e) (c .before .before .before .before .write .ensures .0))
-    (rw (slot-part (c .before .before .before .before .before .before .before .before .before .before .before .before .before .before .before .args .pool .now) (c .before .before .before .before .before .before .before .before .before .before .before .before .before .before .before .args .size) (c .before .before .before .before .before .before .before .before .before .before .before .before .before .before .before .args .index)) at (c .before .before .before .before .write .ensures .1))
+returns-2 c =
+    let a = c .before .before .before .before .before .before .before .before .before .before .before .before .before .before .before .args in
+    let check = c .before .before .before .before .before .before .before .before .before .check in
+    let enum-told = c .before .before .before .before .before .before .before .enum-told in
+    let write = c .before .before .before .before .write in
+    let s = slotAt (a .pool .now) (a .size) (a .index) in
+    let k = first-known (a .t) _ _ _ _ _ _ (after-first _ _ (sym (first-phases (a .t) s (a .l .now) (a .x .now) (length (a .out .now))) ∙ (sym (check .ensures) ∙ ap checked (enum-told .given .1)))) in first-done (a .t) s (a .l .now) (a .x .now) (a .out .now) (sym (check .ensures) ∙ ap checked (enum-told .given .1))
+    (slot-written (a .pool .now) _ (a .size) (a .index) wordsInUse (k .inside) (λ ws e. in-use-length ws (omega (arith, k .half, solver-size (a .t .m) (a .t .k) (a .t .p), e)) ∙ e) (write .ensures .0))
+    (rw (slot-part (a .pool .now) (a .size) (a .index)) at (write .ensures .1))
 
 pub solver-first-spec : {M : Type 1} → statement M
 solver-first-spec =

@@ -13,10 +13,15 @@ side-size-requires : tie.Need-side-size-requires
 side-size-requires c κs = search needs
 
 check-words-requires : tie.Need-check-words-requires
-check-words-requires c κs = (c .before .before .before .before .pre .0, c .before .before .before .before .pre .1)
+check-words-requires c κs =
+    let h = c .before .before .before .before .pre in
+    (h .0, h .1)
 
 slice-aggregate-all-below : tie.Need-slice-aggregate-all-below
-slice-aggregate-all-below c = let f = few (c .before .before .before .before .before .before .args .t) (c .before .before .before .before .before .before .pre .0) in let s : c .before .before .side-size .result ≡ c .before .before .before .before .before .before .args .t .m = c .before .before .side-size .ensures ∙ f .side-is in sym (length-take-le _ _ (omega (arith, s, f .few, c .before .before .before .before .before .before .pre .2)))
+slice-aggregate-all-below c =
+    let a = c .before .before .before .before .before .before .args in
+    let h = c .before .before .before .before .before .before .pre in
+    let f = few (a .t) (h .0) in let s : c .before .before .side-size .result ≡ a .t .m = c .before .before .side-size .ensures ∙ f .side-is in sym (length-take-le _ _ (omega (arith, s, f .few, h .2)))
 
 all-below-requires : tie.Need-all-below-requires
 all-below-requires c κs = search needs

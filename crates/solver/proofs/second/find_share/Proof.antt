@@ -31,7 +31,10 @@ cast-write-share : tie.Need-cast-write-share
 cast-write-share c = search needs
 
 slice-aggregate-write-share : tie.Need-slice-aggregate-write-share
-slice-aggregate-write-share c = let p = c .before .before .before .before .before .before .before .before .pre .0 in let f = few (c .before .before .before .before .before .before .before .before .args .t) (p .sides) in sym (length-take-le _ (c .before .before .before .before .before .before .before .before .args .residues .now) (omega (arith, c .before .before .before .before .times .ensures, c .before .before .before .before .before .before .before .before .pre .1)))
+slice-aggregate-write-share c =
+    let a = c .before .before .before .before .before .before .before .before .args in
+    let h = c .before .before .before .before .before .before .before .before .pre in
+    let p = h .0 in let f = few (a .t) (p .sides) in sym (length-take-le _ (a .residues .now) (omega (arith, c .before .before .before .before .times .ensures, h .1)))
 
 sub-write-share : tie.Need-sub-write-share
 sub-write-share c = search needs
@@ -40,7 +43,9 @@ part-write-share-start : tie.Need-part-write-share-start
 part-write-share-start c = search needs
 
 part-write-share-end : tie.Need-part-write-share-end
-part-write-share-end c = let p = c .before .before .before .before .before .before .before .before .pre .0 in let f = few (c .before .before .before .before .before .before .before .before .args .t) (p .sides) in omega (arith, solver-size (c .before .before .before .before .before .before .before .before .args .t .m) (c .before .before .before .before .before .before .before .before .args .t .k) (c .before .before .before .before .before .before .before .before .args .t .p), f .kp-is, c .before .before .before .before .times .ensures, c .before .before .before .times2 .ensures, p .half)
+part-write-share-end c =
+    let a = c .before .before .before .before .before .before .before .before .args in
+    let p = c .before .before .before .before .before .before .before .before .pre .0 in let f = few (a .t) (p .sides) in omega (arith, solver-size (a .t .m) (a .t .k) (a .t .p), f .kp-is, c .before .before .before .before .times .ensures, c .before .before .before .times2 .ensures, p .half)
 
 mul-write-share : tie.Need-mul-write-share
 mul-write-share c = search needs
@@ -64,34 +69,45 @@ part-write-share-start-3 : tie.Need-part-write-share-start-3
 part-write-share-start-3 c = search needs
 
 part-write-share-end-3 : tie.Need-part-write-share-end-3
-part-write-share-end-3 c = let p = c .before .before .before .before .before .before .before .before .before .before .pre .0 in let f = few (c .before .before .before .before .before .before .before .before .before .before .args .t) (p .sides) in omega (arith, solver-size (c .before .before .before .before .before .before .before .before .before .before .args .t .m) (c .before .before .before .before .before .before .before .before .before .before .args .t .k) (c .before .before .before .before .before .before .before .before .before .before .args .t .p), f .kp-is, c .before .before .before .before .before .before .times .ensures, c .before .before .before .before .before .times2 .ensures, p .half)
+part-write-share-end-3 c =
+    let a = c .before .before .before .before .before .before .before .before .before .before .args in
+    let p = c .before .before .before .before .before .before .before .before .before .before .pre .0 in let f = few (a .t) (p .sides) in omega (arith, solver-size (a .t .m) (a .t .k) (a .t .p), f .kp-is, c .before .before .before .before .before .before .times .ensures, c .before .before .before .before .before .times2 .ensures, p .half)
 
 write-share-requires : tie.Need-write-share-requires
-write-share-requires c κs = let p = c .before .before .before .before .before .before .before .before .before .before .before .before .pre .0 in let f = few (c .before .before .before .before .before .before .before .before .before .before .before .before .args .t) (p .sides) in (
-  record {
-    some-q = p .some-q;
-    small-q = p .small-q;
-    some-p = omega (arith, f .wide);
-    few-k = omega (arith, f .few);
-    few-y = omega (arith, f .mp);
-    full-x = simp length-take (omega (arith, c .before .before .before .before .before .before .before .before .times .ensures, c .before .before .before .before .before .before .before .times2 .ensures, c .before .before .before .before .before .before .before .before .before .before .before .before .pre .1));
-    full-y = simp (length-take, length-drop) (omega (arith, c .before .before .before .before .before .before .before .before .times .ensures, c .before .before .before .before .before .before .before .times2 .ensures, solver-size (c .before .before .before .before .before .before .before .before .before .before .before .before .args .t .m) (c .before .before .before .before .before .before .before .before .before .before .before .before .args .t .k) (c .before .before .before .before .before .before .before .before .before .before .before .before .args .t .p), f .kp-is, p .half));
-    room = c .before .before .before .before .before .before .before .before .before .before .before .before .pre .2;
-  },
-  simp (length-take, length-drop) (omega (arith, c .before .before .before .before .before .before .before .before .times .ensures, c .before .before .before .before .before .before .before .times2 .ensures, c .before .before .before .before .before .before .before .before .before .before .before .before .pre .1)),
-  simp (length-take, length-drop) (omega (arith, c .before .before .before .before .before .before .before .before .times .ensures, c .before .before .before .before .before .before .before .times2 .ensures, solver-size (c .before .before .before .before .before .before .before .before .before .before .before .before .args .t .m) (c .before .before .before .before .before .before .before .before .before .before .before .before .args .t .k) (c .before .before .before .before .before .before .before .before .before .before .before .before .args .t .p), f .kp-is, p .half)),
-)
+write-share-requires c κs =
+    let a = c .before .before .before .before .before .before .before .before .before .before .before .before .args in
+    let h = c .before .before .before .before .before .before .before .before .before .before .before .before .pre in
+    let times = c .before .before .before .before .before .before .before .before .times in
+    let times2 = c .before .before .before .before .before .before .before .times2 in
+    let p = h .0 in let f = few (a .t) (p .sides) in (
+      record {
+        some-q = p .some-q;
+        small-q = p .small-q;
+        some-p = omega (arith, f .wide);
+        few-k = omega (arith, f .few);
+        few-y = omega (arith, f .mp);
+        full-x = simp length-take (omega (arith, times .ensures, times2 .ensures, h .1));
+        full-y = simp (length-take, length-drop) (omega (arith, times .ensures, times2 .ensures, solver-size (a .t .m) (a .t .k) (a .t .p), f .kp-is, p .half));
+        room = h .2;
+      },
+      simp (length-take, length-drop) (omega (arith, times .ensures, times2 .ensures, h .1)),
+      simp (length-take, length-drop) (omega (arith, times .ensures, times2 .ensures, solver-size (a .t .m) (a .t .k) (a .t .p), f .kp-is, p .half)),
+    )
 
 same-length : tie.Need-same-length
 same-length c = search needs
 
 returns : tie.Need-returns
 unfolding shareOf
-returns c = let p = c .before .before .before .before .before .before .before .before .before .before .before .before .before .before .before .pre .0 in let f = few (c .before .before .before .before .before .before .before .before .before .before .before .before .before .before .before .args .t) (p .sides) in share-found (c .before .before .before .before .before .before .before .before .before .before .before .before .before .before .before .args .t .q) (c .before .before .before .before .before .before .before .before .before .before .before .before .before .before .before .args .t .m) (c .before .before .before .before .before .before .before .before .before .before .before .before .before .before .before .args .t .p) (columns (c .before .before .before .before .before .before .before .before .before .before .before .before .before .before .before .args .t .m) (c .before .before .before .before .before .before .before .before .before .before .before .before .before .before .before .args .t .p)) _ _ _ _ (c .before .before .before .before .before .before .before .before .before .before .before .before .before .before .before .args .out .now) (c .before .before .write-share .ensures)
-    (ap (λ (n : ℕ). take n (c .before .before .before .before .before .before .before .before .before .before .before .before .before .before .before .args .residues .now)) (c .before .before .before .before .before .before .before .before .before .before .before .times .ensures))
-    (y0-part (c .before .before .before .before .before .before .before .before .before .before .before .before .before .before .before .args .t) (c .before .before .before .before .before .before .before .before .before .before .before .before .before .before .before .args .slot .now) 7 (7 + c .before .before .before .before .before .before .before .before .before .before .times2 .result) refl (omega (arith, c .before .before .before .before .before .before .before .before .before .before .times2 .ensures, f .kp-is)))
-    (tail-part (c .before .before .before .before .before .before .before .before .before .before .before .times .result) (c .before .before .before .before .before .before .before .before .before .before .before .before .before .before .before .args .residues .now) ∙ ap (λ (n : ℕ). drop n (c .before .before .before .before .before .before .before .before .before .before .before .before .before .before .before .args .residues .now)) (c .before .before .before .before .before .before .before .before .before .before .before .times .ensures))
-    (b0-part (c .before .before .before .before .before .before .before .before .before .before .before .before .before .before .before .args .t) (c .before .before .before .before .before .before .before .before .before .before .before .before .before .before .before .args .slot .now) (7 + c .before .before .before .before .before .before .before .before .before .before .times2 .result) (7 + c .before .before .before .before .before .before .before .before .before .before .times2 .result + c .before .before .before .before .before .before .before .before .before .before .times2 .result) (omega (arith, c .before .before .before .before .before .before .before .before .before .before .times2 .ensures, f .kp-is)) (omega (arith, c .before .before .before .before .before .before .before .before .before .before .times2 .ensures)))
+returns c =
+    let a = c .before .before .before .before .before .before .before .before .before .before .before .before .before .before .before .args in
+    let times = c .before .before .before .before .before .before .before .before .before .before .before .times in
+    let times2 = c .before .before .before .before .before .before .before .before .before .before .times2 in
+    let p = c .before .before .before .before .before .before .before .before .before .before .before .before .before .before .before .pre .0 in let f = few (a .t) (p .sides) in share-found (a .t .q) (a .t .m) (a .t .p) (columns (a .t .m) (a .t .p)) _ _ _ _ (a .out .now) (c .before .before .write-share .ensures)
+    (ap (λ (n : ℕ). take n (a .residues .now)) (times .ensures))
+    (y0-part (a .t) (a .slot .now) 7 (7 + times2 .result) refl (omega (arith, times2 .ensures, f .kp-is)))
+    (tail-part (times .result) (a .residues .now) ∙ ap (λ (n : ℕ). drop n (a .residues .now)) (times .ensures))
+    (b0-part (a .t) (a .slot .now) (7 + times2 .result) (7 + times2 .result + times2 .result) (omega (arith, times2 .ensures, f .kp-is)) (omega (arith, times2 .ensures)))
     (f .whole)
 
 pub find-share-spec : {M : Type 1} → statement M

@@ -18,13 +18,22 @@ times-requires-2 : tie.Need-times-requires-2
 times-requires-2 c κs = search needs
 
 add-result-2 : tie.Need-add-result-2
-add-result-2 c = omega (arith, c .before .times .ensures, c .times2 .ensures, square-few (c .before .before .args .n) (c .before .before .pre), side-few (c .before .before .args .n) (c .before .before .pre))
+add-result-2 c =
+    let a = c .before .before .args in
+    let h = c .before .before .pre in
+    omega (arith, c .before .times .ensures, c .times2 .ensures, square-few (a .n) (h), side-few (a .n) (h))
 
 add-result-3 : tie.Need-add-result-3
-add-result-3 c = omega (arith, c .before .times .ensures, c .times2 .ensures, square-few (c .before .before .args .n) (c .before .before .pre), side-few (c .before .before .args .n) (c .before .before .pre))
+add-result-3 c =
+    let a = c .before .before .args in
+    let h = c .before .before .pre in
+    omega (arith, c .before .times .ensures, c .times2 .ensures, square-few (a .n) (h), side-few (a .n) (h))
 
 add-result-4 : tie.Need-add-result-4
-add-result-4 c = omega (arith, c .before .times .ensures, c .times2 .ensures, square-few (c .before .before .args .n) (c .before .before .pre), side-few (c .before .before .args .n) (c .before .before .pre))
+add-result-4 c =
+    let a = c .before .before .args in
+    let h = c .before .before .pre in
+    omega (arith, c .before .times .ensures, c .times2 .ensures, square-few (a .n) (h), side-few (a .n) (h))
 
 returns : tie.Need-returns
 returns c = omega (arith, c .before .times .ensures, c .times2 .ensures, blinder-count (c .before .before .args .n))

@@ -18,7 +18,9 @@ add-result-2 : tie.Need-add-result-2
 add-result-2 c = search needs
 
 returns : tie.Need-returns
-returns c = omega (arith, left-size (c .before .before .args .m) (c .before .before .args .k) (c .before .before .args .p))
+returns c =
+    let a = c .before .before .args in
+    omega (arith, left-size (a .m) (a .k) (a .p))
 
 pub left-size-spec : {M : Type 1} → statement M
 left-size-spec =

@@ -30,7 +30,10 @@ slice-aggregate-draw : tie.Need-slice-aggregate-draw
 slice-aggregate-draw c = search needs
 
 draw-requires : tie.Need-draw-requires
-draw-requires c κs = (c .before .before .before .before .pre .0 .some-q, rw (tail-part (c .before .before .before .before .args .at) (c .before .before .before .before .args .words .now), c .before .before .times .ensures) (c .before .before .before .before .pre .2), omega (arith, c .before .before .times .ensures, square-few (c .before .before .before .before .args .n) (c .before .before .before .before .pre .0 .few-n)))
+draw-requires c κs =
+    let a = c .before .before .before .before .args in
+    let h = c .before .before .before .before .pre in
+    (h .0 .some-q, rw (tail-part (a .at) (a .words .now), c .before .before .times .ensures) (h .2), omega (arith, c .before .before .times .ensures, square-few (a .n) (h .0 .few-n)))
 
 array-share-prefix-mask : tie.Need-array-share-prefix-mask
 array-share-prefix-mask c = omega (arith, c .before .before .before .before .times .ensures, square-few (c .before .before .before .before .before .before .args .n) (c .before .before .before .before .before .before .pre .0 .few-n))
@@ -39,10 +42,17 @@ slice-aggregate-has-inverse : tie.Need-slice-aggregate-has-inverse
 slice-aggregate-has-inverse c = simp length-take (omega (arith, c .before .before .before .before .before .times .ensures, square-few (c .before .before .before .before .before .before .before .args .n) (c .before .before .before .before .before .before .before .pre .0 .few-n)))
 
 has-inverse-requires : tie.Need-has-inverse-requires
-has-inverse-requires c κs = (c .before .before .before .before .before .before .before .pre .0 .prime, c .before .before .before .before .before .before .before .pre .0 .small-q, c .before .before .before .before .before .before .before .pre .0 .few-n, rw (c .before .before .before .before .before .times .ensures, mask-buffer (c .before .before .before .before .before .before .before .args .q) (c .before .before .before .before .before .before .before .args .n * c .before .before .before .before .before .before .before .args .n) (drop (c .before .before .before .before .before .before .before .args .at) (c .before .before .before .before .before .before .before .args .words .now)) _ _ (c .before .before .before .before .before .before .before .pre .2) (rw (tail-part (c .before .before .before .before .before .before .before .args .at) (c .before .before .before .before .before .before .before .args .words .now), c .before .before .before .before .before .times .ensures) at (c .before .before .draw .ensures .1))) (mask-residues (c .before .before .before .before .before .before .before .args .q) (c .before .before .before .before .before .before .before .args .n * c .before .before .before .before .before .before .before .args .n) (drop (c .before .before .before .before .before .before .before .args .at) (c .before .before .before .before .before .before .before .args .words .now)) (c .before .before .before .before .before .before .before .pre .0 .some-q) (c .before .before .before .before .before .before .before .pre .2)))
+has-inverse-requires c κs =
+    let a = c .before .before .before .before .before .before .before .args in
+    let h = c .before .before .before .before .before .before .before .pre in
+    let times = c .before .before .before .before .before .times in
+    (h .0 .prime, h .0 .small-q, h .0 .few-n, rw (times .ensures, mask-buffer (a .q) (a .n * a .n) (drop (a .at) (a .words .now)) _ _ (h .2) (rw (tail-part (a .at) (a .words .now), times .ensures) at (c .before .before .draw .ensures .1))) (mask-residues (a .q) (a .n * a .n) (drop (a .at) (a .words .now)) (h .0 .some-q) (h .2)))
 
 returns : tie.Need-returns
-returns c = c .has-inverse .ensures ∙ ap (regular (c .before .before .before .before .before .before .before .before .args .q) (c .before .before .before .before .before .before .before .before .args .n)) (rw (c .before .before .before .before .before .before .times .ensures) (mask-buffer (c .before .before .before .before .before .before .before .before .args .q) (c .before .before .before .before .before .before .before .before .args .n * c .before .before .before .before .before .before .before .before .args .n) (drop (c .before .before .before .before .before .before .before .before .args .at) (c .before .before .before .before .before .before .before .before .args .words .now)) _ _ (c .before .before .before .before .before .before .before .before .pre .2) (rw (tail-part (c .before .before .before .before .before .before .before .before .args .at) (c .before .before .before .before .before .before .before .before .args .words .now), c .before .before .before .before .before .before .times .ensures) at (c .before .before .before .draw .ensures .1))))
+returns c =
+    let a = c .before .before .before .before .before .before .before .before .args in
+    let times = c .before .before .before .before .before .before .times in
+    c .has-inverse .ensures ∙ ap (regular (a .q) (a .n)) (rw (times .ensures) (mask-buffer (a .q) (a .n * a .n) (drop (a .at) (a .words .now)) _ _ (c .before .before .before .before .before .before .before .before .pre .2) (rw (tail-part (a .at) (a .words .now), times .ensures) at (c .before .before .before .draw .ensures .1))))
 
 pub mask-fits-spec : {M : Type 1} → statement M
 mask-fits-spec =

@@ -24,38 +24,55 @@ enum-told-2 : tie.Need-enum-told-2
 enum-told-2 c = search needs
 
 returns : tie.Need-returns
-returns c = rw (deal-judged (c .before .before .before .before .before .before .args .first .now) (c .before .before .before .before .before .before .args .second .now) (c .before .before .before .before .before .before .args .size) (c .before .before .before .before .before .before .args .index) (productRequest (c .before .before .before .before .before .before .args .tape) (c .before .before .before .before .before .before .args .q) (c .before .before .before .before .before .before .args .m) (c .before .before .before .before .before .before .args .k) (c .before .before .before .before .before .before .args .p) (c .before .before .before .before .before .before .args .words .now)), sym (c .before .before .product-numbers .ensures), c .enum-told2 .given .1)
+returns c =
+    let a = c .before .before .before .before .before .before .args in
+    rw (deal-judged (a .first .now) (a .second .now) (a .size) (a .index) (productRequest (a .tape) (a .q) (a .m) (a .k) (a .p) (a .words .now)), sym (c .before .before .product-numbers .ensures), c .enum-told2 .given .1)
 
 mul-at : tie.Need-mul-at
-mul-at c = let s = numbers-passed product (c .before .before .before .before .before .before .args .tape .0) (c .before .before .before .before .before .before .args .q) (c .before .before .before .before .before .before .args .m) (c .before .before .before .before .before .before .args .k) (c .before .before .before .before .before .before .args .p) (length (c .before .before .before .before .before .before .args .first .now)) (length (c .before .before .before .before .before .before .args .second .now)) (c .before .before .before .before .before .before .args .size) (c .before .before .before .before .before .before .args .index) (sym (c .before .before .product-numbers .ensures) ∙ ap checked (c .enum-told .given .1)) in
+mul-at c =
+    let a = c .before .before .before .before .before .before .args in
+    let s = numbers-passed product (a .tape .0) (a .q) (a .m) (a .k) (a .p) (length (a .first .now)) (length (a .second .now)) (a .size) (a .index) (sym (c .before .before .product-numbers .ensures) ∙ ap checked (c .enum-told .given .1)) in
     omega (arith, s .left .inside)
 
 mul-product-words : tie.Need-mul-product-words
-mul-product-words c = let s = numbers-passed product (c .before .before .before .before .before .before .args .tape .0) (c .before .before .before .before .before .before .args .q) (c .before .before .before .before .before .before .args .m) (c .before .before .before .before .before .before .args .k) (c .before .before .before .before .before .before .args .p) (length (c .before .before .before .before .before .before .args .first .now)) (length (c .before .before .before .before .before .before .args .second .now)) (c .before .before .before .before .before .before .args .size) (c .before .before .before .before .before .before .args .index) (sym (c .before .before .product-numbers .ensures) ∙ ap checked (c .enum-told .given .1)) in
+mul-product-words c =
+    let a = c .before .before .before .before .before .before .args in
+    let s = numbers-passed product (a .tape .0) (a .q) (a .m) (a .k) (a .p) (length (a .first .now)) (length (a .second .now)) (a .size) (a .index) (sym (c .before .before .product-numbers .ensures) ∙ ap checked (c .enum-told .given .1)) in
     search needs
 
 shared-slice-read-product-words : tie.Need-shared-slice-read-product-words
-shared-slice-read-product-words c = let s = numbers-passed product (c .before .before .before .before .before .before .before .args .tape .0) (c .before .before .before .before .before .before .before .args .q) (c .before .before .before .before .before .before .before .args .m) (c .before .before .before .before .before .before .before .args .k) (c .before .before .before .before .before .before .before .args .p) (length (c .before .before .before .before .before .before .before .args .first .now)) (length (c .before .before .before .before .before .before .before .args .second .now)) (c .before .before .before .before .before .before .before .args .size) (c .before .before .before .before .before .before .before .args .index) (sym (c .before .before .before .product-numbers .ensures) ∙ ap checked (c .before .enum-told .given .1)) in
-    omega (arith, s .left .inside, s .left .room, left-size (c .before .before .before .before .before .before .before .args .m) (c .before .before .before .before .before .before .before .args .k) (c .before .before .before .before .before .before .before .args .p))
+shared-slice-read-product-words c =
+    let a = c .before .before .before .before .before .before .before .args in
+    let s = numbers-passed product (a .tape .0) (a .q) (a .m) (a .k) (a .p) (length (a .first .now)) (length (a .second .now)) (a .size) (a .index) (sym (c .before .before .before .product-numbers .ensures) ∙ ap checked (c .before .enum-told .given .1)) in
+    omega (arith, s .left .inside, s .left .room, left-size (a .m) (a .k) (a .p))
 
 mul-product-words-2 : tie.Need-mul-product-words-2
-mul-product-words-2 c = let s = numbers-passed product (c .before .before .before .before .before .before .before .args .tape .0) (c .before .before .before .before .before .before .before .args .q) (c .before .before .before .before .before .before .before .args .m) (c .before .before .before .before .before .before .before .args .k) (c .before .before .before .before .before .before .before .args .p) (length (c .before .before .before .before .before .before .before .args .first .now)) (length (c .before .before .before .before .before .before .before .args .second .now)) (c .before .before .before .before .before .before .before .args .size) (c .before .before .before .before .before .before .before .args .index) (sym (c .before .before .before .product-numbers .ensures) ∙ ap checked (c .before .enum-told .given .1)) in
+mul-product-words-2 c =
+    let a = c .before .before .before .before .before .before .before .args in
+    let s = numbers-passed product (a .tape .0) (a .q) (a .m) (a .k) (a .p) (length (a .first .now)) (length (a .second .now)) (a .size) (a .index) (sym (c .before .before .before .product-numbers .ensures) ∙ ap checked (c .before .enum-told .given .1)) in
     search needs
 
 shared-slice-read-product-words-2 : tie.Need-shared-slice-read-product-words-2
-shared-slice-read-product-words-2 c = let s = numbers-passed product (c .before .before .before .before .before .before .before .before .args .tape .0) (c .before .before .before .before .before .before .before .before .args .q) (c .before .before .before .before .before .before .before .before .args .m) (c .before .before .before .before .before .before .before .before .args .k) (c .before .before .before .before .before .before .before .before .args .p) (length (c .before .before .before .before .before .before .before .before .args .first .now)) (length (c .before .before .before .before .before .before .before .before .args .second .now)) (c .before .before .before .before .before .before .before .before .args .size) (c .before .before .before .before .before .before .before .before .args .index) (sym (c .before .before .before .before .product-numbers .ensures) ∙ ap checked (c .before .before .enum-told .given .1)) in
-    omega (arith, s .right .inside, s .left .room, left-size (c .before .before .before .before .before .before .before .before .args .m) (c .before .before .before .before .before .before .before .before .args .k) (c .before .before .before .before .before .before .before .before .args .p))
+shared-slice-read-product-words-2 c =
+    let a = c .before .before .before .before .before .before .before .before .args in
+    let s = numbers-passed product (a .tape .0) (a .q) (a .m) (a .k) (a .p) (length (a .first .now)) (length (a .second .now)) (a .size) (a .index) (sym (c .before .before .before .before .product-numbers .ensures) ∙ ap checked (c .before .before .enum-told .given .1)) in
+    omega (arith, s .right .inside, s .left .room, left-size (a .m) (a .k) (a .p))
 
 product-words-requires : tie.Need-product-words-requires
-product-words-requires c κs = let s = numbers-passed product (c .before .before .before .before .before .before .before .before .args .tape .0) (c .before .before .before .before .before .before .before .before .args .q) (c .before .before .before .before .before .before .before .before .args .m) (c .before .before .before .before .before .before .before .before .args .k) (c .before .before .before .before .before .before .before .before .args .p) (length (c .before .before .before .before .before .before .before .before .args .first .now)) (length (c .before .before .before .before .before .before .before .before .args .second .now)) (c .before .before .before .before .before .before .before .before .args .size) (c .before .before .before .before .before .before .before .before .args .index) (sym (c .before .before .before .before .product-numbers .ensures) ∙ ap checked (c .before .before .enum-told .given .1)) in
+product-words-requires c κs =
+    let a = c .before .before .before .before .before .before .before .before .args in
+    let s = numbers-passed product (a .tape .0) (a .q) (a .m) (a .k) (a .p) (length (a .first .now)) (length (a .second .now)) (a .size) (a .index) (sym (c .before .before .before .before .product-numbers .ensures) ∙ ap checked (c .before .before .enum-told .given .1)) in
     let g = shape-masks _ _ _ _ _ (s .shape) in
     (g .some-q, g .few-mk, g .few-kp, g .few-mp)
 
 returns-2 : tie.Need-returns-2
-returns-2 c = let s = numbers-passed product (c .before .before .before .before .before .before .before .before .before .args .tape .0) (c .before .before .before .before .before .before .before .before .before .args .q) (c .before .before .before .before .before .before .before .before .before .args .m) (c .before .before .before .before .before .before .before .before .before .args .k) (c .before .before .before .before .before .before .before .before .before .args .p) (length (c .before .before .before .before .before .before .before .before .before .args .first .now)) (length (c .before .before .before .before .before .before .before .before .before .args .second .now)) (c .before .before .before .before .before .before .before .before .before .args .size) (c .before .before .before .before .before .before .before .before .before .args .index) (sym (c .before .before .before .before .before .product-numbers .ensures) ∙ ap checked (c .before .before .before .enum-told .given .1)) in
-    let some : 0 < c .before .before .before .before .before .before .before .before .before .args .size = omega (arith, s .left .room, left-size (c .before .before .before .before .before .before .before .before .before .args .m) (c .before .before .before .before .before .before .before .before .before .args .k) (c .before .before .before .before .before .before .before .before .before .args .p)) in
-    rw (deal-judged (c .before .before .before .before .before .before .before .before .before .args .first .now) (c .before .before .before .before .before .before .before .before .before .args .second .now) (c .before .before .before .before .before .before .before .before .before .args .size) (c .before .before .before .before .before .before .before .before .before .args .index) (productRequest (c .before .before .before .before .before .before .before .before .before .args .tape) (c .before .before .before .before .before .before .before .before .before .args .q) (c .before .before .before .before .before .before .before .before .before .args .m) (c .before .before .before .before .before .before .before .before .before .args .k) (c .before .before .before .before .before .before .before .before .before .args .p) (c .before .before .before .before .before .before .before .before .before .args .words .now)), sym (c .before .before .before .before .before .product-numbers .ensures) ∙ ap checked (c .before .before .before .enum-told .given .1))
-    (rw (slot-status (c .before .before .before .before .before .before .before .before .before .args .first .now) (c .before .before .before .before .before .before .before .before .before .args .size) (c .before .before .before .before .before .before .before .before .before .args .index) some, slot-status (c .before .before .before .before .before .before .before .before .before .args .second .now) (c .before .before .before .before .before .before .before .before .before .args .size) (c .before .before .before .before .before .before .before .before .before .args .index) some) at (c .product-words .ensures))
+returns-2 c =
+    let a = c .before .before .before .before .before .before .before .before .before .args in
+    let product-numbers = c .before .before .before .before .before .product-numbers in
+    let s = numbers-passed product (a .tape .0) (a .q) (a .m) (a .k) (a .p) (length (a .first .now)) (length (a .second .now)) (a .size) (a .index) (sym (product-numbers .ensures) ∙ ap checked (c .before .before .before .enum-told .given .1)) in
+    let some : 0 < a .size = omega (arith, s .left .room, left-size (a .m) (a .k) (a .p)) in
+    rw (deal-judged (a .first .now) (a .second .now) (a .size) (a .index) (productRequest (a .tape) (a .q) (a .m) (a .k) (a .p) (a .words .now)), sym (product-numbers .ensures) ∙ ap checked (c .before .before .before .enum-told .given .1))
+    (rw (slot-status (a .first .now) (a .size) (a .index) some, slot-status (a .second .now) (a .size) (a .index) some) at (c .product-words .ensures))
 
 pub product-spec : {M : Type 1} → statement M
 product-spec =

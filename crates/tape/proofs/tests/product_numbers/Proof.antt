@@ -22,7 +22,9 @@ unfolding dealNumbers
 returns c = simp (sym (c .before .before .product-shape .ensures), c .enum-told2 .given .1)
 
 left-size-requires : tie.Need-left-size-requires
-left-size-requires c κs = let s = shape-masks (c .before .before .before .args .tape) (c .before .before .before .args .q) (c .before .before .before .args .m) (c .before .before .before .args .k) (c .before .before .before .args .p) (sym (c .before .before .product-shape .ensures) ∙ ap checked (c .enum-told .given .1)) in (s .few-mk, s .few-mp)
+left-size-requires c κs =
+    let a = c .before .before .before .args in
+    let s = shape-masks (a .tape) (a .q) (a .m) (a .k) (a .p) (sym (c .before .before .product-shape .ensures) ∙ ap checked (c .enum-told .given .1)) in (s .few-mk, s .few-mp)
 
 check-place-requires : tie.Need-check-place-requires
 check-place-requires c κs = search needs
@@ -38,7 +40,9 @@ unfolding dealNumbers
 returns-2 c = simp (sym (c .before .before .before .before .before .before .product-shape .ensures) ∙ ap checked (c .before .before .before .before .enum-told .given .1), sym (rw (c .before .before .before .left-size .ensures) at (c .before .before .check-place .ensures)), c .enum-told4 .given .1)
 
 right-size-requires : tie.Need-right-size-requires
-right-size-requires c κs = let s = shape-masks (c .before .before .before .before .before .before .before .args .tape) (c .before .before .before .before .before .before .before .args .q) (c .before .before .before .before .before .before .before .args .m) (c .before .before .before .before .before .before .before .args .k) (c .before .before .before .before .before .before .before .args .p) (sym (c .before .before .before .before .before .before .product-shape .ensures) ∙ ap checked (c .before .before .before .before .enum-told .given .1)) in (s .few-kp, s .few-mp)
+right-size-requires c κs =
+    let a = c .before .before .before .before .before .before .before .args in
+    let s = shape-masks (a .tape) (a .q) (a .m) (a .k) (a .p) (sym (c .before .before .before .before .before .before .product-shape .ensures) ∙ ap checked (c .before .before .before .before .enum-told .given .1)) in (s .few-kp, s .few-mp)
 
 check-place-requires-2 : tie.Need-check-place-requires-2
 check-place-requires-2 c κs = search needs

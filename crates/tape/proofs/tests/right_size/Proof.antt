@@ -18,7 +18,9 @@ add-result-2 : tie.Need-add-result-2
 add-result-2 c = search needs
 
 returns : tie.Need-returns
-returns c = omega (arith, right-size (c .before .before .args .m) (c .before .before .args .k) (c .before .before .args .p))
+returns c =
+    let a = c .before .before .args in
+    omega (arith, right-size (a .m) (a .k) (a .p))
 
 pub right-size-spec : {M : Type 1} → statement M
 right-size-spec =

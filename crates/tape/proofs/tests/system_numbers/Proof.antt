@@ -22,7 +22,9 @@ unfolding dealNumbers
 returns c = simp (sym (c .before .before .system-shape .ensures), c .enum-told2 .given .1)
 
 blinder-size-requires : tie.Need-blinder-size-requires
-blinder-size-requires c κs = let s = shape-mask (c .before .before .before .args .tape) (c .before .before .before .args .q) (c .before .before .before .args .n) (sym (c .before .before .system-shape .ensures) ∙ ap checked (c .enum-told .given .1)) in s .few-n
+blinder-size-requires c κs =
+    let a = c .before .before .before .args in
+    let s = shape-mask (a .tape) (a .q) (a .n) (sym (c .before .before .system-shape .ensures) ∙ ap checked (c .enum-told .given .1)) in s .few-n
 
 check-place-requires : tie.Need-check-place-requires
 check-place-requires c κs = search needs
@@ -38,7 +40,9 @@ unfolding dealNumbers
 returns-2 c = simp (sym (c .before .before .before .before .before .before .system-shape .ensures) ∙ ap checked (c .before .before .before .before .enum-told .given .1), sym (rw (c .before .before .before .blinder-size .ensures) at (c .before .before .check-place .ensures)), c .enum-told4 .given .1)
 
 solver-size-requires : tie.Need-solver-size-requires
-solver-size-requires c κs = let s = shape-mask (c .before .before .before .before .before .before .before .args .tape) (c .before .before .before .before .before .before .before .args .q) (c .before .before .before .before .before .before .before .args .n) (sym (c .before .before .before .before .before .before .system-shape .ensures) ∙ ap checked (c .before .before .before .before .enum-told .given .1)) in s .few-n
+solver-size-requires c κs =
+    let a = c .before .before .before .before .before .before .before .args in
+    let s = shape-mask (a .tape) (a .q) (a .n) (sym (c .before .before .before .before .before .before .system-shape .ensures) ∙ ap checked (c .before .before .before .before .enum-told .given .1)) in s .few-n
 
 check-place-requires-2 : tie.Need-check-place-requires-2
 check-place-requires-2 c κs = search needs

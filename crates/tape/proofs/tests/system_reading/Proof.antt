@@ -20,10 +20,16 @@ times-requires-2 : tie.Need-times-requires-2
 times-requires-2 c κs = search needs
 
 add-read : tie.Need-add-read
-add-read c = omega (arith, c .before .times .ensures, c .times2 .ensures, square-few (c .before .before .before .args .n) (c .before .before .before .pre .1), side-few (c .before .before .before .args .n) (c .before .before .before .pre .1))
+add-read c =
+    let a = c .before .before .before .args in
+    let h = c .before .before .before .pre in
+    omega (arith, c .before .times .ensures, c .times2 .ensures, square-few (a .n) (h .1), side-few (a .n) (h .1))
 
 add-read-2 : tie.Need-add-read-2
-add-read-2 c = omega (arith, c .before .times .ensures, c .times2 .ensures, square-few (c .before .before .before .args .n) (c .before .before .before .pre .1), side-few (c .before .before .before .args .n) (c .before .before .before .pre .1))
+add-read-2 c =
+    let a = c .before .before .before .args in
+    let h = c .before .before .before .pre in
+    omega (arith, c .before .times .ensures, c .times2 .ensures, square-few (a .n) (h .1), side-few (a .n) (h .1))
 
 read-requires : tie.Need-read-requires
 read-requires c κs = search needs
@@ -35,28 +41,39 @@ enum-told : tie.Need-enum-told
 enum-told c = search needs
 
 returns : tie.Need-returns
-returns c = dry-first (c .before .before .before .before .before .before .args .q) (c .before .before .before .before .before .before .args .n * c .before .before .before .before .before .before .args .n + (c .before .before .before .before .before .before .args .n * (c .before .before .before .before .before .before .args .n + 1) + c .before .before .before .before .before .before .args .n * (c .before .before .before .before .before .before .args .n + 1))) (c .before .before .before .before .before .before .args .n * c .before .before .before .before .before .before .args .n + (c .before .before .before .before .before .before .args .n * c .before .before .before .before .before .before .args .n + c .before .before .before .before .before .before .args .n * c .before .before .before .before .before .before .args .n)) (c .before .before .before .before .before .before .args .words .now) (sym (rw (c .before .before .before .before .times .ensures, c .before .before .before .times2 .ensures) at (c .before .before .read .ensures)) ∙ c .enum-told .given .1)
+returns c =
+    let a = c .before .before .before .before .before .before .args in
+    dry-first (a .q) (a .n * a .n + (a .n * (a .n + 1) + a .n * (a .n + 1))) (a .n * a .n + (a .n * a .n + a .n * a .n)) (a .words .now) (sym (rw (c .before .before .before .before .times .ensures, c .before .before .before .times2 .ensures) at (c .before .before .read .ensures)) ∙ c .enum-told .given .1)
 
 add-read-3 : tie.Need-add-read-3
-add-read-3 c = omega (arith, c .before .before .before .before .before .times .ensures, c .before .before .before .before .times2 .ensures, square-few (c .before .before .before .before .before .before .before .args .n) (c .before .before .before .before .before .before .before .pre .1), side-few (c .before .before .before .before .before .before .before .args .n) (c .before .before .before .before .before .before .before .pre .1))
+add-read-3 c =
+    let a = c .before .before .before .before .before .before .before .args in
+    let h = c .before .before .before .before .before .before .before .pre in
+    omega (arith, c .before .before .before .before .before .times .ensures, c .before .before .before .before .times2 .ensures, square-few (a .n) (h .1), side-few (a .n) (h .1))
 
 add-read-4 : tie.Need-add-read-4
-add-read-4 c = omega (arith, c .before .before .before .before .before .times .ensures, c .before .before .before .before .times2 .ensures, square-few (c .before .before .before .before .before .before .before .args .n) (c .before .before .before .before .before .before .before .pre .1), side-few (c .before .before .before .before .before .before .before .args .n) (c .before .before .before .before .before .before .before .pre .1))
+add-read-4 c =
+    let a = c .before .before .before .before .before .before .before .args in
+    let h = c .before .before .before .before .before .before .before .pre in
+    omega (arith, c .before .before .before .before .before .times .ensures, c .before .before .before .before .times2 .ensures, square-few (a .n) (h .1), side-few (a .n) (h .1))
 
 mul-read : tie.Need-mul-read
 mul-read c =
-    let at = first-read (c .before .before .before .before .before .before .before .args .q) (c .before .before .before .before .before .before .before .args .n * c .before .before .before .before .before .before .before .args .n + (c .before .before .before .before .before .before .before .args .n * (c .before .before .before .before .before .before .before .args .n + 1) + c .before .before .before .before .before .before .before .args .n * (c .before .before .before .before .before .before .before .args .n + 1))) (c .before .before .before .before .before .before .before .args .n * c .before .before .before .before .before .before .before .args .n + (c .before .before .before .before .before .before .before .args .n * c .before .before .before .before .before .before .before .args .n + c .before .before .before .before .before .before .before .args .n * c .before .before .before .before .before .before .before .args .n)) (c .before .before .before .before .before .before .before .args .words .now) (sym (rw (c .before .before .before .before .before .times .ensures, c .before .before .before .before .times2 .ensures) at (c .before .before .before .read .ensures)) ∙ c .before .reading .given .1) in
-    omega (arith, at, read-few (c .before .before .before .before .before .before .before .args .q) (c .before .before .before .before .before .before .before .args .n * c .before .before .before .before .before .before .before .args .n + (c .before .before .before .before .before .before .before .args .n * (c .before .before .before .before .before .before .before .args .n + 1) + c .before .before .before .before .before .before .before .args .n * (c .before .before .before .before .before .before .before .args .n + 1))) (c .before .before .before .before .before .before .before .args .words .now))
+    let a = c .before .before .before .before .before .before .before .args in
+    let at = first-read (a .q) (a .n * a .n + (a .n * (a .n + 1) + a .n * (a .n + 1))) (a .n * a .n + (a .n * a .n + a .n * a .n)) (a .words .now) (sym (rw (c .before .before .before .before .before .times .ensures, c .before .before .before .before .times2 .ensures) at (c .before .before .before .read .ensures)) ∙ c .before .reading .given .1) in
+    omega (arith, at, read-few (a .q) (a .n * a .n + (a .n * (a .n + 1) + a .n * (a .n + 1))) (a .words .now))
 
 sub-read : tie.Need-sub-read
 sub-read c =
-    let at = first-read (c .before .before .before .before .before .before .before .args .q) (c .before .before .before .before .before .before .before .args .n * c .before .before .before .before .before .before .before .args .n + (c .before .before .before .before .before .before .before .args .n * (c .before .before .before .before .before .before .before .args .n + 1) + c .before .before .before .before .before .before .before .args .n * (c .before .before .before .before .before .before .before .args .n + 1))) (c .before .before .before .before .before .before .before .args .n * c .before .before .before .before .before .before .before .args .n + (c .before .before .before .before .before .before .before .args .n * c .before .before .before .before .before .before .before .args .n + c .before .before .before .before .before .before .before .args .n * c .before .before .before .before .before .before .before .args .n)) (c .before .before .before .before .before .before .before .args .words .now) (sym (rw (c .before .before .before .before .before .times .ensures, c .before .before .before .before .times2 .ensures) at (c .before .before .before .read .ensures)) ∙ c .before .reading .given .1) in
-    omega (arith, at, read-few (c .before .before .before .before .before .before .before .args .q) (c .before .before .before .before .before .before .before .args .n * c .before .before .before .before .before .before .before .args .n + (c .before .before .before .before .before .before .before .args .n * (c .before .before .before .before .before .before .before .args .n + 1) + c .before .before .before .before .before .before .before .args .n * (c .before .before .before .before .before .before .before .args .n + 1))) (c .before .before .before .before .before .before .before .args .words .now))
+    let a = c .before .before .before .before .before .before .before .args in
+    let at = first-read (a .q) (a .n * a .n + (a .n * (a .n + 1) + a .n * (a .n + 1))) (a .n * a .n + (a .n * a .n + a .n * a .n)) (a .words .now) (sym (rw (c .before .before .before .before .before .times .ensures, c .before .before .before .before .times2 .ensures) at (c .before .before .before .read .ensures)) ∙ c .before .reading .given .1) in
+    omega (arith, at, read-few (a .q) (a .n * a .n + (a .n * (a .n + 1) + a .n * (a .n + 1))) (a .words .now))
 
 part-read-start : tie.Need-part-read-start
 part-read-start c =
-    let at = first-read (c .before .before .before .before .before .before .before .args .q) (c .before .before .before .before .before .before .before .args .n * c .before .before .before .before .before .before .before .args .n + (c .before .before .before .before .before .before .before .args .n * (c .before .before .before .before .before .before .before .args .n + 1) + c .before .before .before .before .before .before .before .args .n * (c .before .before .before .before .before .before .before .args .n + 1))) (c .before .before .before .before .before .before .before .args .n * c .before .before .before .before .before .before .before .args .n + (c .before .before .before .before .before .before .before .args .n * c .before .before .before .before .before .before .before .args .n + c .before .before .before .before .before .before .before .args .n * c .before .before .before .before .before .before .before .args .n)) (c .before .before .before .before .before .before .before .args .words .now) (sym (rw (c .before .before .before .before .before .times .ensures, c .before .before .before .before .times2 .ensures) at (c .before .before .before .read .ensures)) ∙ c .before .reading .given .1) in
-    let few = read-few (c .before .before .before .before .before .before .before .args .q) (c .before .before .before .before .before .before .before .args .n * c .before .before .before .before .before .before .before .args .n + (c .before .before .before .before .before .before .before .args .n * (c .before .before .before .before .before .before .before .args .n + 1) + c .before .before .before .before .before .before .before .args .n * (c .before .before .before .before .before .before .before .args .n + 1))) (c .before .before .before .before .before .before .before .args .words .now) in
+    let a = c .before .before .before .before .before .before .before .args in
+    let at = first-read (a .q) (a .n * a .n + (a .n * (a .n + 1) + a .n * (a .n + 1))) (a .n * a .n + (a .n * a .n + a .n * a .n)) (a .words .now) (sym (rw (c .before .before .before .before .before .times .ensures, c .before .before .before .before .times2 .ensures) at (c .before .before .before .read .ensures)) ∙ c .before .reading .given .1) in
+    let few = read-few (a .q) (a .n * a .n + (a .n * (a .n + 1) + a .n * (a .n + 1))) (a .words .now) in
     search needs
 
 part-read-end : tie.Need-part-read-end
@@ -72,10 +89,16 @@ enum-told-3 : tie.Need-enum-told-3
 enum-told-3 c = search needs
 
 returns-2 : tie.Need-returns-2
-returns-2 c = dry-second (c .before .before .before .before .before .before .before .before .before .before .before .args .q) (c .before .before .before .before .before .before .before .before .before .before .before .args .n * c .before .before .before .before .before .before .before .before .before .before .before .args .n + (c .before .before .before .before .before .before .before .before .before .before .before .args .n * (c .before .before .before .before .before .before .before .before .before .before .before .args .n + 1) + c .before .before .before .before .before .before .before .before .before .before .before .args .n * (c .before .before .before .before .before .before .before .before .before .before .before .args .n + 1))) (c .before .before .before .before .before .before .before .before .before .before .before .args .n * c .before .before .before .before .before .before .before .before .before .before .before .args .n + (c .before .before .before .before .before .before .before .before .before .before .before .args .n * c .before .before .before .before .before .before .before .before .before .before .before .args .n + c .before .before .before .before .before .before .before .before .before .before .before .args .n * c .before .before .before .before .before .before .before .before .before .before .before .args .n)) (c .before .before .before .before .before .before .before .before .before .before .before .args .words .now) (sym (rw (c .before .before .before .before .before .before .before .before .before .times .ensures, c .before .before .before .before .before .before .before .before .times2 .ensures) at (c .before .before .before .before .before .before .before .read .ensures)) ∙ c .before .before .before .before .before .reading .given .1) (sym (rw (tail-part, c .before .before .before .before .before .before .before .before .before .times .ensures) at (c .before .before .read2 .ensures)) ∙ c .enum-told3 .given .1)
+returns-2 c =
+    let a = c .before .before .before .before .before .before .before .before .before .before .before .args in
+    let times = c .before .before .before .before .before .before .before .before .before .times in
+    dry-second (a .q) (a .n * a .n + (a .n * (a .n + 1) + a .n * (a .n + 1))) (a .n * a .n + (a .n * a .n + a .n * a .n)) (a .words .now) (sym (rw (times .ensures, c .before .before .before .before .before .before .before .before .times2 .ensures) at (c .before .before .before .before .before .before .before .read .ensures)) ∙ c .before .before .before .before .before .reading .given .1) (sym (rw (tail-part, times .ensures) at (c .before .before .read2 .ensures)) ∙ c .enum-told3 .given .1)
 
 returns-3 : tie.Need-returns-3
-returns-3 c = enough-both (c .before .before .before .before .before .before .before .before .before .before .before .args .q) (c .before .before .before .before .before .before .before .before .before .before .before .args .n * c .before .before .before .before .before .before .before .before .before .before .before .args .n + (c .before .before .before .before .before .before .before .before .before .before .before .args .n * (c .before .before .before .before .before .before .before .before .before .before .before .args .n + 1) + c .before .before .before .before .before .before .before .before .before .before .before .args .n * (c .before .before .before .before .before .before .before .before .before .before .before .args .n + 1))) (c .before .before .before .before .before .before .before .before .before .before .before .args .n * c .before .before .before .before .before .before .before .before .before .before .before .args .n + (c .before .before .before .before .before .before .before .before .before .before .before .args .n * c .before .before .before .before .before .before .before .before .before .before .before .args .n + c .before .before .before .before .before .before .before .before .before .before .before .args .n * c .before .before .before .before .before .before .before .before .before .before .before .args .n)) (c .before .before .before .before .before .before .before .before .before .before .before .args .words .now) (sym (rw (c .before .before .before .before .before .before .before .before .before .times .ensures, c .before .before .before .before .before .before .before .before .times2 .ensures) at (c .before .before .before .before .before .before .before .read .ensures)) ∙ c .before .before .before .before .before .reading .given .1) (sym (rw (tail-part, c .before .before .before .before .before .before .before .before .before .times .ensures) at (c .before .before .read2 .ensures)) ∙ c .enum-told2 .given .1)
+returns-3 c =
+    let a = c .before .before .before .before .before .before .before .before .before .before .before .args in
+    let times = c .before .before .before .before .before .before .before .before .before .times in
+    enough-both (a .q) (a .n * a .n + (a .n * (a .n + 1) + a .n * (a .n + 1))) (a .n * a .n + (a .n * a .n + a .n * a .n)) (a .words .now) (sym (rw (times .ensures, c .before .before .before .before .before .before .before .before .times2 .ensures) at (c .before .before .before .before .before .before .before .read .ensures)) ∙ c .before .before .before .before .before .reading .given .1) (sym (rw (tail-part, times .ensures) at (c .before .before .read2 .ensures)) ∙ c .enum-told2 .given .1)
 
 pub system-reading-spec : {M : Type 1} → statement M
 system-reading-spec =

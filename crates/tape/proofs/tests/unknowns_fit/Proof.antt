@@ -17,7 +17,9 @@ returns-2 c = simp (le-leb _ _ (c .before .if1 .left), lt-leb _ _ (c .if2 .taken
 
 returns-3 : tie.Need-returns-3
 unfolding sidesFit within both
-returns-3 c = simp (le-leb _ _ (c .before .if1 .left), le-leb _ _ (c .if2 .left), eq-eqb (c .before .before .args .n) (c .before .before .args .n) refl, eq-eqb (c .before .before .args .n + 1) (c .before .before .args .n + 1) refl)
+returns-3 c =
+    let a = c .before .before .args in
+    simp (le-leb _ _ (c .before .if1 .left), le-leb _ _ (c .if2 .left), eq-eqb (a .n) (a .n) refl, eq-eqb (a .n + 1) (a .n + 1) refl)
 
 pub unknowns-fit-spec : {M : Type 1} → statement M
 unknowns-fit-spec = tie.close (tie.spec returns returns-2 returns-3)

@@ -32,19 +32,25 @@ part-draw-end-2 : tie.Need-part-draw-end-2
 part-draw-end-2 c = search needs
 
 draw-requires : tie.Need-draw-requires
-draw-requires c κs = (c .before .before .before .before .pre .0, rw (tail-part (c .before .before .before .before .args .from) (c .before .before .before .before .args .words .now)) (c .before .before .before .before .pre .2), simp (length-take, length-drop) (omega (arith, c .before .before .before .before .pre .3)))
+draw-requires c κs =
+    let a = c .before .before .before .before .args in
+    let h = c .before .before .before .before .pre in
+    (h .0, rw (tail-part (a .from) (a .words .now)) (h .2), simp (length-take, length-drop) (omega (arith, h .3)))
 
 add-result : tie.Need-add-result
-add-result c = omega (arith, c .before .before .draw .ensures .0, read-few (c .before .before .before .before .before .before .before .args .q) (c .before .before .before .before .before .before .before .args .n) (drop (c .before .before .before .before .before .before .before .args .from) (c .before .before .before .before .before .before .before .args .words .now)), length-drop (c .before .before .before .before .before .before .before .args .from) (c .before .before .before .before .before .before .before .args .words .now), rw (tail-part (c .before .before .before .before .before .before .before .args .from) (c .before .before .before .before .before .before .before .args .words .now)) at (c .before .before .draw .ensures .0))
+add-result c =
+    let a = c .before .before .before .before .before .before .before .args in
+    omega (arith, c .before .before .draw .ensures .0, read-few (a .q) (a .n) (drop (a .from) (a .words .now)), length-drop (a .from) (a .words .now), rw (tail-part (a .from) (a .words .now)) at (c .before .before .draw .ensures .0))
 
 same-length : tie.Need-same-length
 same-length c = search needs
 
 returns : tie.Need-returns
 returns c =
+    let a = c .before .before .before .before .before .before .before .args in
     let e = c .before .before .draw .ensures in (
-      omega (arith, rw (tail-part (c .before .before .before .before .before .before .before .args .from) (c .before .before .before .before .before .before .before .args .words .now)) at (e .0)),
-      part-written (c .before .before .before .before .before .before .before .args .at) _ (c .before .before .before .before .before .before .before .args .out .now) _ (search needs) (rw (tail-part (c .before .before .before .before .before .before .before .args .from) (c .before .before .before .before .before .before .before .args .words .now)) at (e .1)),
+      omega (arith, rw (tail-part (a .from) (a .words .now)) at (e .0)),
+      part-written (a .at) _ (a .out .now) _ (search needs) (rw (tail-part (a .from) (a .words .now)) at (e .1)),
     )
 
 pub draw-next-spec : {M : Type 1} → statement M

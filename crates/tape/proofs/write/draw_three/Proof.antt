@@ -14,17 +14,21 @@ draw-next-requires c κs = search needs
 
 draw-next-requires-2 : tie.Need-draw-next-requires-2
 draw-next-requires-2 c κs =
-    let one : c .before .before .before .draw-next .result ≡ wordsRead (c .before .before .before .before .before .before .before .before .args .q) (c .before .before .before .before .before .before .before .before .args .a) (c .before .before .before .before .before .before .before .before .args .words .now) = omega (arith, c .before .before .before .draw-next .ensures .0) in
-    (c .before .before .before .before .before .before .before .before .pre .0, next-inside (c .before .before .before .before .before .before .before .before .args .q) (c .before .before .before .before .before .before .before .before .args .a) (c .before .before .before .before .before .before .before .before .args .words .now) _ one, next-left (c .before .before .before .before .before .before .before .before .args .q) (c .before .before .before .before .before .before .before .before .args .a) (c .before .before .before .before .before .before .before .before .args .words .now) _ one (c .before .before .before .before .before .before .before .before .args .b) (omega arith), c .before .before .before .before .before .before .before .before .pre .3)
+    let a = c .before .before .before .before .before .before .before .before .args in
+    let h = c .before .before .before .before .before .before .before .before .pre in
+    let one : c .before .before .before .draw-next .result ≡ wordsRead (a .q) (a .a) (a .words .now) = omega (arith, c .before .before .before .draw-next .ensures .0) in
+    (h .0, next-inside (a .q) (a .a) (a .words .now) _ one, next-left (a .q) (a .a) (a .words .now) _ one (a .b) (omega arith), h .3)
 
 add-draw-next : tie.Need-add-draw-next
 add-draw-next c = search needs
 
 draw-next-requires-3 : tie.Need-draw-next-requires-3
 draw-next-requires-3 c κs =
-    let one : c .before .before .before .before .before .before .before .draw-next .result ≡ wordsRead (c .before .before .before .before .before .before .before .before .before .before .before .before .args .q) (c .before .before .before .before .before .before .before .before .before .before .before .before .args .a) (c .before .before .before .before .before .before .before .before .before .before .before .before .args .words .now) = omega (arith, c .before .before .before .before .before .before .before .draw-next .ensures .0) in
-    let two : c .before .before .before .draw-next2 .result ≡ wordsRead (c .before .before .before .before .before .before .before .before .before .before .before .before .args .q) (c .before .before .before .before .before .before .before .before .before .before .before .before .args .a + c .before .before .before .before .before .before .before .before .before .before .before .before .args .b) (c .before .before .before .before .before .before .before .before .before .before .before .before .args .words .now) = c .before .before .before .draw-next2 .ensures .0 ∙ next-read (c .before .before .before .before .before .before .before .before .before .before .before .before .args .q) (c .before .before .before .before .before .before .before .before .before .before .before .before .args .a) (c .before .before .before .before .before .before .before .before .before .before .before .before .args .words .now) _ one (c .before .before .before .before .before .before .before .before .before .before .before .before .args .b) (omega arith) in
-    (c .before .before .before .before .before .before .before .before .before .before .before .before .pre .0, next-inside (c .before .before .before .before .before .before .before .before .before .before .before .before .args .q) (c .before .before .before .before .before .before .before .before .before .before .before .before .args .a + c .before .before .before .before .before .before .before .before .before .before .before .before .args .b) (c .before .before .before .before .before .before .before .before .before .before .before .before .args .words .now) _ two, next-left (c .before .before .before .before .before .before .before .before .before .before .before .before .args .q) (c .before .before .before .before .before .before .before .before .before .before .before .before .args .a + c .before .before .before .before .before .before .before .before .before .before .before .before .args .b) (c .before .before .before .before .before .before .before .before .before .before .before .before .args .words .now) _ two (c .before .before .before .before .before .before .before .before .before .before .before .before .args .c) (omega arith), search needs)
+    let a = c .before .before .before .before .before .before .before .before .before .before .before .before .args in
+    let draw-next = c .before .before .before .before .before .before .before .draw-next in
+    let one : draw-next .result ≡ wordsRead (a .q) (a .a) (a .words .now) = omega (arith, draw-next .ensures .0) in
+    let two : c .before .before .before .draw-next2 .result ≡ wordsRead (a .q) (a .a + a .b) (a .words .now) = c .before .before .before .draw-next2 .ensures .0 ∙ next-read (a .q) (a .a) (a .words .now) _ one (a .b) (omega arith) in
+    (c .before .before .before .before .before .before .before .before .before .before .before .before .pre .0, next-inside (a .q) (a .a + a .b) (a .words .now) _ two, next-left (a .q) (a .a + a .b) (a .words .now) _ two (a .c) (omega arith), search needs)
 
 same-length : tie.Need-same-length
 same-length c = search needs
@@ -34,13 +38,17 @@ same-length-2 c = search needs
 
 returns : tie.Need-returns
 returns c =
-    let one : c .before .before .before .before .before .before .before .before .before .before .draw-next .result ≡ wordsRead (c .before .before .before .before .before .before .before .before .before .before .before .before .before .before .before .args .q) (c .before .before .before .before .before .before .before .before .before .before .before .before .before .before .before .args .a) (c .before .before .before .before .before .before .before .before .before .before .before .before .before .before .before .args .words .now) = omega (arith, c .before .before .before .before .before .before .before .before .before .before .draw-next .ensures .0) in
-    let two : c .before .before .before .before .before .before .draw-next2 .result ≡ wordsRead (c .before .before .before .before .before .before .before .before .before .before .before .before .before .before .before .args .q) (c .before .before .before .before .before .before .before .before .before .before .before .before .before .before .before .args .a + c .before .before .before .before .before .before .before .before .before .before .before .before .before .before .before .args .b) (c .before .before .before .before .before .before .before .before .before .before .before .before .before .before .before .args .words .now) = c .before .before .before .before .before .before .draw-next2 .ensures .0 ∙ next-read (c .before .before .before .before .before .before .before .before .before .before .before .before .before .before .before .args .q) (c .before .before .before .before .before .before .before .before .before .before .before .before .before .before .before .args .a) (c .before .before .before .before .before .before .before .before .before .before .before .before .before .before .before .args .words .now) _ one (c .before .before .before .before .before .before .before .before .before .before .before .before .before .before .before .args .b) (omega arith) in
-    let sum : c .before .before .before .before .before .before .before .before .before .before .before .before .before .before .before .args .a + c .before .before .before .before .before .before .before .before .before .before .before .before .before .before .before .args .b + c .before .before .before .before .before .before .before .before .before .before .before .before .before .before .before .args .c ≡ c .before .before .before .before .before .before .before .before .before .before .before .before .before .before .before .args .a + (c .before .before .before .before .before .before .before .before .before .before .before .before .before .before .before .args .b + c .before .before .before .before .before .before .before .before .before .before .before .before .before .before .before .args .c) = omega arith in (
-      c .before .before .draw-next3 .ensures .0 ∙ (next-read (c .before .before .before .before .before .before .before .before .before .before .before .before .before .before .before .args .q) (c .before .before .before .before .before .before .before .before .before .before .before .before .before .before .before .args .a + c .before .before .before .before .before .before .before .before .before .before .before .before .before .before .before .args .b) (c .before .before .before .before .before .before .before .before .before .before .before .before .before .before .before .args .words .now) _ two (c .before .before .before .before .before .before .before .before .before .before .before .before .before .before .before .args .c) (omega arith) ∙ ap (λ (n : ℕ). wordsRead (c .before .before .before .before .before .before .before .before .before .before .before .before .before .before .before .args .q) n (c .before .before .before .before .before .before .before .before .before .before .before .before .before .before .before .args .words .now)) sum),
+    let a = c .before .before .before .before .before .before .before .before .before .before .before .before .before .before .before .args in
+    let h = c .before .before .before .before .before .before .before .before .before .before .before .before .before .before .before .pre in
+    let draw-next = c .before .before .before .before .before .before .before .before .before .before .draw-next in
+    let draw-next2 = c .before .before .before .before .before .before .draw-next2 in
+    let one : draw-next .result ≡ wordsRead (a .q) (a .a) (a .words .now) = omega (arith, draw-next .ensures .0) in
+    let two : draw-next2 .result ≡ wordsRead (a .q) (a .a + a .b) (a .words .now) = draw-next2 .ensures .0 ∙ next-read (a .q) (a .a) (a .words .now) _ one (a .b) (omega arith) in
+    let sum : a .a + a .b + a .c ≡ a .a + (a .b + a .c) = omega arith in (
+      c .before .before .draw-next3 .ensures .0 ∙ (next-read (a .q) (a .a + a .b) (a .words .now) _ two (a .c) (omega arith) ∙ ap (λ (n : ℕ). wordsRead (a .q) n (a .words .now)) sum),
       (
-        three-first (c .before .before .before .before .before .before .before .before .before .before .before .before .before .before .before .args .q) (c .before .before .before .before .before .before .before .before .before .before .before .before .before .before .before .args .a) (c .before .before .before .before .before .before .before .before .before .before .before .before .before .before .before .args .b) (c .before .before .before .before .before .before .before .before .before .before .before .before .before .before .before .args .c) (c .before .before .before .before .before .before .before .before .before .before .before .before .before .before .before .args .words .now) (c .before .before .before .before .before .before .before .before .before .before .before .before .before .before .before .pre .1) (c .before .before .before .before .before .before .before .before .before .before .before .before .before .before .before .args .first-at) (c .before .before .before .before .before .before .before .before .before .before .before .before .before .before .before .args .first .now) _ _ two (omega arith) (c .before .before .before .before .before .before .before .before .before .before .draw-next .ensures .1) (c .before .before .draw-next3 .ensures .1),
-        three-second (c .before .before .before .before .before .before .before .before .before .before .before .before .before .before .before .args .q) (c .before .before .before .before .before .before .before .before .before .before .before .before .before .before .before .args .a) (c .before .before .before .before .before .before .before .before .before .before .before .before .before .before .before .args .b) (c .before .before .before .before .before .before .before .before .before .before .before .before .before .before .before .args .c) (c .before .before .before .before .before .before .before .before .before .before .before .before .before .before .before .args .words .now) (c .before .before .before .before .before .before .before .before .before .before .before .before .before .before .before .pre .1) (c .before .before .before .before .before .before .before .before .before .before .before .before .before .before .before .args .second-at) (c .before .before .before .before .before .before .before .before .before .before .before .before .before .before .before .args .second .now) _ one (c .before .before .before .before .before .before .draw-next2 .ensures .1),
+        three-first (a .q) (a .a) (a .b) (a .c) (a .words .now) (h .1) (a .first-at) (a .first .now) _ _ two (omega arith) (draw-next .ensures .1) (c .before .before .draw-next3 .ensures .1),
+        three-second (a .q) (a .a) (a .b) (a .c) (a .words .now) (h .1) (a .second-at) (a .second .now) _ one (draw-next2 .ensures .1),
       ),
     )
 

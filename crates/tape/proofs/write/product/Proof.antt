@@ -19,11 +19,12 @@ same-length-2 c = search needs
 
 returns : tie.Need-returns
 returns c =
+    let a = c .before .before .before .before .before .before .before .before .before .before .args in
     let e = c .before .before .before .before .masks .ensures in (
       e .0,
       (
-        e .1 .0 ∙ ap (λ (l : List ℕ). over l (c .before .before .before .before .before .before .before .before .before .before .args .first .now)) (product-first (c .before .before .before .before .before .before .before .before .before .before .args .tape) (c .before .before .before .before .before .before .before .before .before .before .args .q) (c .before .before .before .before .before .before .before .before .before .before .args .m) (c .before .before .before .before .before .before .before .before .before .before .args .k) (c .before .before .before .before .before .before .before .before .before .before .args .p) (c .before .before .before .before .before .before .before .before .before .before .args .words .now)),
-        e .1 .1 ∙ ap (λ (l : List ℕ). over l (c .before .before .before .before .before .before .before .before .before .before .args .second .now)) (product-second (c .before .before .before .before .before .before .before .before .before .before .args .tape) (c .before .before .before .before .before .before .before .before .before .before .args .q) (c .before .before .before .before .before .before .before .before .before .before .args .m) (c .before .before .before .before .before .before .before .before .before .before .args .k) (c .before .before .before .before .before .before .before .before .before .before .args .p) (c .before .before .before .before .before .before .before .before .before .before .args .words .now)),
+        e .1 .0 ∙ ap (λ (l : List ℕ). over l (a .first .now)) (product-first (a .tape) (a .q) (a .m) (a .k) (a .p) (a .words .now)),
+        e .1 .1 ∙ ap (λ (l : List ℕ). over l (a .second .now)) (product-second (a .tape) (a .q) (a .m) (a .k) (a .p) (a .words .now)),
       ),
     )
 

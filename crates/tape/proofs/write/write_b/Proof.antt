@@ -82,8 +82,9 @@ same-length c = search needs
 
 returns : tie.Need-returns
 returns c =
+    let h = c .before .before .before .before .before .before .before .before .before .before .before .before .before .before .pre in
     let a = c .before .before .before .before .before .before .before .before .before .before .before .before .before .before .args in
-    b-written (a .q) (a .m) (a .k) (a .p) (a .first .now) (a .second .now) _ _ _ (omega (arith, c .before .before .before .before .before .before .before .before .before .before .before .before .before .before .pre .0 .few-mp)) (omega (arith, c .before .before .before .before .before .before .before .before .before .before .before .before .before .before .pre .2)) (c .before .before .before .before .before .before .write-deal .ensures) (c .before .before .write-copy .ensures)
+    b-written (a .q) (a .m) (a .k) (a .p) (a .first .now) (a .second .now) _ _ _ (omega (arith, h .0 .few-mp)) (omega (arith, h .2)) (c .before .before .before .before .before .before .write-deal .ensures) (c .before .before .write-copy .ensures)
 
 pub write-b-spec : {M : Type 1} → statement M
 write-b-spec =

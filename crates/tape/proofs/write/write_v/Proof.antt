@@ -59,19 +59,21 @@ slice-aggregate-write-masked : tie.Need-slice-aggregate-write-masked
 slice-aggregate-write-masked c = search needs
 
 write-masked-requires : tie.Need-write-masked-requires
-write-masked-requires c κs = (
-  record {
-    some-q = c .before .before .before .before .before .before .before .pre .0;
-    small-q = c .before .before .before .before .before .before .before .pre .1;
-    some-p = omega (arith, c .before .before .before .before .before .before .before .pre .2);
-    few-k = omega (arith, c .before .before .before .before .before .before .before .pre .3);
-    few-y = omega (arith, square-few (c .before .before .before .before .before .before .before .args .n) (c .before .before .before .before .before .before .before .pre .3));
-    full-x = simp (length-take, length-drop) (omega (arith, square-few (c .before .before .before .before .before .before .before .args .n) (c .before .before .before .before .before .before .before .pre .3)));
-    full-y = simp (length-take, length-drop) (omega (arith, square-few (c .before .before .before .before .before .before .before .args .n) (c .before .before .before .before .before .before .before .pre .3)));
-    room = omega (arith, square-few (c .before .before .before .before .before .before .before .args .n) (c .before .before .before .before .before .before .before .pre .3));
-  },
-  simp (length-take, length-drop) (omega (arith, square-few (c .before .before .before .before .before .before .before .args .n) (c .before .before .before .before .before .before .before .pre .3))),
-)
+write-masked-requires c κs =
+    let a = c .before .before .before .before .before .before .before .args in
+    let h = c .before .before .before .before .before .before .before .pre in (
+      record {
+        some-q = h .0;
+        small-q = h .1;
+        some-p = omega (arith, h .2);
+        few-k = omega (arith, h .3);
+        few-y = omega (arith, square-few (a .n) (h .3));
+        full-x = simp (length-take, length-drop) (omega (arith, square-few (a .n) (h .3)));
+        full-y = simp (length-take, length-drop) (omega (arith, square-few (a .n) (h .3)));
+        room = omega (arith, square-few (a .n) (h .3));
+      },
+      simp (length-take, length-drop) (omega (arith, square-few (a .n) (h .3))),
+    )
 
 slice-aggregate-write-copy : tie.Need-slice-aggregate-write-copy
 slice-aggregate-write-copy c = search needs
@@ -89,15 +91,19 @@ part-write-copy-end : tie.Need-part-write-copy-end
 part-write-copy-end c = search needs
 
 write-copy-requires : tie.Need-write-copy-requires
-write-copy-requires c κs = (omega (arith, square-few (c .before .before .before .before .before .before .before .before .before .before .before .args .n) (c .before .before .before .before .before .before .before .before .before .before .before .pre .3)), simp (length-take, length-drop) (omega (arith, square-few (c .before .before .before .before .before .before .before .before .before .before .before .args .n) (c .before .before .before .before .before .before .before .before .before .before .before .pre .3))))
+write-copy-requires c κs =
+    let a = c .before .before .before .before .before .before .before .before .before .before .before .args in
+    let h = c .before .before .before .before .before .before .before .before .before .before .before .pre in
+    (omega (arith, square-few (a .n) (h .3)), simp (length-take, length-drop) (omega (arith, square-few (a .n) (h .3))))
 
 same-length : tie.Need-same-length
 same-length c = search needs
 
 returns : tie.Need-returns
 returns c =
+    let h = c .before .before .before .before .before .before .before .before .before .before .before .before .before .before .pre in
     let a = c .before .before .before .before .before .before .before .before .before .before .before .before .before .before .args in
-    v-written (a .q) (a .n) (a .first-at) (a .second-at) (a .first .now) (a .second .now) _ _ _ (omega (arith, square-few (c .before .before .before .before .before .before .before .before .before .before .before .before .before .before .args .n) (c .before .before .before .before .before .before .before .before .before .before .before .before .before .before .pre .3))) (omega (arith, c .before .before .before .before .before .before .before .before .before .before .before .before .before .before .pre .5)) (c .before .before .before .before .before .before .write-masked .ensures) (c .before .before .write-copy .ensures)
+    v-written (a .q) (a .n) (a .first-at) (a .second-at) (a .first .now) (a .second .now) _ _ _ (omega (arith, square-few (c .before .before .before .before .before .before .before .before .before .before .before .before .before .before .args .n) (h .3))) (omega (arith, h .5)) (c .before .before .before .before .before .before .write-masked .ensures) (c .before .before .write-copy .ensures)
 
 pub write-v-spec : {M : Type 1} → statement M
 write-v-spec =
