@@ -1,1 +1,2 @@
+-- Refused  a test that failed shows nothing
 pub mod Refused

@@ -1,3 +1,4 @@
+-- `bench_system::keep` meets its contract. Assumes nothing.
 use borrow.Author.Needs.{needs}
 use Rattle.solver.proofs.Known.{kept-length, len-le}
 use Rattle.bench_system.proofs.keep.Statement.{statement}

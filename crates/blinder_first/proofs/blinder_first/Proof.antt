@@ -1,3 +1,4 @@
+-- `blinder_first::blinder_first` meets its contract. Assumes nothing.
 use mathlib.Core.Path.{sym, ap, _∙_}
 use native.Mathlib.Omega.{arith}
 use lib.ListN.{length}

@@ -1,3 +1,4 @@
+-- `blinder_first::check_drawn` meets its contract. Assumes nothing.
 use mathlib.Core.Path.{sym, _∙_}
 use borrow.Author.Needs.{needs}
 use Rattle.blinder_first.proofs.Coins.{dry-refused, dry-passed, enough}

@@ -1,3 +1,4 @@
+-- `columns::write_row` meets its contract. Assumes nothing.
 use borrow.Author.Needs.{needs}
 use Rattle.columns.proofs.Rows.{words-count}
 use Rattle.matrix.specs.Fill.{firstWords}

@@ -1,3 +1,4 @@
+-- `dropping::right_drop` meets its contract. Assumes nothing.
 use mathlib.Core.Path.{refl, sym, ap, _∙_}
 use borrow.Author.Needs.{needs}
 use mathlib.Core.List.{[]}

@@ -1,3 +1,4 @@
+-- `dropping::solver_drop` meets its contract. Assumes nothing.
 use mathlib.Core.Path.{refl, sym, ap, _∙_}
 use borrow.Author.Needs.{needs}
 use mathlib.Core.List.{[]}

@@ -1,3 +1,4 @@
+-- `rehearsal::main` meets its contract. Assumes nothing.
 use mathlib.Core.Path.{sym}
 use lib.Seq.{length-take-le}
 use Rattle.rehearse.proofs.Printed.{printed-fits}

@@ -1,3 +1,4 @@
+-- `rehearse_cases::run` meets its contract. Assumes nothing.
 use mathlib.Core.Path.{sym}
 use lib.Seq.{length-take-le}
 use Rattle.rehearse.proofs.Printed.{printed-fits}

@@ -1,3 +1,4 @@
+-- `solver::no_session` meets its contract. Assumes nothing.
 use borrow.Author.Needs.{needs}
 use Rattle.algebra.specs.Matrix.{zeros, tabulate}
 use Rattle.solver.proofs.no_session.Statement.{statement}

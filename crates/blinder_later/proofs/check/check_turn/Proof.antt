@@ -1,3 +1,4 @@
+-- `blinder_later::check::check_turn` meets its contract. Assumes nothing.
 use borrow.Author.Needs.{needs}
 use Rattle.session.proofs.Join.{also}
 use mathlib.Core.List.{[], _∷_}

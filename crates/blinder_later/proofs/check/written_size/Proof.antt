@@ -1,3 +1,4 @@
+-- `blinder_later::check::written_size` meets its contract. Assumes nothing.
 use borrow.Author.Needs.{needs}
 use Rattle.blinder_later.specs.Groups.{writtenSize}
 use Rattle.protocol.specs.Bounds.{system}

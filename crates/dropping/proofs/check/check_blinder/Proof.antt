@@ -1,3 +1,4 @@
+-- `dropping::check::check_blinder` meets its contract. Assumes nothing.
 use borrow.Author.Needs.{needs}
 use Rattle.session.proofs.Join.{also}
 use Rattle.dropping.proofs.check.check_blinder.Statement.{statement}

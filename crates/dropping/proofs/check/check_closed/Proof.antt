@@ -1,3 +1,4 @@
+-- `dropping::check::check_closed` meets its contract. Assumes nothing.
 use borrow.Author.Needs.{needs}
 use mathlib.Core.List.{[], _∷_}
 use Rattle.session.proofs.Join.{also}

@@ -1,3 +1,4 @@
+-- `dropping::check::check_numbers` meets its contract. Assumes nothing.
 use borrow.Author.Needs.{needs}
 use Rattle.session.proofs.Join.{also}
 use Rattle.dropping.specs.Groups.{openNumbers}

@@ -1,3 +1,4 @@
+-- `dropping::check::scratch_fits` meets its contract. Assumes nothing.
 use mathlib.Core.Path.{sym}
 use Prim.Native.Nat.{_+_, _*_}
 use native.Mathlib.Omega.{arith}

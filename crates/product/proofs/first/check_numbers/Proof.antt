@@ -1,3 +1,4 @@
+-- `product::first::check_numbers` meets its contract. Assumes nothing.
 use mathlib.Core.Path.{_∙_}
 use borrow.Author.Needs.{needs}
 use Rattle.session.proofs.Join.{also}

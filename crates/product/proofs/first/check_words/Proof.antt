@@ -1,3 +1,4 @@
+-- `product::first::check_words` meets its contract. Assumes nothing.
 use native.Mathlib.Omega.{arith}
 use borrow.Author.Needs.{needs}
 use Rattle.session.proofs.Join.{also}

@@ -1,3 +1,4 @@
+-- `product::last::check_open` meets its contract. Assumes nothing.
 use borrow.Author.Needs.{needs}
 use Rattle.session.proofs.Join.{also}
 use Rattle.product.specs.Groups.{lastNumbers}

@@ -1,3 +1,4 @@
+-- `product::last::check_turn` meets its contract. Assumes nothing.
 use borrow.Author.Needs.{needs}
 use Rattle.session.proofs.Join.{also}
 use mathlib.Core.List.{[], _∷_}

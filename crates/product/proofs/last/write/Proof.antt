@@ -1,3 +1,4 @@
+-- `product::last::write` meets its contract. Assumes nothing.
 use mathlib.Core.Path.{refl, sym}
 use Prim.Native.Nat.{_*_}
 use native.Mathlib.Omega.{arith}

@@ -1,3 +1,4 @@
+-- `product::left::check_coins` meets its contract. Assumes nothing.
 use mathlib.Core.Path.{sym, _∙_}
 use borrow.Author.Needs.{needs}
 use Rattle.protocol.specs.Drawing.{drawTests}

@@ -1,3 +1,4 @@
+-- `product::left::check_words` meets its contract. Assumes nothing.
 use borrow.Author.Needs.{needs}
 use Rattle.session.proofs.Join.{also}
 use Rattle.product.specs.Groups.{leftWords}

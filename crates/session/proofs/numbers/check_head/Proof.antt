@@ -1,3 +1,4 @@
+-- `session::numbers::check_head` meets its contract. Assumes nothing.
 use mathlib.Core.Path.{refl, sym, ap, _∙_}
 use borrow.Author.Needs.{needs}
 use Rattle.session.specs.Groups.{numberTests, idTests, countTests}

@@ -1,3 +1,4 @@
+-- `session::numbers::check_kind` meets its contract. Assumes nothing.
 use borrow.Author.Needs.{needs}
 use Rattle.session.specs.Groups.{kindTests}
 use Rattle.session.proofs.Join.{judged-cons}

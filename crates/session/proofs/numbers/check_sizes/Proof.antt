@@ -1,3 +1,4 @@
+-- `session::numbers::check_sizes` meets its contract. Assumes nothing.
 use mathlib.Core.Path.{sym, ap, _∙_}
 use borrow.Author.Needs.{needs}
 use Rattle.session.specs.Groups.{numberTests, placeTests, idTests}

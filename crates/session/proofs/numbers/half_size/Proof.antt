@@ -1,3 +1,4 @@
+-- `session::numbers::half_size` meets its contract. Assumes nothing.
 use native.Mathlib.Omega.{arith}
 use borrow.Author.Needs.{needs}
 use Rattle.session.proofs.Shape.{sides-of}

@@ -1,3 +1,4 @@
+-- `session::tape::check_body` meets its contract. Assumes nothing.
 use native.Mathlib.Omega.{arith}
 use borrow.Author.Needs.{needs}
 use Rattle.session.proofs.Slot.{half-body, body-part}

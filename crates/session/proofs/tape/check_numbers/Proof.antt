@@ -1,3 +1,4 @@
+-- `session::tape::check_numbers` meets its contract. Assumes nothing.
 use borrow.Author.Needs.{needs}
 use Rattle.session.specs.Groups.{tapeNumberTests}
 use Rattle.session.proofs.Join.{also}

@@ -1,3 +1,4 @@
+-- `session::tape::check_tape` meets its contract. Assumes nothing.
 use borrow.Author.Needs.{needs}
 use Rattle.protocol.specs.Tape.{tapeTests, statusOf}
 use Rattle.session.specs.Groups.{tapeNumberTests}

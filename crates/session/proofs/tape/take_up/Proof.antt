@@ -1,3 +1,4 @@
+-- `session::tape::take_up` meets its contract. Assumes nothing.
 use borrow.Author.Needs.{needs}
 use Rattle.session.proofs.Slot.{in-use-set}
 use Rattle.session.proofs.tape.take_up.Statement.{statement}

@@ -1,3 +1,4 @@
+-- `session::tape::write_spent` meets its contract. Assumes nothing.
 use borrow.Author.Needs.{needs}
 use Rattle.session.proofs.Slot.{zeroed-spent}
 use Rattle.session.proofs.tape.write_spent.Statement.{statement}

@@ -1,3 +1,4 @@
+-- `solver::last::answer` meets its contract. Assumes nothing.
 use mathlib.Core.Path.{refl}
 use borrow.Author.Needs.{needs}
 use Rattle.algebra.specs.Matrix.{zeros, tabulate}

@@ -1,3 +1,4 @@
+-- `solver::later::check_open` meets its contract. Assumes nothing.
 use borrow.Author.Needs.{needs}
 use Rattle.session.proofs.Join.{also}
 use Rattle.solver.specs.Groups.{laterNumbers}
