@@ -14,7 +14,7 @@ use Rattle.algebra.specs.Words.{over}
 use Rattle.protocol.specs.declared.Terms.{Terms}
 use Rattle.protocol.specs.Bounds.{sidesFit, system, columns}
 use Rattle.protocol.specs.System.{padded, sideSize, scratchSize}
-use Rattle.matrix.specs.Fill.{firstWords}
+use Rattle.vectors.specs.Fill.{firstWords}
 use Rattle.session.proofs.Shape.{unknowns}
 
 pub zero-array : (n : ℕ) → replicate n 0 ≡ zeros n

@@ -2,7 +2,6 @@
 use blinder::scratch_size;
 use checks::Check;
 use checks::times;
-use matrix::all_below;
 use message::message_size;
 use message::side_size;
 use protocol::BlinderSession;
@@ -14,6 +13,7 @@ use session::lowest::need;
 use session::lowest::worst;
 use steps::check_closed;
 use steps::check_numbers;
+use vectors::all_below;
 ghost use mathlib.Core.Path.{_≡_};
 ghost use mathlib.Core.Bool.{true};
 ghost use Prim.Native.Nat.{_≤_, _<_};

@@ -3,7 +3,7 @@ use columns::write_cols;
 use matrix::write_deal;
 use matrix::write_product;
 use matrix::write_share;
-use matrix::write_sum;
+use vectors::write_sum;
 ghost use mathlib.Core.Path.{_≡_};
 ghost use Prim.Native.Nat.{_+_, _*_, _≤_};
 ghost use lib.ListN.{length};

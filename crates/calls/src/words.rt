@@ -5,7 +5,6 @@
 //   solver    the terms, due, s                              23
 //   blinder   the terms, due, M, y                          279
 //   report    words read, then the head of what is sent       8
-use matrix::write_copy;
 use protocol::Answer;
 use protocol::BlinderSession;
 use protocol::Head;
@@ -15,6 +14,7 @@ use protocol::SessionId;
 use protocol::SolverSession;
 use protocol::TapeId;
 use protocol::Terms;
+use vectors::write_copy;
 ghost use mathlib.Core.Path.{_≡_};
 ghost use Prim.Native.Nat.{_≤_};
 ghost use lib.ListN.{length};

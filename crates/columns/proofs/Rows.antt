@@ -17,8 +17,8 @@ use Rattle.algebra.specs.Matrix.{tabulate, Entries, entry, matrix}
 use Rattle.algebra.specs.Columns.{cols, beside}
 use Rattle.algebra.specs.Words.{over}
 use Rattle.algebra.proofs.Lists.{length-tabulate}
-use Rattle.matrix.specs.Fill.{firstWords}
-use Rattle.matrix.proofs.Fill.{tabulate-ext}
+use Rattle.vectors.specs.Fill.{firstWords}
+use Rattle.vectors.proofs.Fill.{tabulate-ext}
 
 tabulate-append : (m n : ℕ) (f : ℕ → ℕ) → tabulate (m + n) f ≡ tabulate m f ++ tabulate n (λ e. f (m + e))
 unfolding tabulate

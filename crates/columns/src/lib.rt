@@ -1,12 +1,12 @@
 // Columns of a matrix, and two matrices side by side, over slices, row by row. The words past the count keep their value.
-use matrix::write_copy;
+use vectors::write_copy;
 ghost use mathlib.Core.Path.{_≡_};
 ghost use mathlib.Core.List.{_++_};
 ghost use Prim.Native.Nat.{_+_, _*_, _≤_};
 ghost use lib.ListN.{length};
 ghost use Rattle.algebra.specs.Columns.{cols, beside};
 ghost use Rattle.algebra.specs.Words.{over};
-ghost use Rattle.matrix.specs.Fill.{firstWords};
+ghost use Rattle.vectors.specs.Fill.{firstWords};
 
 // p columns, from column s on, of a matrix with m rows and w columns.
 pub fn write_cols(m: usize, w: usize, s: usize, p: usize, a: &[u32], out: &mut [u32])

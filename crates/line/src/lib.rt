@@ -111,7 +111,7 @@ fn check_rest(q: u32, residues: &[u32], need: usize, room: usize) -> Check
     if room < need {
         return Check::Refused(Refusal::Size);
     }
-    if !matrix::all_below(q, residues) {
+    if !vectors::all_below(q, residues) {
         return Check::Refused(Refusal::Residue);
     }
     Check::Passed

@@ -1,10 +1,7 @@
--- Fill     a list that a loop fills from the front
 -- Modular  products and remainders
 -- Sums     a product added to words that were written first
 -- Along    sums along lists, places in matrices, and a product from the columns of its second matrix
 -- TwoColumns  a row times two columns at once
-pub mod Fill
-pub mod Below
 pub mod Modular
 pub mod Along
 pub mod Sums

@@ -1,10 +1,10 @@
 // A product x × y of an m by k and a k by p matrix, with other matrices added and taken away: the formulas of the sessions. What is added
 // is written first, and the product's inner products are added to it, each reduced once. Each writes over the first m × p words of `out`.
-use crate::entries::subtract_from;
-use crate::entries::write_copy;
-use crate::entries::write_difference;
-use crate::entries::write_negative;
 use crate::product::add_product;
+use vectors::subtract_from;
+use vectors::write_copy;
+use vectors::write_difference;
+use vectors::write_negative;
 ghost use mathlib.Core.Path.{_≡_};
 ghost use Prim.Native.Nat.{_*_, _≤_};
 ghost use lib.ListN.{length};

@@ -1,30 +1,17 @@
 // Matrices modulo q, stored row by row in slices of words. Results are written over the first words of a lent slice;
 // the words past the count keep their value.
 //   Matrix   a matrix's sides, and the bounds of 01 on them
-//   rest     the rest of a division, mostly without one
-//   residues words below a bound, and sum and difference of residues: several words at a time
-//   entries  sum, difference, negative, copy and zeros, entry by entry
 //   sum      a sum of products that may pass 64 bits
 //   inner    the inner product
 //   pairs    the product of matrices of narrow words, two columns at once
 //   product  the product of an m by k and a k by p matrix
 //   formula  a product with other matrices added and taken away: what the sessions write
-pub mod entries;
 pub mod formula;
 pub mod inner;
 pub mod pairs;
 pub mod product;
-pub mod residues;
-pub mod rest;
 pub mod sum;
 
-pub use entries::add_to;
-pub use entries::subtract_from;
-pub use entries::write_copy;
-pub use entries::write_difference;
-pub use entries::write_negative;
-pub use entries::write_sum;
-pub use entries::write_zeros;
 pub use formula::write_deal;
 pub use formula::write_masked;
 pub use formula::write_reply;
@@ -32,7 +19,6 @@ pub use formula::write_share;
 pub use inner::inner_product;
 pub use product::add_product;
 pub use product::write_product;
-pub use residues::all_below;
 ghost use mathlib.Core.Path.{_≡_};
 ghost use Prim.Native.Nat.{_*_};
 ghost use Rattle.protocol.specs.Bounds.{sidesFit, product};

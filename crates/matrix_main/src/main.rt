@@ -99,7 +99,7 @@ fn show_sum(q: u32, n: usize, a: &[u32], b: &[u32])
     requires { ⌜ (0 < q) × (0 < n) × (n < 1028) × (n ≤ length (now a)) × (n ≤ length (now b)) ⌝ }
 {
     let mut out = [4294967295u32; 1028];
-    matrix::write_sum(q, n, a, b, &mut out);
+    vectors::write_sum(q, n, a, b, &mut out);
     show(b"sum", n, &out);
 }
 
@@ -107,7 +107,7 @@ fn show_difference(q: u32, n: usize, a: &[u32], b: &[u32])
     requires { ⌜ (0 < q) × (0 < n) × (n < 1028) × (n ≤ length (now a)) × (n ≤ length (now b)) ⌝ }
 {
     let mut out = [4294967295u32; 1028];
-    matrix::write_difference(q, n, a, b, &mut out);
+    vectors::write_difference(q, n, a, b, &mut out);
     show(b"difference", n, &out);
 }
 
@@ -115,7 +115,7 @@ fn show_add_to(q: u32, n: usize, a: &[u32], b: &[u32])
     requires { ⌜ (0 < q) × (0 < n) × (n < 1028) × (n ≤ length (now a)) × (n ≤ length (now b)) ⌝ }
 {
     let mut out = [4294967295u32; 1028];
-    matrix::add_to(q, n, &mut out, b);
+    vectors::add_to(q, n, &mut out, b);
     show(b"add_to", n, &out);
 }
 
@@ -123,7 +123,7 @@ fn show_subtract_from(q: u32, n: usize, a: &[u32], b: &[u32])
     requires { ⌜ (0 < q) × (0 < n) × (n < 1028) × (n ≤ length (now a)) × (n ≤ length (now b)) ⌝ }
 {
     let mut out = [4294967295u32; 1028];
-    matrix::subtract_from(q, n, &mut out, a);
+    vectors::subtract_from(q, n, &mut out, a);
     show(b"subtract_from", n, &out);
 }
 
@@ -131,7 +131,7 @@ fn show_negative(q: u32, n: usize, a: &[u32], b: &[u32])
     requires { ⌜ (0 < q) × (0 < n) × (n < 1028) × (n ≤ length (now a)) × (n ≤ length (now b)) ⌝ }
 {
     let mut out = [4294967295u32; 1028];
-    matrix::write_negative(q, n, b, &mut out);
+    vectors::write_negative(q, n, b, &mut out);
     show(b"negative", n, &out);
 }
 
@@ -139,7 +139,7 @@ fn show_copy(q: u32, n: usize, a: &[u32], b: &[u32])
     requires { ⌜ (0 < q) × (0 < n) × (n < 1028) × (n ≤ length (now a)) × (n ≤ length (now b)) ⌝ }
 {
     let mut out = [4294967295u32; 1028];
-    matrix::write_copy(n, a, &mut out);
+    vectors::write_copy(n, a, &mut out);
     show(b"copy", n, &out);
 }
 
@@ -147,7 +147,7 @@ fn show_zeros(q: u32, n: usize, a: &[u32], b: &[u32])
     requires { ⌜ (0 < q) × (0 < n) × (n < 1028) × (n ≤ length (now a)) × (n ≤ length (now b)) ⌝ }
 {
     let mut out = [4294967295u32; 1028];
-    matrix::write_zeros(n, &mut out);
+    vectors::write_zeros(n, &mut out);
     show(b"zeros", n, &out);
 }
 

@@ -2,7 +2,6 @@
 use checks::Check;
 use checks::times;
 use matrix::Matrix;
-use matrix::all_below;
 use product::left::check_coins;
 use protocol::Refusal;
 use protocol::Terms;
@@ -10,6 +9,7 @@ use session::End;
 use session::lowest::need;
 use session::lowest::worst;
 use session::numbers::check_modulus;
+use vectors::all_below;
 ghost use mathlib.Core.Path.{_≡_};
 ghost use Prim.Native.Nat.{_+_, _*_, _≤_, _<_};
 ghost use Rattle.checks.specs.InOrder.{checked, judged};

@@ -4,9 +4,9 @@ use crate::lowest::need;
 use crate::lowest::worst;
 use crate::numbers::half_size;
 use checks::Check;
-use matrix::all_below;
 use protocol::Refusal;
 use protocol::Terms;
+use vectors::all_below;
 ghost use mathlib.Core.Path.{_≡_};
 ghost use mathlib.Core.Bool.{true};
 ghost use mathlib.Core.List.{_++_};
@@ -68,7 +68,7 @@ fn write_spent(n: usize, slot: &mut [u32])
     requires { ⌜ 7 + n ≤ length (now slot) ⌝ }
     ensures { λ _. ⌜ now (slot .exit) ≡ spent n (now (slot .entry)) ⌝ }
 {
-    matrix::write_zeros(n, &mut slot[7..]);
+    vectors::write_zeros(n, &mut slot[7..]);
     slot[0] = 3;
 }
 

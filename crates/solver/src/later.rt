@@ -1,6 +1,5 @@
 // What the solver checks at its second step and its last: the session is open, the step is due, and the half and the message are its own.
 use checks::Check;
-use matrix::all_below;
 use message::side_size;
 use protocol::Head;
 use protocol::Refusal;
@@ -12,6 +11,7 @@ use session::lowest::worst;
 use steps::check_closed;
 use steps::check_numbers;
 use steps::check_words;
+use vectors::all_below;
 ghost use mathlib.Core.Path.{_≡_};
 ghost use mathlib.Core.Bool.{true};
 ghost use Prim.Native.Nat.{_≤_};

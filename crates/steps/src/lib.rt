@@ -5,7 +5,6 @@
 //   is_slot        the slot lies in its pool
 //   no_head        the head where nothing is sent
 use checks::Check;
-use matrix::all_below;
 use protocol::Head;
 use protocol::Refusal;
 use protocol::SessionId;
@@ -21,6 +20,7 @@ use session::numbers::check_same;
 use session::numbers::check_sizes;
 use session::tape::check_body;
 use session::tape::check_tape;
+use vectors::all_below;
 ghost use mathlib.Core.Path.{_≡_};
 ghost use mathlib.Core.Bool.{true};
 ghost use Prim.Native.Nat.{_/_, _≤_};

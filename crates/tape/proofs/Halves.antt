@@ -19,7 +19,7 @@ use Rattle.protocol.specs.declared.TapeId.{TapeId}
 use Rattle.protocol.specs.Drawing.{residuesOf}
 use Rattle.protocol.specs.Tape.{headerWords, READY}
 use Rattle.protocol.specs.Deal.{productRequest, dealtB}
-use Rattle.matrix.specs.Fill.{firstWords}
+use Rattle.vectors.specs.Fill.{firstWords}
 use Rattle.tape.specs.Dealt.{masksOf, firstMasks, secondMasks, firstHalfWords, secondHalfWords}
 use Rattle.tape.proofs.Words.{over-slice, over-last, copied}
 use Rattle.tape.proofs.Draws.{drawn-parts}

@@ -27,7 +27,7 @@ use Rattle.protocol.proofs.Residues.{residues-drawn}
 use Rattle.drawing.specs.declared.Reading.the-variants.{Enough, Dry}
 use Rattle.drawing.specs.Extent.{readFor}
 use Rattle.drawing.proofs.Then.{dry-few, enough-many, next-drawn, residues-after, drawn-count}
-use Rattle.matrix.specs.Fill.{firstWords}
+use Rattle.vectors.specs.Fill.{firstWords}
 use Rattle.tape.specs.Shape.{readBoth}
 use Rattle.tape.specs.Dealt.{firstMasks, secondMasks, firstHalfWords, secondHalfWords}
 use Rattle.tape.proofs.Words.{over-slice, over-last}

@@ -12,7 +12,7 @@ use lib.ListN.{length, getD, take, drop, length-drop, take-append-drop}
 use lib.Seq.{drop-append-le, take-append-add, drop-append-add, take-at, drop-at, length-take-le, getD-take, getD-drop}
 use Rattle.algebra.specs.Matrix.{tabulate}
 use Rattle.algebra.specs.Words.{over, writtenAt}
-use Rattle.matrix.specs.Fill.{firstWords}
+use Rattle.vectors.specs.Fill.{firstWords}
 use Rattle.protocol.specs.Tape.{slotAt, slotWords, poolWith, statusOf}
 use Rattle.checks.proofs.Written.{over-then}
 use Rattle.protocol.proofs.Residues.{over-length}

@@ -81,7 +81,7 @@ fn write_b(q: u32, m: usize, k: usize, p: usize, first: &[u32], second: &mut [u3
         &first[a..end],
         &mut b0,
     );
-    matrix::entries::write_copy(n, &b0, &mut second[b..]);
+    vectors::entries::write_copy(n, &b0, &mut second[b..]);
 }
 
 // The headers, then X0 and A0 in the first words, Y0 and B0 in the second. The answer is how many words were read.
@@ -152,7 +152,7 @@ fn write_v(q: u32, n: usize, first: &[u32], first_at: usize, second: &mut [u32],
         &first[g..end],
         &mut sum,
     );
-    matrix::entries::write_copy(nn, &sum, &mut second[v..]);
+    vectors::entries::write_copy(nn, &sum, &mut second[v..]);
 }
 
 // Both halves of a system's tape. The answer is how many words were read.

@@ -8,7 +8,7 @@ use borrow.Author.Needs.{needs}
 use Rattle.columns.proofs.Rows.{row-fits, beside-length, beside-none, beside-next}
 use Rattle.algebra.specs.Columns.{beside}
 use Rattle.algebra.specs.Words.{over}
-use Rattle.matrix.specs.Fill.{firstWords}
+use Rattle.vectors.specs.Fill.{firstWords}
 use Rattle.checks.proofs.Written.{tail-part, part-then}
 use Rattle.columns.proofs.write_beside.Statement.{statement}
 use Rattle.columns.proofs.write_beside.Tie as tie

@@ -9,7 +9,7 @@ use Rattle.columns.proofs.Rows.{row-fits, cols-none, cols-next}
 use Rattle.algebra.specs.Columns.{cols}
 use Rattle.algebra.specs.Words.{over}
 use Rattle.algebra.proofs.Columns.{cols-length}
-use Rattle.matrix.specs.Fill.{firstWords}
+use Rattle.vectors.specs.Fill.{firstWords}
 use Rattle.checks.proofs.Written.{tail-part, part-then}
 use Rattle.columns.proofs.write_cols.Statement.{statement}
 use Rattle.columns.proofs.write_cols.Tie as tie

@@ -1,7 +1,7 @@
 -- `columns::write_row` meets its contract. Assumes nothing.
 use borrow.Author.Needs.{needs}
 use Rattle.columns.proofs.Rows.{words-count}
-use Rattle.matrix.specs.Fill.{firstWords}
+use Rattle.vectors.specs.Fill.{firstWords}
 use Rattle.checks.proofs.Written.{part-then}
 use Rattle.columns.proofs.write_row.Statement.{statement}
 use Rattle.columns.proofs.write_row.Tie as tie

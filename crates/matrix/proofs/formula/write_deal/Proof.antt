@@ -5,7 +5,7 @@ use Prim.Native.Nat.{ℕ, _*_}
 use borrow.Author.Needs.{needs}
 use Rattle.algebra.specs.Matrix.{matAdd, matMul}
 use Rattle.algebra.specs.Words.{over}
-use Rattle.matrix.specs.Fill.{negated}
+use Rattle.vectors.specs.Fill.{negated}
 use Rattle.matrix.proofs.Sums.{onto, negated-count, negated-sum}
 use Rattle.matrix.proofs.formula.write_deal.Statement.{statement}
 use Rattle.matrix.proofs.formula.write_deal.Tie as tie

@@ -5,7 +5,7 @@ use Prim.Native.Nat.{ℕ, _*_}
 use borrow.Author.Needs.{needs}
 use Rattle.algebra.specs.Matrix.{matAdd, matMul}
 use Rattle.algebra.specs.Words.{over}
-use Rattle.matrix.specs.Fill.{firstWords}
+use Rattle.vectors.specs.Fill.{firstWords}
 use Rattle.matrix.proofs.Sums.{onto, copy-count, copy-sum}
 use Rattle.matrix.proofs.formula.write_masked.Statement.{statement}
 use Rattle.matrix.proofs.formula.write_masked.Tie as tie

@@ -1,0 +1,17 @@
+// Words of slices, one after the other, modulo q: results are written over the first words of a lent slice; the words past the count keep
+// their value.
+//   rest     the rest of a division, mostly without one
+//   residues words below a bound, and sum and difference of residues: several words at a time
+//   entries  sum, difference, negative, copy and zeros, entry by entry, of any words
+pub mod entries;
+pub mod residues;
+pub mod rest;
+
+pub use entries::add_to;
+pub use entries::subtract_from;
+pub use entries::write_copy;
+pub use entries::write_difference;
+pub use entries::write_negative;
+pub use entries::write_sum;
+pub use entries::write_zeros;
+pub use residues::all_below;
