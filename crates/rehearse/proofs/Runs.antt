@@ -31,7 +31,7 @@ use Rattle.protocol.proofs.RehearsalRight.{RehearsalFits, rehearsal-tests, rehe
 use Rattle.checks.specs.InOrder.{judged}
 use Rattle.checks.proofs.Sides.{Sides, sides}
 use Rattle.session.specs.Leaves.{Leaves, leaves}
-use Rattle.tape.specs.Dealt.{Pools, pools}
+use Rattle.halves.specs.Dealt.{Pools, pools}
 use Rattle.protocol.specs.Message.{messageWith}
 use Rattle.rehearse_lines.specs.Prints.{runOf}
 use Rattle.rehearse.specs.Order.{inputOf}

@@ -34,10 +34,8 @@
 // 18 blinder_first, 19 blinder_second, 20 blinder_last, 21 right_drop, 22 solver_drop, 23 blinder_drop, 24 write, 25 parse, 26 read,
 // 27 numbers. Any other answers 98.
 //
-//   shown     what is printed
 //   script    a line of the script, and the loop over all
-// The crate `memory` has the arrays, `replay_products` and `replay_systems` the calls.
+// The crate `memory` has the arrays and what is printed of them, `replay_products` and `replay_systems` the calls.
 mod script;
-mod shown;
 
 pub use script::run;

@@ -1,13 +1,13 @@
 // A line of the script, and the loop over all lines.
 // All arrays stand in one memory, in this order: 0 first pool, 1 second pool, 2 scratch, 3 sessions, 4 messages, 5 share, 6 inputs (a
 // matrix, from 2100 a vector, from 2164 raw words), 7 registers.
-use crate::shown;
 use decimal::Count;
 use memory::fill_bytes;
 use memory::fill_part;
 use memory::load;
 use memory::put_bytes;
 use memory::put_part;
+use memory::shown;
 ghost use Prim.Native.Nat.{_≤_, _<_};
 ghost use lib.ListN.{length};
 

@@ -25,7 +25,7 @@ use Rattle.checks.proofs.InOrder.{verdict-all, after-first, after-second}
 use Rattle.checks.proofs.Sides.{sides, modulus}
 use Rattle.checks.proofs.Place.{slot-inside}
 use Rattle.tape.specs.Groups.{dealNumbers, markTests, drawnTests, dealWords}
-use Rattle.tape.specs.Shape.{Masks, Mask}
+use Rattle.halves.specs.Shape.{Masks, Mask}
 use Rattle.tape.proofs.Sorted.{Numbers, OnWords, deal-judged}
 
 pub record Placed (half pool size index : ℕ) : Type 0 where

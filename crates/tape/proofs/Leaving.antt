@@ -12,8 +12,8 @@ use Rattle.protocol.specs.Tape.{slotAt, slotWords, poolWith}
 use Rattle.protocol.specs.Deal.{Request, firstHalf, secondHalf, drawSize, drawnParts, dealtB, dealtV, dealTests, dealtOver, dealtEffect, deal}
 use Rattle.checks.specs.InOrder.{judged}
 use Rattle.checks.proofs.InOrder.{refused-by, accepted-by}
-use Rattle.tape.specs.Dealt.{Pools, pools, firstHalfWords, secondHalfWords}
-use Rattle.tape.proofs.Words.{slot-over}
+use Rattle.halves.specs.Dealt.{Pools, pools, firstHalfWords, secondHalfWords}
+use Rattle.halves.proofs.Words.{slot-over}
 
 module _ (first second : List ℕ) (size index : ℕ) (r : Request) where
   pub deal-refused : {e : Refusal} → judged (dealTests (slotAt first size index) (slotAt second size index) r) ≡ refused e

@@ -2,14 +2,13 @@
 //   deal_product  the halves of left and right
 //   deal_system   the halves of blinder and solver
 mod tests;
-mod write;
 
 use checks::Check;
 use protocol::Answer;
 use protocol::TapeId;
 ghost use mathlib.Core.Path.{_≡_};
 ghost use Rattle.protocol.specs.Deal.{productRequest, systemRequest, deal};
-ghost use Rattle.tape.specs.Dealt.{Pools, pools};
+ghost use Rattle.halves.specs.Dealt.{Pools, pools};
 
 // One slot size and one index serve both pools. Left's half goes into the first, right's into the second.
 pub fn deal_product(
@@ -32,7 +31,7 @@ pub fn deal_product(
         return checks::answer_of(checked);
     };
     let at = index * size;
-    let read = write::product(tape, q, m, k, p, words, &mut first[at..], &mut second[at..]);
+    let read = halves::product(tape, q, m, k, p, words, &mut first[at..], &mut second[at..]);
     Answer::Accepted(read)
 }
 
@@ -55,6 +54,6 @@ pub fn deal_system(
         return checks::answer_of(checked);
     };
     let at = index * size;
-    let read = write::system(tape, q, n, words, &mut first[at..], &mut second[at..]);
+    let read = halves::system(tape, q, n, words, &mut first[at..], &mut second[at..]);
     Answer::Accepted(read)
 }

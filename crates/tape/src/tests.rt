@@ -15,7 +15,7 @@ ghost use Rattle.protocol.specs.Tape.{left, right, blinder, solver, tapeSize, s
 ghost use Rattle.protocol.specs.Deal.{isFree, productRequest, systemRequest, dealTests};
 ghost use Rattle.checks.specs.InOrder.{checked, verdict, judged, inGroups};
 ghost use Rattle.tape.specs.Groups.{dealNumbers, markTests, dealWords};
-ghost use Rattle.tape.specs.Shape.{Mask, readBoth};
+ghost use Rattle.halves.specs.Shape.{Mask, readBoth};
 
 fn product_shape(tape: u32, q: u32, m: u32, k: u32, p: u32) -> Check
     ensures { λ r. ⌜ checked r ≡ verdict (shapeTests product tape q m k p) ⌝ }

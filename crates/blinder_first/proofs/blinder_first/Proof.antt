@@ -42,25 +42,29 @@ unfolding blinderFirst
 returns c =
     let a = c .before .before .before .before .before .before .before .before .before .before .before .before .before .before .args in
     let s = slotAt (a .pool .now) (a .size) (a .index) in
-    rw (c .before .answer-of .ensures, c .before .before .before .enum-told2 .given .1, c .closed .ensures, c .before .before .no-head .ensures) (sym (refused-leaves noBlinder s (a .scratch .now) (a .out .now) [] _ (blinderFirstEffect (a .t) s (a .mm .now) (a .y .now) (a .words .now) (record { head = a .a; residues = a .residues .now })) (sym (c .before .before .before .before .before .check .ensures) ∙ ap checked (c .before .before .before .enum-told2 .given .1))))
+    rw (c .before .answer-of .ensures, c .before .before .before .enum-told2 .given .1, c .closed .ensures, c .before .before .no-head .ensures)
+    (sym (refused-leaves noBlinder s (a .scratch .now) (a .out .now) [] _ (blinderFirstEffect (a .t) s (a .mm .now) (a .y .now) (a .words .now) (record { head = a .a; residues = a .residues .now })) (sym (c .before .before .before .before .before .check .ensures) ∙ ap checked (c .before .before .before .enum-told2 .given .1))))
 
 mul-at : tie.Need-mul-at
 mul-at c =
     let a = c .before .before .before .before .before .before .before .before .before .before .before .args in
     let s = slotAt (a .pool .now) (a .size) (a .index) in
-    let i = slot-room s (first-known (a .t) s (length (a .scratch .now)) (a .mm .now) (a .y .now) (a .words .now) (record { head = a .a; residues = a .residues .now }) (length (a .out .now)) (sym (c .before .before .check .ensures) ∙ ap checked (c .enum-told .given .1)) .first .half .inside) in search needs
+    let i = slot-room s (first-known (a .t) s (length (a .scratch .now)) (a .mm .now) (a .y .now) (a .words .now) (record { head = a .a; residues = a .residues .now }) (length (a .out .now)) (sym (c .before .before .check .ensures) ∙ ap checked (c .enum-told .given .1)) .first .half .inside) in
+    search needs
 
 add-end : tie.Need-add-end
 add-end c =
     let a = c .before .before .before .before .before .before .before .before .before .before .before .args in
     let s = slotAt (a .pool .now) (a .size) (a .index) in
-    let i = slot-room s (first-known (a .t) s (length (a .scratch .now)) (a .mm .now) (a .y .now) (a .words .now) (record { head = a .a; residues = a .residues .now }) (length (a .out .now)) (sym (c .before .before .check .ensures) ∙ ap checked (c .enum-told .given .1)) .first .half .inside) in search needs
+    let i = slot-room s (first-known (a .t) s (length (a .scratch .now)) (a .mm .now) (a .y .now) (a .words .now) (record { head = a .a; residues = a .residues .now }) (length (a .out .now)) (sym (c .before .before .check .ensures) ∙ ap checked (c .enum-told .given .1)) .first .half .inside) in
+    search needs
 
 mul-write : tie.Need-mul-write
 mul-write c =
     let a = c .before .before .before .before .before .before .before .before .before .before .before .args in
     let s = slotAt (a .pool .now) (a .size) (a .index) in
-    let i = slot-room s (first-known (a .t) s (length (a .scratch .now)) (a .mm .now) (a .y .now) (a .words .now) (record { head = a .a; residues = a .residues .now }) (length (a .out .now)) (sym (c .before .before .check .ensures) ∙ ap checked (c .enum-told .given .1)) .first .half .inside) in search needs
+    let i = slot-room s (first-known (a .t) s (length (a .scratch .now)) (a .mm .now) (a .y .now) (a .words .now) (record { head = a .a; residues = a .residues .now }) (length (a .out .now)) (sym (c .before .before .check .ensures) ∙ ap checked (c .enum-told .given .1)) .first .half .inside) in
+    search needs
 
 sub-write : tie.Need-sub-write
 sub-write c = search needs
@@ -72,13 +76,16 @@ part-write-end : tie.Need-part-write-end
 part-write-end c =
     let a = c .before .before .before .before .before .before .before .before .before .before .before .args in
     let s = slotAt (a .pool .now) (a .size) (a .index) in
-    let i = slot-room s (first-known (a .t) s (length (a .scratch .now)) (a .mm .now) (a .y .now) (a .words .now) (record { head = a .a; residues = a .residues .now }) (length (a .out .now)) (sym (c .before .before .check .ensures) ∙ ap checked (c .enum-told .given .1)) .first .half .inside) in search needs
+    let i = slot-room s (first-known (a .t) s (length (a .scratch .now)) (a .mm .now) (a .y .now) (a .words .now) (record { head = a .a; residues = a .residues .now }) (length (a .out .now)) (sym (c .before .before .check .ensures) ∙ ap checked (c .enum-told .given .1)) .first .half .inside) in
+    search needs
 
 write-requires : tie.Need-write-requires
 write-requires c κs =
     let a = c .before .before .before .before .before .before .before .before .before .before .before .before .before .before .args in
     let s = slotAt (a .pool .now) (a .size) (a .index) in
-    let f = first-known (a .t) s (length (a .scratch .now)) (a .mm .now) (a .y .now) (a .words .now) (record { head = a .a; residues = a .residues .now }) (length (a .out .now)) (sym (c .before .before .before .before .before .check .ensures) ∙ ap checked (c .before .before .before .enum-told .given .1)) in
+    let f = first-known (a .t) s (length (a .scratch .now)) (a .mm .now) (a .y .now) (a .words .now)
+    (record { head = a .a; residues = a .residues .now }) (length (a .out .now))
+    (sym (c .before .before .before .before .before .check .ensures) ∙ ap checked (c .before .before .before .enum-told .given .1)) in
     let i = slot-room s (f .first .half .inside) in
     (first-shape (a .t) s (length (a .scratch .now)) (a .mm .now) (a .y .now) (a .words .now) (record { head = a .a; residues = a .residues .now }) (length (a .out .now)) _ (slot-part-length (a .pool .now) (a .size) (a .index) i) f, f .first .terms .sides, f .enough, f .scratch-room)
 
@@ -86,7 +93,9 @@ opened-requires : tie.Need-opened-requires
 opened-requires c κs =
     let a = c .before .before .before .before .before .before .before .before .before .before .before .before .before .before .before .before .before .before .before .before .before .args in
     let s = slotAt (a .pool .now) (a .size) (a .index) in
-    let f = first-known (a .t) s (length (a .scratch .now)) (a .mm .now) (a .y .now) (a .words .now) (record { head = a .a; residues = a .residues .now }) (length (a .out .now)) (sym (c .before .before .before .before .before .before .before .before .before .before .before .before .check .ensures) ∙ ap checked (c .before .before .before .before .before .before .before .before .before .before .enum-told .given .1)) in
+    let f = first-known (a .t) s (length (a .scratch .now)) (a .mm .now) (a .y .now) (a .words .now)
+    (record { head = a .a; residues = a .residues .now }) (length (a .out .now))
+    (sym (c .before .before .before .before .before .before .before .before .before .before .before .before .check .ensures) ∙ ap checked (c .before .before .before .before .before .before .before .before .before .before .enum-told .given .1)) in
     let i = slot-room s (f .first .half .inside) in
     (omega (arith, f .m-fits .size, square-bound (a .t) (f .first .terms .sides)), omega (arith, f .y-fits .size, side-bound (a .t) (f .first .terms .sides)))
 
@@ -106,9 +115,12 @@ returns-2 c =
     let enum-told = c .before .before .before .before .before .before .before .before .before .before .before .enum-told in
     let write = c .before .before .before .before .before .before .before .write in
     let s = slotAt (a .pool .now) (a .size) (a .index) in
-    let f = first-known (a .t) s (length (a .scratch .now)) (a .mm .now) (a .y .now) (a .words .now) (record { head = a .a; residues = a .residues .now }) (length (a .out .now)) (sym (check .ensures) ∙ ap checked (enum-told .given .1)) in
+    let f = first-known (a .t) s (length (a .scratch .now)) (a .mm .now) (a .y .now) (a .words .now)
+    (record { head = a .a; residues = a .residues .now }) (length (a .out .now)) (sym (check .ensures) ∙ ap checked (enum-told .given .1)) in
     let i = slot-room s (f .first .half .inside) in
-    first-done (a .t) s (a .scratch .now) (a .mm .now) (a .y .now) (a .words .now) (record { head = a .a; residues = a .residues .now }) (a .out .now) (sym (check .ensures) ∙ ap checked (enum-told .given .1)) (f .first .terms .sides) (first-shape (a .t) s (length (a .scratch .now)) (a .mm .now) (a .y .now) (a .words .now) (record { head = a .a; residues = a .residues .now }) (length (a .out .now)) _ (slot-part-length (a .pool .now) (a .size) (a .index) i) f .full-y)
+    first-done (a .t) s (a .scratch .now) (a .mm .now) (a .y .now) (a .words .now) (record { head = a .a; residues = a .residues .now }) (a .out .now)
+    (sym (check .ensures) ∙ ap checked (enum-told .given .1)) (f .first .terms .sides)
+    (first-shape (a .t) s (length (a .scratch .now)) (a .mm .now) (a .y .now) (a .words .now) (record { head = a .a; residues = a .residues .now }) (length (a .out .now)) _ (slot-part-length (a .pool .now) (a .size) (a .index) i) f .full-y)
     (write .ensures .0)
     (c .opened .ensures)
     (slot-written (a .pool .now) _ (a .size) (a .index) wordsInUse i (λ ws e. in-use-length ws (omega (arith, f .first .half .room, half-body blinder (a .t), e)) ∙ e) (write .ensures .1 .0))

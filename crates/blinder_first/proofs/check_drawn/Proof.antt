@@ -18,13 +18,17 @@ enum-told-2 : tie.Need-enum-told-2
 enum-told-2 c = search needs
 
 returns : tie.Need-returns
-returns c = dry-refused _ _ _ _ ((rw (c .before .before .before .scratch-size .ensures) at (sym (c .before .before .read .ensures))) ∙ c .enum-told2 .given .1)
+returns c =
+    dry-refused _ _ _ _ ((rw (c .before .before .before .scratch-size .ensures) at (sym (c .before .before .read .ensures))) ∙ c .enum-told2 .given .1)
 
 check-regular-requires : tie.Need-check-regular-requires
-check-regular-requires c κs = (c .before .before .before .before .before .before .pre, enough _ _ _ ((rw (c .before .before .before .scratch-size .ensures) at (sym (c .before .before .read .ensures))) ∙ c .enum-told .given .1))
+check-regular-requires c κs =
+    (c .before .before .before .before .before .before .pre, enough _ _ _ ((rw (c .before .before .before .scratch-size .ensures) at (sym (c .before .before .read .ensures))) ∙ c .enum-told .given .1))
 
 returns-2 : tie.Need-returns-2
-returns-2 c = c .check-regular .ensures ∙ sym (dry-passed _ _ _ _ ((rw (c .before .before .before .before .scratch-size .ensures) at (sym (c .before .before .before .read .ensures))) ∙ c .before .enum-told .given .1))
+returns-2 c =
+    c .check-regular .ensures ∙ sym
+    (dry-passed _ _ _ _ ((rw (c .before .before .before .before .scratch-size .ensures) at (sym (c .before .before .before .read .ensures))) ∙ c .before .enum-told .given .1))
 
 pub check-drawn-spec : {M : Type 1} → statement M
 check-drawn-spec =

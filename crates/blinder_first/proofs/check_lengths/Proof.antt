@@ -51,7 +51,9 @@ worst-requires-4 c κs = search needs
 
 returns : tie.Need-returns
 unfolding firstLengths
-returns c = also (_ ∷ []) _ (c .worst4 .ensures) (rw (c .before .before .before .before .before .before .before .before .before .before .before .before .times .ensures) at (c .before .before .before .before .before .before .before .before .before .before .before .need .ensures)) (also (_ ∷ []) _ (c .before .worst3 .ensures) (rw (c .before .before .before .before .before .before .before .before .before .before .side-size .ensures) at (c .before .before .before .before .before .before .before .before .before .need2 .ensures)) (also (_ ∷ []) _ (c .before .before .worst2 .ensures) (rw (c .before .before .before .before .before .before .before .before .scratch-size .ensures) at (c .before .before .before .before .before .before .before .need3 .ensures)) (also (_ ∷ []) _ (c .before .before .before .worst .ensures) (rw (c .before .before .before .before .before .before .message-size .ensures) at (c .before .before .before .before .before .need4 .ensures)) (c .before .before .before .before .need5 .ensures))))
+returns c =
+    also (_ ∷ []) _ (c .worst4 .ensures)
+    (rw (c .before .before .before .before .before .before .before .before .before .before .before .before .times .ensures) at (c .before .before .before .before .before .before .before .before .before .before .before .need .ensures)) (also (_ ∷ []) _ (c .before .worst3 .ensures) (rw (c .before .before .before .before .before .before .before .before .before .before .side-size .ensures) at (c .before .before .before .before .before .before .before .before .before .need2 .ensures)) (also (_ ∷ []) _ (c .before .before .worst2 .ensures) (rw (c .before .before .before .before .before .before .before .before .scratch-size .ensures) at (c .before .before .before .before .before .before .before .need3 .ensures)) (also (_ ∷ []) _ (c .before .before .before .worst .ensures) (rw (c .before .before .before .before .before .before .message-size .ensures) at (c .before .before .before .before .before .need4 .ensures)) (c .before .before .before .before .need5 .ensures))))
 
 pub check-lengths-spec : {M : Type 1} → statement M
 check-lengths-spec =

@@ -30,7 +30,8 @@ draw-requires : tie.Need-draw-requires
 draw-requires c κs =
     let a = c .before .before .before .before .before .args in
     let h = c .before .before .before .before .before .pre in
-    let few : c .before .times .result ≤ length (residuesOf (a .t .q) (a .words .now)) = omega (arith, c .before .times .ensures, scratch-sum (a .t), h .1) in
+    let few : c .before .times .result ≤ length
+    (residuesOf (a .t .q) (a .words .now)) = omega (arith, c .before .times .ensures, scratch-sum (a .t), h .1) in
     (h .0 .some-q, few, omega (arith, c .before .times .ensures, square-bound (a .t) (h .0 .sides), length-replicate {A = ℕ} 256 0))
 
 has-inverse-requires : tie.Need-has-inverse-requires
@@ -43,13 +44,15 @@ need-requires : tie.Need-need-requires
 need-requires c κs = search needs
 
 array-share-prefix-pm : tie.Need-array-share-prefix-pm
-array-share-prefix-pm c = omega (arith, c .before .before .before .before .before .times .ensures, square-bound (c .before .before .before .before .before .before .before .before .before .args .t) (c .before .before .before .before .before .before .before .before .before .pre .0 .sides))
+array-share-prefix-pm c =
+    omega (arith, c .before .before .before .before .before .times .ensures, square-bound (c .before .before .before .before .before .before .before .before .before .args .t) (c .before .before .before .before .before .before .before .before .before .pre .0 .sides))
 
 slice-aggregate-has-inverse : tie.Need-slice-aggregate-has-inverse
 slice-aggregate-has-inverse c =
     let a = c .before .before .before .before .before .before .before .before .before .before .args in
     let times = c .before .before .before .before .before .before .times in
-    let few : times .result ≤ length (residuesOf (a .t .q) (a .words .now)) = omega (arith, times .ensures, scratch-sum (a .t), c .before .before .before .before .before .before .before .before .before .before .pre .1) in
+    let few : times .result ≤ length
+    (residuesOf (a .t .q) (a .words .now)) = omega (arith, times .ensures, scratch-sum (a .t), c .before .before .before .before .before .before .before .before .before .before .pre .1) in
     let u = coins-part _ _ (a .words .now) _ _ few (c .before .before .before .before .draw .ensures .1) in
     sym (ap length u ∙ drawn-count _ _ _ few)
 
@@ -73,9 +76,12 @@ unfolding firstRegular regularTests
 returns c =
     let a = c .before .before .before .before .before .before .before .before .before .before .before .before .before .args in
     let times = c .before .before .before .before .before .before .before .before .before .times in
-    let few : times .result ≤ length (residuesOf (a .t .q) (a .words .now)) = omega (arith, times .ensures, scratch-sum (a .t), c .before .before .before .before .before .before .before .before .before .before .before .before .before .pre .1) in
+    let few : times .result ≤ length
+    (residuesOf (a .t .q) (a .words .now)) = omega (arith, times .ensures, scratch-sum (a .t), c .before .before .before .before .before .before .before .before .before .before .before .before .before .pre .1) in
     let u = coins-part _ _ (a .words .now) _ _ few (c .before .before .before .before .before .before .before .draw .ensures .1) in
-    also (_ ∷ []) _ (c .worst .ensures) (rw (c .before .before .before .before .before .has-inverse .ensures) at (c .before .before .before .before .need .ensures)) (rw (c .before .before .has-inverse2 .ensures, u, times .ensures, p-drawn (a .t) (a .words .now)) at (c .before .need2 .ensures))
+    also (_ ∷ []) _ (c .worst .ensures)
+    (rw (c .before .before .before .before .before .has-inverse .ensures) at (c .before .before .before .before .need .ensures))
+    (rw (c .before .before .has-inverse2 .ensures, u, times .ensures, p-drawn (a .t) (a .words .now)) at (c .before .need2 .ensures))
 
 pub check-regular-spec : {M : Type 1} → statement M
 check-regular-spec =

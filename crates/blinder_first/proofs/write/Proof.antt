@@ -31,7 +31,8 @@ slice-aggregate-write-message : tie.Need-slice-aggregate-write-message
 slice-aggregate-write-message c =
     let a = c .before .before .before .before .before .before .before .before .before .before .before .before .before .before .args in
     let scratch-size = c .before .before .before .before .before .before .before .before .scratch-size in
-    let few : scratch-size .result ≤ length (residuesOf (a .t .q) (a .words .now)) = omega (arith, scratch-size .ensures, c .before .before .before .before .before .before .before .before .before .before .before .before .before .before .pre .2) in
+    let few : scratch-size .result ≤ length
+    (residuesOf (a .t .q) (a .words .now)) = omega (arith, scratch-size .ensures, c .before .before .before .before .before .before .before .before .before .before .before .before .before .before .pre .2) in
     let u = coins-part _ _ (a .words .now) _ _ few (c .before .before .before .before .before .before .draw .ensures .1) in
     sym (ap length u ∙ drawn-count _ _ _ few)
 
@@ -62,7 +63,8 @@ returns c =
     let a = c .before .before .before .before .before .before .before .before .before .before .before .before .before .before .before .before .before .before .before .before .before .before .args in
     let draw = c .before .before .before .before .before .before .before .before .before .before .before .before .before .before .draw in
     let scratch-size = c .before .before .before .before .before .before .before .before .before .before .before .before .before .before .before .before .scratch-size in
-    let few : scratch-size .result ≤ length (residuesOf (a .t .q) (a .words .now)) = omega (arith, scratch-size .ensures, c .before .before .before .before .before .before .before .before .before .before .before .before .before .before .before .before .before .before .before .before .before .before .pre .2) in
+    let few : scratch-size .result ≤ length
+    (residuesOf (a .t .q) (a .words .now)) = omega (arith, scratch-size .ensures, c .before .before .before .before .before .before .before .before .before .before .before .before .before .before .before .before .before .before .before .before .before .before .pre .2) in
     let u = coins-part _ _ (a .words .now) _ _ few (draw .ensures .1) in
     (rw (scratch-size .ensures) at (draw .ensures .0), (c .before .before .take-up .ensures, (rw (scratch-size .ensures) at (draw .ensures .1), rw (u, scratch-size .ensures) at (c .before .before .before .before .before .before .write-message .ensures))))
 

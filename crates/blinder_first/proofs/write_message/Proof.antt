@@ -94,7 +94,8 @@ write-reply-requires c κs =
     let a = c .before .before .before .before .before .before .before .before .before .before .before .before .before .before .args in
     let h = c .before .before .before .before .before .before .before .before .before .before .before .before .before .before .pre in
     let p = h .0 in
-    let long = sum-length (a .q) (a .n * a .n) _ _ (a .out .now) _ (p .some-q) (omega (arith, p .room)) (c .before .before .before .before .before .before .write-sum .ensures) in (
+    let long = sum-length (a .q) (a .n * a .n) _ _ (a .out .now) _ (p .some-q) (omega (arith, p .room))
+    (c .before .before .before .before .before .before .write-sum .ensures) in (
       record {
         some-q = p .some-q;
         small-q = p .small-q;

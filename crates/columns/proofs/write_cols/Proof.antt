@@ -26,62 +26,86 @@ loop-holds c = (search needs, cols-none _ _ _ _ _, refl)
 mul-from : tie.Need-mul-from Inv-loop μ-loop
 mul-from c =
     let a = c .before .before .before .before .args in
-    let f = row-fits (c .before .loop .i) (a .m) (a .w) (c .loop-test .taken) in let g = row-fits (c .before .loop .i) (a .m) (a .p) (c .loop-test .taken) in search needs
+    let f = row-fits (c .before .loop .i) (a .m) (a .w) (c .loop-test .taken) in
+    let g = row-fits (c .before .loop .i) (a .m) (a .p) (c .loop-test .taken) in
+    search needs
 
 add-from : tie.Need-add-from Inv-loop μ-loop
 add-from c =
     let a = c .before .before .before .before .args in
-    let f = row-fits (c .before .loop .i) (a .m) (a .w) (c .loop-test .taken) in let g = row-fits (c .before .loop .i) (a .m) (a .p) (c .loop-test .taken) in search needs
+    let f = row-fits (c .before .loop .i) (a .m) (a .w) (c .loop-test .taken) in
+    let g = row-fits (c .before .loop .i) (a .m) (a .p) (c .loop-test .taken) in
+    search needs
 
 mul-to : tie.Need-mul-to Inv-loop μ-loop
 mul-to c =
     let a = c .before .before .before .before .args in
-    let f = row-fits (c .before .loop .i) (a .m) (a .w) (c .loop-test .taken) in let g = row-fits (c .before .loop .i) (a .m) (a .p) (c .loop-test .taken) in search needs
+    let f = row-fits (c .before .loop .i) (a .m) (a .w) (c .loop-test .taken) in
+    let g = row-fits (c .before .loop .i) (a .m) (a .p) (c .loop-test .taken) in
+    search needs
 
 mul-write-copy : tie.Need-mul-write-copy Inv-loop μ-loop
 mul-write-copy c =
     let a = c .before .before .before .before .args in
-    let f = row-fits (c .before .loop .i) (a .m) (a .w) (c .loop-test .taken) in let g = row-fits (c .before .loop .i) (a .m) (a .p) (c .loop-test .taken) in search needs
+    let f = row-fits (c .before .loop .i) (a .m) (a .w) (c .loop-test .taken) in
+    let g = row-fits (c .before .loop .i) (a .m) (a .p) (c .loop-test .taken) in
+    search needs
 
 sub-write-copy : tie.Need-sub-write-copy Inv-loop μ-loop
 sub-write-copy c =
     let a = c .before .before .before .before .args in
-    let f = row-fits (c .before .loop .i) (a .m) (a .w) (c .loop-test .taken) in let g = row-fits (c .before .loop .i) (a .m) (a .p) (c .loop-test .taken) in search needs
+    let f = row-fits (c .before .loop .i) (a .m) (a .w) (c .loop-test .taken) in
+    let g = row-fits (c .before .loop .i) (a .m) (a .p) (c .loop-test .taken) in
+    search needs
 
 part-write-copy-start : tie.Need-part-write-copy-start Inv-loop μ-loop
 part-write-copy-start c =
     let a = c .before .before .before .before .args in
-    let f = row-fits (c .before .loop .i) (a .m) (a .w) (c .loop-test .taken) in let g = row-fits (c .before .loop .i) (a .m) (a .p) (c .loop-test .taken) in search needs
+    let f = row-fits (c .before .loop .i) (a .m) (a .w) (c .loop-test .taken) in
+    let g = row-fits (c .before .loop .i) (a .m) (a .p) (c .loop-test .taken) in
+    search needs
 
 part-write-copy-end : tie.Need-part-write-copy-end Inv-loop μ-loop
 part-write-copy-end c =
     let a = c .before .before .before .before .args in
-    let f = row-fits (c .before .loop .i) (a .m) (a .w) (c .loop-test .taken) in let g = row-fits (c .before .loop .i) (a .m) (a .p) (c .loop-test .taken) in search needs
+    let f = row-fits (c .before .loop .i) (a .m) (a .w) (c .loop-test .taken) in
+    let g = row-fits (c .before .loop .i) (a .m) (a .p) (c .loop-test .taken) in
+    search needs
 
 mul-write-copy-2 : tie.Need-mul-write-copy-2 Inv-loop μ-loop
 mul-write-copy-2 c =
     let a = c .before .before .before .before .before .args in
-    let f = row-fits (c .before .before .loop .i) (a .m) (a .w) (c .before .loop-test .taken) in let g = row-fits (c .before .before .loop .i) (a .m) (a .p) (c .before .loop-test .taken) in search needs
+    let f = row-fits (c .before .before .loop .i) (a .m) (a .w) (c .before .loop-test .taken) in
+    let g = row-fits (c .before .before .loop .i) (a .m) (a .p) (c .before .loop-test .taken) in
+    search needs
 
 sub-write-copy-2 : tie.Need-sub-write-copy-2 Inv-loop μ-loop
 sub-write-copy-2 c =
     let a = c .before .before .before .before .before .args in
-    let f = row-fits (c .before .before .loop .i) (a .m) (a .w) (c .before .loop-test .taken) in let g = row-fits (c .before .before .loop .i) (a .m) (a .p) (c .before .loop-test .taken) in search needs
+    let f = row-fits (c .before .before .loop .i) (a .m) (a .w) (c .before .loop-test .taken) in
+    let g = row-fits (c .before .before .loop .i) (a .m) (a .p) (c .before .loop-test .taken) in
+    search needs
 
 part-write-copy-start-2 : tie.Need-part-write-copy-start-2 Inv-loop μ-loop
 part-write-copy-start-2 c =
     let a = c .before .before .before .before .before .args in
-    let f = row-fits (c .before .before .loop .i) (a .m) (a .w) (c .before .loop-test .taken) in let g = row-fits (c .before .before .loop .i) (a .m) (a .p) (c .before .loop-test .taken) in search needs
+    let f = row-fits (c .before .before .loop .i) (a .m) (a .w) (c .before .loop-test .taken) in
+    let g = row-fits (c .before .before .loop .i) (a .m) (a .p) (c .before .loop-test .taken) in
+    search needs
 
 part-write-copy-end-2 : tie.Need-part-write-copy-end-2 Inv-loop μ-loop
 part-write-copy-end-2 c =
     let a = c .before .before .before .before .before .args in
-    let f = row-fits (c .before .before .loop .i) (a .m) (a .w) (c .before .loop-test .taken) in let g = row-fits (c .before .before .loop .i) (a .m) (a .p) (c .before .loop-test .taken) in search needs
+    let f = row-fits (c .before .before .loop .i) (a .m) (a .w) (c .before .loop-test .taken) in
+    let g = row-fits (c .before .before .loop .i) (a .m) (a .p) (c .before .loop-test .taken) in
+    search needs
 
 write-copy-requires : tie.Need-write-copy-requires Inv-loop μ-loop
 write-copy-requires c κs =
     let a = c .before .before .before .before .before .before .args in
-    let f = row-fits (c .before .before .before .loop .i) (a .m) (a .w) (c .before .before .loop-test .taken) in let g = row-fits (c .before .before .before .loop .i) (a .m) (a .p) (c .before .before .loop-test .taken) in search needs
+    let f = row-fits (c .before .before .before .loop .i) (a .m) (a .w) (c .before .before .loop-test .taken) in
+    let g = row-fits (c .before .before .before .loop .i) (a .m) (a .p) (c .before .before .loop-test .taken) in
+    search needs
 
 add-i : tie.Need-add-i Inv-loop μ-loop
 add-i c = search needs
@@ -92,10 +116,19 @@ loop-less c = search needs
 loop-again : tie.Need-loop-again Inv-loop μ-loop
 loop-again c =
     let loop-test = c .before .before .before .before .before .loop-test in
-    let f = row-fits (c .before .before .before .before .before .before .loop .i) (c .before .before .before .before .before .before .before .before .before .args .m) (c .before .before .before .before .before .before .before .before .before .args .w) (loop-test .taken) in let g = row-fits (c .before .before .before .before .before .before .loop .i) (c .before .before .before .before .before .before .before .before .before .args .m) (c .before .before .before .before .before .before .before .before .before .args .p) (loop-test .taken) in let a = c .before .before .before .before .before .before .before .before .before .args in let l = c .before .before .before .before .before .before .loop in (
+    let f = row-fits (c .before .before .before .before .before .before .loop .i)
+    (c .before .before .before .before .before .before .before .before .before .args .m)
+    (c .before .before .before .before .before .before .before .before .before .args .w) (loop-test .taken) in
+    let g = row-fits (c .before .before .before .before .before .before .loop .i)
+    (c .before .before .before .before .before .before .before .before .before .args .m)
+    (c .before .before .before .before .before .before .before .before .before .args .p) (loop-test .taken) in
+    let a = c .before .before .before .before .before .before .before .before .before .args in
+    let l = c .before .before .before .before .before .before .loop in (
       search needs,
-      part-then (cols (l .i) (a .w) (a .s) (a .p) (a .a .now)) (firstWords (a .p) _) (a .out .now) (l .out) _ (l .i * a .p) (cols-length (l .i) (a .w) (a .s) (a .p) (a .a .now)) (search needs) (l .inv .1) (c .before .before .write-copy .ensures)
-          ∙ ap (λ (r : List ℕ). over r (a .out .now)) (ap (λ (x : List ℕ). cols (l .i) (a .w) (a .s) (a .p) (a .a .now) ++ firstWords (a .p) x) (tail-part (l .i * a .w + a .s) (a .a .now)) ∙ cols-next (l .i) (a .w) (a .s) (a .p) (a .a .now)),
+      part-then (cols (l .i) (a .w) (a .s) (a .p) (a .a .now)) (firstWords (a .p) _) (a .out .now) (l .out) _ (l .i * a .p)
+          (cols-length (l .i) (a .w) (a .s) (a .p) (a .a .now)) (search needs) (l .inv .1) (c .before .before .write-copy .ensures)
+          ∙ ap (λ (r : List ℕ). over r (a .out .now))
+          (ap (λ (x : List ℕ). cols (l .i) (a .w) (a .s) (a .p) (a .a .now) ++ firstWords (a .p) x) (tail-part (l .i * a .w + a .s) (a .a .now)) ∙ cols-next (l .i) (a .w) (a .s) (a .p) (a .a .now)),
       search needs,
     )
 

@@ -30,7 +30,8 @@ same-length c = search needs
 returns : tie.Need-returns
 returns c =
     let a = c .before .before .before .before .before .before .before .before .before .before .before .args in
-    part-then (firstWords (a .p) (a .a .now)) (firstWords (a .r) (a .b .now)) (a .out .now) _ _ (a .p) (words-count (a .p) (a .a .now)) (search needs) (c .before .before .before .before .before .before .write-copy .ensures) (c .before .before .write-copy2 .ensures)
+    part-then (firstWords (a .p) (a .a .now)) (firstWords (a .r) (a .b .now)) (a .out .now) _ _ (a .p) (words-count (a .p) (a .a .now)) (search needs)
+    (c .before .before .before .before .before .before .write-copy .ensures) (c .before .before .write-copy2 .ensures)
 
 pub write-row-spec : {M : Type 1} → statement M
 write-row-spec =

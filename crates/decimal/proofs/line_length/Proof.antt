@@ -29,10 +29,18 @@ digit-count-requires : tie.Need-digit-count-requires Inv-loop μ-loop
 digit-count-requires c κs = search needs
 
 add-n : tie.Need-add-n Inv-loop μ-loop
-add-n c = let x = getD (c .before .before .before .before .before .args .xs .now) (c .before .before .before .loop .j) 0 in let small : x < 2 ^ 32 = omega (arith, c .before .shared-slice-known2 .given (c .before .before .before .loop .j)) in let few = few-digits x small in omega arith
+add-n c =
+    let x = getD (c .before .before .before .before .before .args .xs .now) (c .before .before .before .loop .j) 0 in
+    let small : x < 2 ^ 32 = omega (arith, c .before .shared-slice-known2 .given (c .before .before .before .loop .j)) in
+    let few = few-digits x small in
+    omega arith
 
 add-n-2 : tie.Need-add-n-2 Inv-loop μ-loop
-add-n-2 c = let x = getD (c .before .before .before .before .before .args .xs .now) (c .before .before .before .loop .j) 0 in let small : x < 2 ^ 32 = omega (arith, c .before .shared-slice-known2 .given (c .before .before .before .loop .j)) in let few = few-digits x small in omega arith
+add-n-2 c =
+    let x = getD (c .before .before .before .before .before .args .xs .now) (c .before .before .before .loop .j) 0 in
+    let small : x < 2 ^ 32 = omega (arith, c .before .shared-slice-known2 .given (c .before .before .before .loop .j)) in
+    let few = few-digits x small in
+    omega arith
 
 add-j : tie.Need-add-j Inv-loop μ-loop
 add-j c = search needs
@@ -43,7 +51,11 @@ loop-less c = search needs
 loop-again : tie.Need-loop-again Inv-loop μ-loop
 loop-again c =
     let a = c .before .before .before .before .before .args in
-    let x = getD (a .xs .now) (c .before .before .before .loop .j) 0 in let small : x < 2 ^ 32 = omega (arith, c .before .shared-slice-known2 .given (c .before .before .before .loop .j)) in let few = few-digits x small in let i = c .before .before .before .loop .inv in (omega (arith, line-length-step (a .xs .now) (c .before .before .before .loop .j) (c .before .before .loop-test .taken)), omega arith, omega arith, i .3)
+    let x = getD (a .xs .now) (c .before .before .before .loop .j) 0 in
+    let small : x < 2 ^ 32 = omega (arith, c .before .shared-slice-known2 .given (c .before .before .before .loop .j)) in
+    let few = few-digits x small in
+    let i = c .before .before .before .loop .inv in
+    (omega (arith, line-length-step (a .xs .now) (c .before .before .before .loop .j) (c .before .before .loop-test .taken)), omega arith, omega arith, i .3)
 
 returns : tie.Need-returns Inv-loop μ-loop
 returns c = (omega (arith, ap length (line-none (c .before .before .before .args .xs .now) (c .before .loop .j) (c .loop-test .left))), omega arith)

@@ -22,7 +22,9 @@ shared-slice-read-if3 : tie.Need-shared-slice-read-if3
 shared-slice-read-if3 c = search needs
 
 returns-3 : tie.Need-returns-3
-returns-3 c = let s = c .before .before .before .before .before .before .args .s .now in whole s (omega arith) (c .before .before .if2 .left) ∙ needs-end Empty s (omega arith) (c .if3 .taken)
+returns-3 c =
+    let s = c .before .before .before .before .before .before .args .s .now in
+    whole s (omega arith) (c .before .before .if2 .left) ∙ needs-end Empty s (omega arith) (c .if3 .taken)
 
 scan-requires : tie.Need-scan-requires
 scan-requires c κs = c .before .if3 .left
@@ -33,7 +35,9 @@ same-length c = search needs
 returns-4 : tie.Need-returns-4
 returns-4 c =
     let a = c .before .before .before .before .before .before .before .before .before .before .args in
-    let s = a .s .now in let e = whole s (omega arith) (c .before .before .before .before .before .before .if2 .left) in tallied-as _ _ _ (a .out .now) (c .before .before .scan .last .1 .1 .0) (c .before .before .scan .result) e (c .before .before .scan .ensures)
+    let s = a .s .now in
+    let e = whole s (omega arith) (c .before .before .before .before .before .before .if2 .left) in
+    tallied-as _ _ _ (a .out .now) (c .before .before .scan .last .1 .1 .0) (c .before .before .scan .result) e (c .before .before .scan .ensures)
 
 pub load-behind-spec : {M : Type 1} → statement M
 load-behind-spec =

@@ -25,13 +25,21 @@ enum-told c = search needs
 returns : tie.Need-returns
 returns c =
     let a = c .before .before .before .before .before .before .before .args in
-    let s = a .s .now in let out = a .out .now in let e = into-none (length out) s (told-wrong (numbersOf s) (replicate 1 0) _ (c .before .before .before .load .result) (c .before .before .before .load .ensures) (c .enum-told .given .1)) in rw e (refl, refl)
+    let s = a .s .now in
+    let out = a .out .now in
+    let e = into-none (length out) s
+    (told-wrong (numbersOf s) (replicate 1 0) _ (c .before .before .before .load .result) (c .before .before .before .load .ensures) (c .enum-told .given .1)) in
+    rw e (refl, refl)
 
 returns-2 : tie.Need-returns-2
 returns-2 c =
     let a = c .before .before .before .before .before .before .before .before .before .args in
     let load = c .before .before .before .before .before .load in
-    let s = a .s .now in let out = a .out .now in let t = told (numbersOf s) (replicate 1 0) _ (load .result) _ (load .ensures) (c .before .before .first .given .1) in let e = into-short (length out) s (t .values) (t .reads) (omega (arith, t .count, c .if1 .taken)) in rw e (refl, refl)
+    let s = a .s .now in
+    let out = a .out .now in
+    let t = told (numbersOf s) (replicate 1 0) _ (load .result) _ (load .ensures) (c .before .before .first .given .1) in
+    let e = into-short (length out) s (t .values) (t .reads) (omega (arith, t .count, c .if1 .taken)) in
+    rw e (refl, refl)
 
 load-requires-2 : tie.Need-load-requires-2
 load-requires-2 c κs = search needs
@@ -43,7 +51,13 @@ returns-3 : tie.Need-returns-3
 returns-3 c =
     let a = c .before .before .before .before .before .before .before .before .before .before .before .before .before .args in
     let load = c .before .before .before .before .before .before .before .before .before .load in
-    let s = a .s .now in let out = a .out .now in let t = told (numbersOf s) (replicate 1 0) _ (load .result) _ (load .ensures) (c .before .before .before .before .before .before .first .given .1) in let h : length (t .values) ≤ length out = omega (arith, t .count, c .before .before .before .before .if1 .left) in let e = into-done (length out) s (t .values) (t .reads) h in rw e (ap count.Words (t .count), stored-behind 0 (numbersOf s) (t .values) out (c .before .before .load2 .last .1 .0) (c .before .before .load2 .result) (t .reads) (c .before .before .load2 .ensures) ∙ sets-over (t .values) out h)
+    let s = a .s .now in
+    let out = a .out .now in
+    let t = told (numbersOf s) (replicate 1 0) _ (load .result) _ (load .ensures)
+    (c .before .before .before .before .before .before .first .given .1) in
+    let h : length (t .values) ≤ length out = omega (arith, t .count, c .before .before .before .before .if1 .left) in
+    let e = into-done (length out) s (t .values) (t .reads) h in
+    rw e (ap count.Words (t .count), stored-behind 0 (numbersOf s) (t .values) out (c .before .before .load2 .last .1 .0) (c .before .before .load2 .result) (t .reads) (c .before .before .load2 .ensures) ∙ sets-over (t .values) out h)
 
 pub numbers-spec : {M : Type 1} → statement M
 numbers-spec =

@@ -24,7 +24,10 @@ add-out c = search needs
 
 slice-write-out : tie.Need-slice-write-out
 unfolding digitAt
-slice-write-out c = let p : c .before .args .at + 1 ≤ length (c .before .args .out .now) = rw (le-ltb (c .before .args .n) (c .before .args .power) (c .if1 .left)) at (c .before .pre .1) in omega arith
+slice-write-out c =
+    let p : c .before .args .at + 1 ≤ length
+    (c .before .args .out .now) = rw (le-ltb (c .before .args .n) (c .before .args .power) (c .if1 .left)) at (c .before .pre .1) in
+    omega arith
 
 add-result : tie.Need-add-result
 add-result c = search needs

@@ -20,7 +20,11 @@ abbrev μ-loop : tie.MeasureT-loop
 
 loop-holds : tie.Need-loop-holds Inv-loop μ-loop
 unfolding above
-loop-holds c = let a = c .before .args in let small : a .n < 2 ^ 32 = search needs in let e = upto-none (a .n) (above 0) (omega arith) in (rw e refl, rw e (omega arith), omega arith, small, c .before .pre)
+loop-holds c =
+    let a = c .before .args in
+    let small : a .n < 2 ^ 32 = search needs in
+    let e = upto-none (a .n) (above 0) (omega arith) in
+    (rw e refl, rw e (omega arith), omega arith, small, c .before .pre)
 
 mul-put-digit : tie.Need-mul-put-digit Inv-loop μ-loop
 mul-put-digit c = search needs
@@ -31,7 +35,11 @@ array-read-put-digit c = search needs
 put-digit-requires : tie.Need-put-digit-requires Inv-loop μ-loop
 put-digit-requires c κs =
     let a = c .before .before .before .before .args in
-    let l = c .before .before .loop in let h = c .before .loop-test .taken in let n = a .n in let at = a .at in (table-step (l .i) h .1, omega (arith, power-length n (l .i) h, upto-length n (above (l .i + 1)), ap length (l .inv .0), length-sets (a .out .now) at (upto n (above (l .i)))))
+    let l = c .before .before .loop in
+    let h = c .before .loop-test .taken in
+    let n = a .n in
+    let at = a .at in
+    (table-step (l .i) h .1, omega (arith, power-length n (l .i) h, upto-length n (above (l .i + 1)), ap length (l .inv .0), length-sets (a .out .now) at (upto n (above (l .i)))))
 
 add-i : tie.Need-add-i Inv-loop μ-loop
 add-i c = omega arith
@@ -42,7 +50,11 @@ loop-less c = omega arith
 loop-again : tie.Need-loop-again Inv-loop μ-loop
 loop-again c =
     let a = c .before .before .before .before .before .before .before .args in
-    let l = c .before .before .before .before .before .loop in let h = c .before .before .before .before .loop-test .taken in let n = a .n in let at = a .at in (c .before .before .put-digit .ensures .1 ∙ ap (λ (o : List ℕ). sets o (l .p) (digitAt n (getD powers (l .i) 0))) (l .inv .0) ∙ power-stored n (l .i) h (a .out .now) at (l .p) (l .inv .1), omega (arith, power-length n (l .i) h, c .before .before .put-digit .ensures .0), omega arith, l .inv .3, l .inv .4)
+    let l = c .before .before .before .before .before .loop in
+    let h = c .before .before .before .before .loop-test .taken in
+    let n = a .n in
+    let at = a .at in
+    (c .before .before .put-digit .ensures .1 ∙ ap (λ (o : List ℕ). sets o (l .p) (digitAt n (getD powers (l .i) 0))) (l .inv .0) ∙ power-stored n (l .i) h (a .out .now) at (l .p) (l .inv .1), omega (arith, power-length n (l .i) h, c .before .before .put-digit .ensures .0), omega arith, l .inv .3, l .inv .4)
 
 same-length : tie.Need-same-length Inv-loop μ-loop
 same-length c =
@@ -53,7 +65,12 @@ returns : tie.Need-returns Inv-loop μ-loop
 unfolding above
 returns c =
     let a = c .before .before .before .args in
-    let l = c .before .loop in let n = a .n in let at = a .at in let i9 : l .i ≡ 9 = omega arith in let e : upto n (above (l .i)) ≡ high n = ap (λ (i : ℕ). upto n (above i)) i9 ∙ upto-high n in (omega (arith, l .inv .1, ap length e, ap length (decimal-high n), length-append (high n) ((48 + n % 10) ∷ [])), l .inv .0 ∙ ap (sets (a .out .now) at) e)
+    let l = c .before .loop in
+    let n = a .n in
+    let at = a .at in
+    let i9 : l .i ≡ 9 = omega arith in
+    let e : upto n (above (l .i)) ≡ high n = ap (λ (i : ℕ). upto n (above i)) i9 ∙ upto-high n in
+    (omega (arith, l .inv .1, ap length e, ap length (decimal-high n), length-append (high n) ((48 + n % 10) ∷ [])), l .inv .0 ∙ ap (sets (a .out .now) at) e)
 
 pub put-high-spec : {M : Type 1} → statement M
 put-high-spec =

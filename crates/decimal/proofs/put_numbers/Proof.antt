@@ -41,7 +41,11 @@ end-byte-requires c κs = search needs
 put-number-requires : tie.Need-put-number-requires Inv-loop μ-loop
 put-number-requires c κs =
     let a = c .before .before .before .before .before .before .before .args in
-    let more = a .more in let xs = a .xs .now in let l = c .before .before .before .before .loop in let h = c .before .before .before .loop-test .taken in omega (arith, before-length-step more xs (l .j) h)
+    let more = a .more in
+    let xs = a .xs .now in
+    let l = c .before .before .before .before .loop in
+    let h = c .before .before .before .loop-test .taken in
+    omega (arith, before-length-step more xs (l .j) h)
 
 loop-less : tie.Need-loop-less Inv-loop μ-loop
 loop-less c = search needs
@@ -49,7 +53,11 @@ loop-less c = search needs
 loop-again : tie.Need-loop-again Inv-loop μ-loop
 loop-again c =
     let a = c .before .before .before .before .before .before .before .before .before .before .args in
-    let more = a .more in let xs = a .xs .now in let l = c .before .before .before .before .before .before .before .loop in let h = c .before .before .before .before .before .before .loop-test .taken in (ap₂ (λ (d : List ℕ) (k : ℕ). sets d k (lineBefore more (drop (l .j + 1) xs))) (c .before .before .put-number .ensures .1) (c .before .before .put-number .ensures .0) ∙ part-turn more (l .out) xs (l .p) (l .j) _ h (c .before .before .before .before .end-byte .ensures) ∙ l .inv .0, omega (arith, before-length-step more xs (l .j) h), omega arith, omega arith, l .inv .4, l .inv .5)
+    let more = a .more in
+    let xs = a .xs .now in
+    let l = c .before .before .before .before .before .before .before .loop in
+    let h = c .before .before .before .before .before .before .loop-test .taken in
+    (ap₂ (λ (d : List ℕ) (k : ℕ). sets d k (lineBefore more (drop (l .j + 1) xs))) (c .before .before .put-number .ensures .1) (c .before .before .put-number .ensures .0) ∙ part-turn more (l .out) xs (l .p) (l .j) _ h (c .before .before .before .before .end-byte .ensures) ∙ l .inv .0, omega (arith, before-length-step more xs (l .j) h), omega arith, omega arith, l .inv .4, l .inv .5)
 
 same-length : tie.Need-same-length Inv-loop μ-loop
 same-length c = search needs
@@ -57,7 +65,8 @@ same-length c = search needs
 returns : tie.Need-returns Inv-loop μ-loop
 returns c =
     let a = c .before .before .before .before .args in
-    let none = before-none (a .more) (a .xs .now) (c .before .loop .j) (c .loop-test .left) in (omega (arith, ap length none), rw none at (c .before .loop .inv .0))
+    let none = before-none (a .more) (a .xs .now) (c .before .loop .j) (c .loop-test .left) in
+    (omega (arith, ap length none), rw none at (c .before .loop .inv .0))
 
 pub put-numbers-spec : {M : Type 1} → statement M
 put-numbers-spec =

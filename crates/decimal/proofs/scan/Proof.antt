@@ -30,7 +30,9 @@ same-length : tie.Need-same-length Inv-loop μ-loop
 same-length c = scan-same _ _ _ _ _ _ (c .before .before .before .before .loop .inv .0)
 
 returns : tie.Need-returns Inv-loop μ-loop
-returns c = found-wrong _ _ _ _ _ _ (c .before .before .before .before .loop .inv .0) (c .before .before .number-at .result) (c .before .before .number-at .ensures) (c .enum-told .given .1)
+returns c =
+    found-wrong _ _ _ _ _ _ (c .before .before .before .before .loop .inv .0) (c .before .before .number-at .result)
+    (c .before .before .number-at .ensures) (c .enum-told .given .1)
 
 put-behind-requires : tie.Need-put-behind-requires Inv-loop μ-loop
 put-behind-requires c κs = search needs
@@ -41,7 +43,8 @@ add-n c = let i = c .before .before .before .before .before .before .before .bef
 loop-less : tie.Need-loop-less Inv-loop μ-loop
 loop-less c =
     let number-at = c .before .before .before .before .before .before .before .number-at in
-    let f = found-further _ _ (number-at .result) _ _ (number-at .ensures) (c .before .before .before .before .before .found .given .1) in omega (arith, f .0, f .1)
+    let f = found-further _ _ (number-at .result) _ _ (number-at .ensures) (c .before .before .before .before .before .found .given .1) in
+    omega (arith, f .0, f .1)
 
 loop-again : tie.Need-loop-again Inv-loop μ-loop
 loop-again c =

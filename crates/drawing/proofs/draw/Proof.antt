@@ -25,10 +25,14 @@ loop-holds : tie.Need-loop-holds Inv-loop μ-loop
 loop-holds c = drew-start _ _ _ _
 
 mul-w : tie.Need-mul-w Inv-loop μ-loop
-mul-w c = let h = drew-inside _ _ _ _ _ _ (c .before .loop .inv) (c .before .before .before .before .before .before .pre .1) (search needs) in search needs
+mul-w c =
+    let h = drew-inside _ _ _ _ _ _ (c .before .loop .inv) (c .before .before .before .before .before .before .pre .1) (search needs) in search needs
 
 shared-slice-read-w : tie.Need-shared-slice-read-w Inv-loop μ-loop
-shared-slice-read-w c = let h = drew-inside _ _ _ _ _ _ (c .before .before .loop .inv) (c .before .before .before .before .before .before .before .pre .1) (search needs) in search needs
+shared-slice-read-w c =
+    let h = drew-inside _ _ _ _ _ _ (c .before .before .loop .inv) (c .before .before .before .before .before .before .before .pre .1)
+    (search needs) in
+    search needs
 
 cast-if1 : tie.Need-cast-if1 Inv-loop μ-loop
 cast-if1 c = omega (arith, c .shared-slice-known2 .given (c .before .before .loop .i))
@@ -46,10 +50,16 @@ add-j : tie.Need-add-j Inv-loop μ-loop
 add-j c = search needs
 
 add-i : tie.Need-add-i Inv-loop μ-loop
-add-i c = let h = drew-inside _ _ _ _ _ _ (c .before .before .before .loop .inv) (c .before .before .before .before .before .before .before .before .pre .1) (search needs) in search needs
+add-i c =
+    let h = drew-inside _ _ _ _ _ _ (c .before .before .before .loop .inv) (c .before .before .before .before .before .before .before .before .pre .1)
+    (search needs) in
+    search needs
 
 loop-less : tie.Need-loop-less Inv-loop μ-loop
-loop-less c = let h = drew-inside _ _ _ _ _ _ (c .before .before .before .loop .inv) (c .before .before .before .before .before .before .before .before .pre .1) (search needs) in search needs
+loop-less c =
+    let h = drew-inside _ _ _ _ _ _ (c .before .before .before .loop .inv) (c .before .before .before .before .before .before .before .before .pre .1)
+    (search needs) in
+    search needs
 
 loop-again : tie.Need-loop-again Inv-loop μ-loop
 unfolding residueOf
@@ -66,7 +76,8 @@ same-length : tie.Need-same-length Inv-loop μ-loop
 same-length c = c .before .loop .inv .same
 
 returns : tie.Need-returns Inv-loop μ-loop
-returns c = (drew-read _ _ _ _ _ _ (c .before .loop .inv) (search needs), drew-all _ _ _ _ _ _ (c .before .loop .inv) (search needs) (c .before .before .before .before .before .before .pre .1))
+returns c =
+    (drew-read _ _ _ _ _ _ (c .before .loop .inv) (search needs), drew-all _ _ _ _ _ _ (c .before .loop .inv) (search needs) (c .before .before .before .before .before .before .pre .1))
 
 pub draw-spec : {M : Type 1} → statement M
 draw-spec =

@@ -15,7 +15,8 @@ mul-times : tie.Need-mul-times
 mul-times c = omega (arith, room (c .args .w) (c .args .share) (c .args .q) (c .fits .w .fits) (c .pre .1))
 
 mul-rest : tie.Need-mul-rest
-mul-rest c = omega (arith, estimate-below 4294967296 (c .args .q) (c .args .share) (c .args .w) (omega arith) (c .pre .0) (c .pre .1), c .fits .w .fits)
+mul-rest c =
+    omega (arith, estimate-below 4294967296 (c .args .q) (c .args .share) (c .args .w) (omega arith) (c .pre .0) (c .pre .1), c .fits .w .fits)
 
 sub-rest : tie.Need-sub-rest
 sub-rest c = estimate-below 4294967296 (c .args .q) (c .args .share) (c .args .w) (omega arith) (c .pre .0) (c .pre .1)

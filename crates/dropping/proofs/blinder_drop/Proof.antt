@@ -36,23 +36,30 @@ unfolding dropBlinder over
 returns c =
     let a = c .before .before .before .before .before .before .before .before .args in
     let s = slotAt (a .pool .now) (a .size) (a .index) in
-    rw (c .answer-of .ensures, c .before .enum-told2 .given .1) (sym (refused-leaves (a .s) s (a .scratch .now) [] [] _ (dropped (closedBlinder (a .s)) (wordsSpent blinder (a .s .terms) (slotWords s)) (zeros (scratchSize (a .s .terms)))) (sym (c .before .before .before .check-blinder .ensures) ∙ ap checked (c .before .enum-told2 .given .1))))
+    rw (c .answer-of .ensures, c .before .enum-told2 .given .1)
+    (sym (refused-leaves (a .s) s (a .scratch .now) [] [] _ (dropped (closedBlinder (a .s)) (wordsSpent blinder (a .s .terms) (slotWords s)) (zeros (scratchSize (a .s .terms)))) (sym (c .before .before .before .check-blinder .ensures) ∙ ap checked (c .before .enum-told2 .given .1))))
 
 spend-at-requires : tie.Need-spend-at-requires
 spend-at-requires c κs =
     let a = c .before .before .before .before .before .before .before .before .args in
     let s = slotAt (a .pool .now) (a .size) (a .index) in
-    let f = blinder-known (a .s) s (a .scratch .now) (sym (c .before .before .before .check-blinder .ensures) ∙ ap checked (c .before .enum-told .given .1)) in spendable blinder (a .s .due) (a .s .terms) s (f .session-open)
+    let f = blinder-known (a .s) s (a .scratch .now)
+    (sym (c .before .before .before .check-blinder .ensures) ∙ ap checked (c .before .enum-told .given .1)) in
+    spendable blinder (a .s .due) (a .s .terms) s (f .session-open)
 
 scratch-size-requires : tie.Need-scratch-size-requires
 scratch-size-requires c κs =
     let a = c .before .before .before .before .before .before .before .before .before .before .before .args in
-    let f = blinder-known (a .s) (slotAt (a .pool .now) (a .size) (a .index)) (a .scratch .now) (sym (c .before .before .before .before .before .before .check-blinder .ensures) ∙ ap checked (c .before .before .before .before .enum-told .given .1)) in f .session-open .terms .sides
+    let f = blinder-known (a .s) (slotAt (a .pool .now) (a .size) (a .index)) (a .scratch .now)
+    (sym (c .before .before .before .before .before .before .check-blinder .ensures) ∙ ap checked (c .before .before .before .before .enum-told .given .1)) in
+    f .session-open .terms .sides
 
 write-zeros-requires : tie.Need-write-zeros-requires
 write-zeros-requires c κs =
     let a = c .before .before .before .before .before .before .before .before .before .before .before .before .before .args in
-    let f = blinder-known (a .s) (slotAt (a .pool .now) (a .size) (a .index)) (a .scratch .now) (sym (c .before .before .before .before .before .before .before .before .check-blinder .ensures) ∙ ap checked (c .before .before .before .before .before .before .enum-told .given .1)) in omega (arith, f .scratch-room, c .before .scratch-size .ensures)
+    let f = blinder-known (a .s) (slotAt (a .pool .now) (a .size) (a .index)) (a .scratch .now)
+    (sym (c .before .before .before .before .before .before .before .before .check-blinder .ensures) ∙ ap checked (c .before .before .before .before .before .before .enum-told .given .1)) in
+    omega (arith, f .scratch-room, c .before .scratch-size .ensures)
 
 closed-requires : tie.Need-closed-requires
 closed-requires c κs = search needs
@@ -68,7 +75,8 @@ unfolding dropBlinder over
 returns-2 c =
     let a = c .before .before .before .before .before .before .before .before .before .before .before .before .before .before .before .before .before .args in
     let s = slotAt (a .pool .now) (a .size) (a .index) in
-    rw (c .closed .ensures) (drop-done (a .s) (closedBlinder (a .s)) s (a .scratch .now) (wordsSpent blinder (a .s .terms) (slotWords s)) (zeros (scratchSize (a .s .terms))) _ (sym (c .before .before .before .before .before .before .before .before .before .before .before .before .check-blinder .ensures) ∙ ap checked (c .before .before .before .before .before .before .before .before .before .before .enum-told .given .1)) (c .before .before .before .before .before .before .before .before .spend-at .ensures) (c .before .before .before .write-zeros .ensures ∙ ap (λ (n : ℕ). over (zeros n) (a .scratch .now)) (c .before .before .before .before .before .scratch-size .ensures)))
+    rw (c .closed .ensures)
+    (drop-done (a .s) (closedBlinder (a .s)) s (a .scratch .now) (wordsSpent blinder (a .s .terms) (slotWords s)) (zeros (scratchSize (a .s .terms))) _ (sym (c .before .before .before .before .before .before .before .before .before .before .before .before .check-blinder .ensures) ∙ ap checked (c .before .before .before .before .before .before .before .before .before .before .enum-told .given .1)) (c .before .before .before .before .before .before .before .before .spend-at .ensures) (c .before .before .before .write-zeros .ensures ∙ ap (λ (n : ℕ). over (zeros n) (a .scratch .now)) (c .before .before .before .before .before .scratch-size .ensures)))
 
 pub blinder-drop-spec : {M : Type 1} → statement M
 blinder-drop-spec =

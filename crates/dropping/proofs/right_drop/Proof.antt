@@ -33,13 +33,16 @@ unfolding dropRight over
 returns c =
     let a = c .before .before .before .before .before .before .before .args in
     let s = slotAt (a .pool .now) (a .size) (a .index) in
-    rw (c .answer-of .ensures, c .before .enum-told2 .given .1) (sym (refused-leaves (a .s) s [] [] [] _ (dropped (closedRight (a .s)) (wordsSpent right (a .s .terms) (slotWords s)) []) (sym (c .before .before .before .check-open .ensures) ∙ ap checked (c .before .enum-told2 .given .1))))
+    rw (c .answer-of .ensures, c .before .enum-told2 .given .1)
+    (sym (refused-leaves (a .s) s [] [] [] _ (dropped (closedRight (a .s)) (wordsSpent right (a .s .terms) (slotWords s)) []) (sym (c .before .before .before .check-open .ensures) ∙ ap checked (c .before .enum-told2 .given .1))))
 
 spend-at-requires : tie.Need-spend-at-requires
 spend-at-requires c κs =
     let a = c .before .before .before .before .before .before .before .args in
     let s = slotAt (a .pool .now) (a .size) (a .index) in
-    let f = open-known right (a .s .due) (a .s .terms) s (sym (c .before .before .before .check-open .ensures) ∙ ap checked (c .before .enum-told .given .1)) in spendable right (a .s .due) (a .s .terms) s f
+    let f = open-known right (a .s .due) (a .s .terms) s
+    (sym (c .before .before .before .check-open .ensures) ∙ ap checked (c .before .enum-told .given .1)) in
+    spendable right (a .s .due) (a .s .terms) s f
 
 same-length-2 : tie.Need-same-length-2
 same-length-2 c = search needs
@@ -49,7 +52,8 @@ unfolding dropRight over
 returns-2 c =
     let a = c .before .before .before .before .before .before .before .before .before .before .args in
     let s = slotAt (a .pool .now) (a .size) (a .index) in
-    drop-done (a .s) (closedRight (a .s)) s [] (wordsSpent right (a .s .terms) (slotWords s)) [] _ (sym (c .before .before .before .before .before .before .check-open .ensures) ∙ ap checked (c .before .before .before .before .enum-told .given .1)) (c .before .before .spend-at .ensures) refl
+    drop-done (a .s) (closedRight (a .s)) s [] (wordsSpent right (a .s .terms) (slotWords s)) [] _
+    (sym (c .before .before .before .before .before .before .check-open .ensures) ∙ ap checked (c .before .before .before .before .enum-told .given .1)) (c .before .before .spend-at .ensures) refl
 
 pub right-drop-spec : {M : Type 1} → statement M
 right-drop-spec =

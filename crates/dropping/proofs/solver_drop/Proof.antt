@@ -34,13 +34,16 @@ unfolding dropSolver over
 returns c =
     let a = c .before .before .before .before .before .before .before .args in
     let s = slotAt (a .pool .now) (a .size) (a .index) in
-    rw (c .answer-of .ensures, c .before .enum-told2 .given .1) (sym (refused-leaves (a .s) s [] [] [] _ (dropped (closedSolver (a .s)) (wordsSpent solver (a .s .terms) (slotWords s)) []) (sym (c .before .before .before .check-open .ensures) ∙ ap checked (c .before .enum-told2 .given .1))))
+    rw (c .answer-of .ensures, c .before .enum-told2 .given .1)
+    (sym (refused-leaves (a .s) s [] [] [] _ (dropped (closedSolver (a .s)) (wordsSpent solver (a .s .terms) (slotWords s)) []) (sym (c .before .before .before .check-open .ensures) ∙ ap checked (c .before .enum-told2 .given .1))))
 
 spend-at-requires : tie.Need-spend-at-requires
 spend-at-requires c κs =
     let a = c .before .before .before .before .before .before .before .args in
     let s = slotAt (a .pool .now) (a .size) (a .index) in
-    let f = open-known solver (a .s .due) (a .s .terms) s (sym (c .before .before .before .check-open .ensures) ∙ ap checked (c .before .enum-told .given .1)) in spendable solver (a .s .due) (a .s .terms) s f
+    let f = open-known solver (a .s .due) (a .s .terms) s
+    (sym (c .before .before .before .check-open .ensures) ∙ ap checked (c .before .enum-told .given .1)) in
+    spendable solver (a .s .due) (a .s .terms) s f
 
 same-length-2 : tie.Need-same-length-2
 same-length-2 c = search needs

@@ -39,7 +39,8 @@ returns : tie.Need-returns
 returns c =
     let a = c .before .before .before .before .before .args in
     let h = c .before .before .before .before .before .pre in
-    slot-written (a .pool .now) _ (a .size) (a .index) (wordsSpent (role (a .end)) (a .t)) (h .2) (λ ws e. spent-keeps (role (a .end)) (a .t) ws (omega (arith, h .1, e)) ∙ e) (c .before .before .spend .ensures)
+    slot-written (a .pool .now) _ (a .size) (a .index) (wordsSpent (role (a .end)) (a .t)) (h .2)
+    (λ ws e. spent-keeps (role (a .end)) (a .t) ws (omega (arith, h .1, e)) ∙ e) (c .before .before .spend .ensures)
 
 pub spend-at-spec : {M : Type 1} → statement M
 spend-at-spec =

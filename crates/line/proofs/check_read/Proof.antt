@@ -24,7 +24,8 @@ enum-told-2 c = search needs
 returns : tie.Need-returns
 returns c =
     let a = c .before .before .before .before .args in
-    λ rs e k. head-stops (a .h) rs (a .count) (a .count) (a .room) (c .before .before .check-head .result) (c .before .before .check-head .ensures) e _ (c .enum-told2 .given .1)
+    λ rs e k. head-stops (a .h) rs (a .count) (a .count) (a .room) (c .before .before .check-head .result)
+    (c .before .before .check-head .ensures) e _ (c .enum-told2 .given .1)
 
 add-end : tie.Need-add-end
 add-end c =
@@ -49,7 +50,11 @@ returns-2 : tie.Need-returns-2
 returns-2 c =
     let a = c .before .before .before .before .before .before .before .args in
     let check-head = c .before .before .before .before .before .check-head in
-    λ rs e k. let few = head-few (a .h) (a .count) (sym (check-head .ensures) ∙ ap checked (c .before .before .before .enum-told .given .1)) in let n : a .count + 7 - 7 ≡ a .count = omega arith in c .check-rest .ensures ∙ ap (λ (l : List ℕ). verdict (restTests (a .h .terms .q) l (a .count) (a .room))) (ap (λ (m : ℕ). take m (drop 7 (a .words .now))) n ∙ k few) ∙ sym (head-goes-on (a .h) rs (a .count) (a .count) (a .room) (check-head .result) (check-head .ensures) e (c .before .before .before .enum-told .given .1))
+    λ rs e k. let few = head-few (a .h) (a .count) (sym (check-head .ensures) ∙ ap checked (c .before .before .before .enum-told .given .1)) in
+    let n : a .count + 7 - 7 ≡ a .count = omega arith in
+    c .check-rest .ensures ∙ ap (λ (l : List ℕ). verdict (restTests (a .h .terms .q) l (a .count) (a .room)))
+    (ap (λ (m : ℕ). take m (drop 7 (a .words .now))) n ∙ k few) ∙ sym
+    (head-goes-on (a .h) rs (a .count) (a .count) (a .room) (check-head .result) (check-head .ensures) e (c .before .before .before .enum-told .given .1))
 
 pub check-read-spec : {M : Type 1} → statement M
 check-read-spec =

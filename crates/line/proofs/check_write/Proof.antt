@@ -22,7 +22,10 @@ enum-told-2 : tie.Need-enum-told-2
 enum-told-2 c = search needs
 
 returns : tie.Need-returns
-returns c = let a = c .before .before .before .before .args in head-stops (a .h) (a .residues .now) (length (a .residues .now)) (length (messageLine (messageWith (a .h) (a .residues .now)))) (a .room) (c .before .before .check-head .result) (c .before .before .check-head .ensures) refl _ (c .enum-told2 .given .1)
+returns c =
+    let a = c .before .before .before .before .args in
+    head-stops (a .h) (a .residues .now) (length (a .residues .now)) (length (messageLine (messageWith (a .h) (a .residues .now)))) (a .room)
+    (c .before .before .check-head .result) (c .before .before .check-head .ensures) refl _ (c .enum-told2 .given .1)
 
 message-length-requires : tie.Need-message-length-requires
 message-length-requires c κs =
@@ -35,7 +38,9 @@ check-rest-requires c κs = search needs
 returns-2 : tie.Need-returns-2
 returns-2 c =
     let check-head = c .before .before .before .before .before .check-head in
-    let a = c .before .before .before .before .before .before .before .args in c .check-rest .ensures ∙ ap (λ (n : ℕ). verdict (restTests (a .h .terms .q) (a .residues .now) n (a .room))) (c .before .message-length .ensures) ∙ sym (head-goes-on (a .h) (a .residues .now) (length (a .residues .now)) (length (messageLine (messageWith (a .h) (a .residues .now)))) (a .room) (check-head .result) (check-head .ensures) refl (c .before .before .before .enum-told .given .1))
+    let a = c .before .before .before .before .before .before .before .args in
+    c .check-rest .ensures ∙ ap (λ (n : ℕ). verdict (restTests (a .h .terms .q) (a .residues .now) n (a .room))) (c .before .message-length .ensures)
+    ∙ sym (head-goes-on (a .h) (a .residues .now) (length (a .residues .now)) (length (messageLine (messageWith (a .h) (a .residues .now)))) (a .room) (check-head .result) (check-head .ensures) refl (c .before .before .before .enum-told .given .1))
 
 pub check-write-spec : {M : Type 1} → statement M
 check-write-spec =

@@ -24,10 +24,15 @@ line-length-requires-2 : tie.Need-line-length-requires-2
 line-length-requires-2 c κs = search needs
 
 add-result : tie.Need-add-result
-add-result c = omega (arith, c .before .line-length .ensures .1, c .line-length2 .ensures .1, ap length (c .before .before .before .head-words .ensures))
+add-result c =
+    omega (arith, c .before .line-length .ensures .1, c .line-length2 .ensures .1, ap length (c .before .before .before .head-words .ensures))
 
 returns : tie.Need-returns
-returns c = let a = c .before .before .before .before .before .args in let e : length (line (c .before .before .before .head-words .result)) ≡ length (line (headNumbers (a .h))) = ap (λ (l : List ℕ). length (line l)) (c .before .before .before .head-words .ensures) in omega (arith, c .before .line-length .ensures .0, c .line-length2 .ensures .0, e, message-lines (a .h) (a .residues .now))
+returns c =
+    let a = c .before .before .before .before .before .args in
+    let e : length (line (c .before .before .before .head-words .result)) ≡ length (line (headNumbers (a .h))) = ap (λ (l : List ℕ). length (line l))
+    (c .before .before .before .head-words .ensures) in
+    omega (arith, c .before .line-length .ensures .0, c .line-length2 .ensures .0, e, message-lines (a .h) (a .residues .now))
 
 pub message-length-spec : {M : Type 1} → statement M
 message-length-spec =

@@ -33,13 +33,21 @@ enum-told c = search needs
 returns : tie.Need-returns
 returns c =
     let a = c .before .before .before .before .before .before .before .args in
-    let s = a .s .now in let out = a .out .now in let room = length out in rw (parse-none room s (told-wrong (numbersOf s) (replicate 3079 0) (c .before .before .before .load .last .1 .0) (c .before .before .before .load .result) (c .before .before .before .load .ensures) (c .enum-told .given .1))) (refl, refl)
+    let s = a .s .now in
+    let out = a .out .now in
+    let room = length out in
+    rw (parse-none room s (told-wrong (numbersOf s) (replicate 3079 0) (c .before .before .before .load .last .1 .0) (c .before .before .before .load .result) (c .before .before .before .load .ensures) (c .enum-told .given .1))) (refl, refl)
 
 returns-2 : tie.Need-returns-2
 returns-2 c =
     let a = c .before .before .before .before .before .before .before .before .before .args in
     let load = c .before .before .before .before .before .load in
-    let s = a .s .now in let out = a .out .now in let room = length out in let t = told (numbersOf s) (replicate 3079 0) (load .last .1 .0) (load .result) _ (load .ensures) (c .before .before .loaded .given .1) in let xs = t .values in rw (parse-few room s xs (t .reads) (omega (arith, t .count, c .if1 .taken))) (refl, refl)
+    let s = a .s .now in
+    let out = a .out .now in
+    let room = length out in
+    let t = told (numbersOf s) (replicate 3079 0) (load .last .1 .0) (load .result) _ (load .ensures) (c .before .before .loaded .given .1) in
+    let xs = t .values in
+    rw (parse-few room s xs (t .reads) (omega (arith, t .count, c .if1 .taken))) (refl, refl)
 
 slice-aggregate-head-of : tie.Need-slice-aggregate-head-of
 slice-aggregate-head-of c = search needs
@@ -65,7 +73,22 @@ returns-3 c =
     let head-of = c .before .before .before .before .head-of in
     let if1 = c .before .before .before .before .before .before .if1 in
     let load = c .before .before .before .before .before .before .before .before .before .before .before .load in
-    let s = a .s .now in let out = a .out .now in let room = length out in let t = told (numbersOf s) (replicate 3079 0) (load .last .1 .0) (load .result) _ (load .ensures) (c .before .before .before .before .before .before .before .before .loaded .given .1) in let xs = t .values in let seven : 7 ≤ length xs = omega (arith, t .count, if1 .left) in let few = if1 .left in let hd : head-of .result ≡ messageFrom xs .head = head-of .ensures ∙ loaded-head (numbersOf s) _ _ t few in let cn = loaded-count (numbersOf s) _ _ t few in let kd : head-of .result .kind ≡ getD xs 0 0 = ap (λ (h : Head). h .kind) hd in let v : checked (c .before .before .before .check-form .result) ≡ verdict (parseOrder (getD xs 0 0) (length (drop 7 xs)) room) = c .before .before .before .check-form .ensures ∙ ap₂ (λ (k n : ℕ). verdict (parseOrder k n room)) kd (sym cn) in rw (parse-refused room s xs (t .reads) seven _ (sym v ∙ ap checked (c .before .enum-told3 .given .1))) (c .refused .ensures ∙ ap receivedBy (c .before .enum-told3 .given .1), refl)
+    let s = a .s .now in
+    let out = a .out .now in
+    let room = length out in
+    let t = told (numbersOf s) (replicate 3079 0) (load .last .1 .0) (load .result) _ (load .ensures)
+    (c .before .before .before .before .before .before .before .before .loaded .given .1) in
+    let xs = t .values in
+    let seven : 7 ≤ length xs = omega (arith, t .count, if1 .left) in
+    let few = if1 .left in
+    let hd : head-of .result ≡ messageFrom xs .head = head-of .ensures ∙ loaded-head (numbersOf s) _ _ t few in
+    let cn = loaded-count (numbersOf s) _ _ t few in
+    let kd : head-of .result .kind ≡ getD xs 0 0 = ap (λ (h : Head). h .kind) hd in
+    let v : checked (c .before .before .before .check-form .result) ≡ verdict
+    (parseOrder (getD xs 0 0) (length (drop 7 xs)) room) = c .before .before .before .check-form .ensures ∙ ap₂
+    (λ (k n : ℕ). verdict (parseOrder k n room)) kd (sym cn) in
+    rw (parse-refused room s xs (t .reads) seven _ (sym v ∙ ap checked (c .before .enum-told3 .given .1)))
+    (c .refused .ensures ∙ ap receivedBy (c .before .enum-told3 .given .1), refl)
 
 slice-aggregate-store : tie.Need-slice-aggregate-store
 slice-aggregate-store c = search needs
@@ -77,7 +100,21 @@ store-requires c κs =
     let head-of = c .before .before .before .before .before .head-of in
     let if1 = c .before .before .before .before .before .before .before .if1 in
     let load = c .before .before .before .before .before .before .before .before .before .before .before .before .load in
-    let s = a .s .now in let out = a .out .now in let room = length out in let t = told (numbersOf s) (replicate 3079 0) (load .last .1 .0) (load .result) _ (load .ensures) (c .before .before .before .before .before .before .before .before .before .loaded .given .1) in let xs = t .values in let seven : 7 ≤ length xs = omega (arith, t .count, if1 .left) in let few = if1 .left in let hd : head-of .result ≡ messageFrom xs .head = head-of .ensures ∙ loaded-head (numbersOf s) _ _ t few in let cn = loaded-count (numbersOf s) _ _ t few in let kd : head-of .result .kind ≡ getD xs 0 0 = ap (λ (h : Head). h .kind) hd in let v : checked (check-form .result) ≡ verdict (parseOrder (getD xs 0 0) (length (drop 7 xs)) room) = check-form .ensures ∙ ap₂ (λ (k n : ℕ). verdict (parseOrder k n room)) kd (sym cn) in let p = parse-passed (getD xs 0 0) (length (drop 7 xs)) room (sym v ∙ ap checked (c .before .before .enum-told2 .given .1)) in (search needs, omega (arith, p, cn))
+    let s = a .s .now in
+    let out = a .out .now in
+    let room = length out in
+    let t = told (numbersOf s) (replicate 3079 0) (load .last .1 .0) (load .result) _ (load .ensures)
+    (c .before .before .before .before .before .before .before .before .before .loaded .given .1) in
+    let xs = t .values in
+    let seven : 7 ≤ length xs = omega (arith, t .count, if1 .left) in
+    let few = if1 .left in
+    let hd : head-of .result ≡ messageFrom xs .head = head-of .ensures ∙ loaded-head (numbersOf s) _ _ t few in
+    let cn = loaded-count (numbersOf s) _ _ t few in
+    let kd : head-of .result .kind ≡ getD xs 0 0 = ap (λ (h : Head). h .kind) hd in
+    let v : checked (check-form .result) ≡ verdict (parseOrder (getD xs 0 0) (length (drop 7 xs)) room) = check-form .ensures ∙ ap₂
+    (λ (k n : ℕ). verdict (parseOrder k n room)) kd (sym cn) in
+    let p = parse-passed (getD xs 0 0) (length (drop 7 xs)) room (sym v ∙ ap checked (c .before .before .enum-told2 .given .1)) in
+    (search needs, omega (arith, p, cn))
 
 same-length : tie.Need-same-length
 same-length c = search needs
@@ -89,7 +126,22 @@ returns-4 c =
     let head-of = c .before .before .before .before .before .before .before .before .head-of in
     let if1 = c .before .before .before .before .before .before .before .before .before .before .if1 in
     let load = c .before .before .before .before .before .before .before .before .before .before .before .before .before .before .before .load in
-    let s = a .s .now in let out = a .out .now in let room = length out in let t = told (numbersOf s) (replicate 3079 0) (load .last .1 .0) (load .result) _ (load .ensures) (c .before .before .before .before .before .before .before .before .before .before .before .before .loaded .given .1) in let xs = t .values in let seven : 7 ≤ length xs = omega (arith, t .count, if1 .left) in let few = if1 .left in let hd : head-of .result ≡ messageFrom xs .head = head-of .ensures ∙ loaded-head (numbersOf s) _ _ t few in let cn = loaded-count (numbersOf s) _ _ t few in let kd : head-of .result .kind ≡ getD xs 0 0 = ap (λ (h : Head). h .kind) hd in let v : checked (check-form .result) ≡ verdict (parseOrder (getD xs 0 0) (length (drop 7 xs)) room) = check-form .ensures ∙ ap₂ (λ (k n : ℕ). verdict (parseOrder k n room)) kd (sym cn) in let d = sym v ∙ ap checked (c .before .before .before .before .before .enum-told2 .given .1) in rw (parse-done room s xs (t .reads) seven d) (ap₂ received.Message hd (sym cn), c .before .before .store .ensures xs (t .reads) cn (loaded-residues (numbersOf s) _ _ t few))
+    let s = a .s .now in
+    let out = a .out .now in
+    let room = length out in
+    let t = told (numbersOf s) (replicate 3079 0) (load .last .1 .0) (load .result) _ (load .ensures)
+    (c .before .before .before .before .before .before .before .before .before .before .before .before .loaded .given .1) in
+    let xs = t .values in
+    let seven : 7 ≤ length xs = omega (arith, t .count, if1 .left) in
+    let few = if1 .left in
+    let hd : head-of .result ≡ messageFrom xs .head = head-of .ensures ∙ loaded-head (numbersOf s) _ _ t few in
+    let cn = loaded-count (numbersOf s) _ _ t few in
+    let kd : head-of .result .kind ≡ getD xs 0 0 = ap (λ (h : Head). h .kind) hd in
+    let v : checked (check-form .result) ≡ verdict (parseOrder (getD xs 0 0) (length (drop 7 xs)) room) = check-form .ensures ∙ ap₂
+    (λ (k n : ℕ). verdict (parseOrder k n room)) kd (sym cn) in
+    let d = sym v ∙ ap checked (c .before .before .before .before .before .enum-told2 .given .1) in
+    rw (parse-done room s xs (t .reads) seven d)
+    (ap₂ received.Message hd (sym cn), c .before .before .store .ensures xs (t .reads) cn (loaded-residues (numbersOf s) _ _ t few))
 
 pub parse-spec : {M : Type 1} → statement M
 parse-spec =

@@ -35,7 +35,8 @@ mul-out-2 c = search needs
 slice-write-out : tie.Need-slice-write-out Inv-loop μ-loop
 slice-write-out c =
     let a = c .before .before .before .args in
-    let i = c .before .before .loop .inv in omega (arith, ap length (i .0), copy-same (a .words .now) (a .out .now) (c .before .before .loop .j) (omega arith) (omega arith))
+    let i = c .before .before .loop .inv in
+    omega (arith, ap length (i .0), copy-same (a .words .now) (a .out .now) (c .before .before .loop .j) (omega arith) (omega arith))
 
 add-j : tie.Need-add-j Inv-loop μ-loop
 add-j c = let i = c .before .before .loop .inv in omega arith
@@ -46,7 +47,10 @@ loop-less c = omega arith
 loop-again : tie.Need-loop-again Inv-loop μ-loop
 loop-again c =
     let a = c .before .before .before .args in
-    let l = c .before .before .loop in let w = a .words .now in let o = a .out .now in (ap (λ (z : List ℕ). set z (l .j) (getD w (l .j + 7) 0)) (l .inv .0) ∙ copy-turn w o (l .j) (omega arith) (omega arith), omega arith, l .inv .2, l .inv .3)
+    let l = c .before .before .loop in
+    let w = a .words .now in
+    let o = a .out .now in
+    (ap (λ (z : List ℕ). set z (l .j) (getD w (l .j + 7) 0)) (l .inv .0) ∙ copy-turn w o (l .j) (omega arith) (omega arith), omega arith, l .inv .2, l .inv .3)
 
 same-length : tie.Need-same-length Inv-loop μ-loop
 same-length c =
@@ -56,7 +60,9 @@ same-length c =
 returns : tie.Need-returns Inv-loop μ-loop
 returns c =
     let a = c .before .before .args in
-    let l = c .before .loop in let e : l .j ≡ a .count = omega arith in l .inv .0 ∙ copy-done (a .words .now) (a .out .now) (l .j) (omega arith) ∙ ap (λ (n : ℕ). over (take n (drop 7 (a .words .now))) (a .out .now)) e
+    let l = c .before .loop in
+    let e : l .j ≡ a .count = omega arith in
+    l .inv .0 ∙ copy-done (a .words .now) (a .out .now) (l .j) (omega arith) ∙ ap (λ (n : ℕ). over (take n (drop 7 (a .words .now))) (a .out .now)) e
 
 pub put-residues-spec : {M : Type 1} → statement M
 put-residues-spec =

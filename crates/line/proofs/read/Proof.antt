@@ -34,13 +34,21 @@ enum-told c = search needs
 returns : tie.Need-returns
 returns c =
     let a = c .before .before .before .before .before .before .before .args in
-    let s = a .s .now in let out = a .out .now in let room = length out in rw (read-none room s (told-wrong (numbersOf s) (replicate 3079 0) (c .before .before .before .load .last .1 .0) (c .before .before .before .load .result) (c .before .before .before .load .ensures) (c .enum-told .given .1))) (refl, refl)
+    let s = a .s .now in
+    let out = a .out .now in
+    let room = length out in
+    rw (read-none room s (told-wrong (numbersOf s) (replicate 3079 0) (c .before .before .before .load .last .1 .0) (c .before .before .before .load .result) (c .before .before .before .load .ensures) (c .enum-told .given .1))) (refl, refl)
 
 returns-2 : tie.Need-returns-2
 returns-2 c =
     let a = c .before .before .before .before .before .before .before .before .before .args in
     let load = c .before .before .before .before .before .load in
-    let s = a .s .now in let out = a .out .now in let room = length out in let t = told (numbersOf s) (replicate 3079 0) (load .last .1 .0) (load .result) _ (load .ensures) (c .before .before .loaded .given .1) in let xs = t .values in rw (read-few room s xs (t .reads) (omega (arith, t .count, c .if1 .taken))) (refl, refl)
+    let s = a .s .now in
+    let out = a .out .now in
+    let room = length out in
+    let t = told (numbersOf s) (replicate 3079 0) (load .last .1 .0) (load .result) _ (load .ensures) (c .before .before .loaded .given .1) in
+    let xs = t .values in
+    rw (read-few room s xs (t .reads) (omega (arith, t .count, c .if1 .taken))) (refl, refl)
 
 slice-aggregate-head-of : tie.Need-slice-aggregate-head-of
 slice-aggregate-head-of c = search needs
@@ -69,7 +77,21 @@ returns-3 c =
     let head-of = c .before .before .before .before .before .head-of in
     let if1 = c .before .before .before .before .before .before .before .if1 in
     let load = c .before .before .before .before .before .before .before .before .before .before .before .before .load in
-    let s = a .s .now in let out = a .out .now in let room = length out in let t = told (numbersOf s) (replicate 3079 0) (load .last .1 .0) (load .result) _ (load .ensures) (c .before .before .before .before .before .before .before .before .before .loaded .given .1) in let xs = t .values in let seven : 7 ≤ length xs = omega (arith, t .count, if1 .left) in let few = if1 .left in let hd : head-of .result ≡ messageFrom xs .head = head-of .ensures ∙ loaded-head (numbersOf s) _ _ t few in let cn = loaded-count (numbersOf s) _ _ t few in let v : checked (c .before .before .before .check-read .result) ≡ verdict (inSize (messageFrom xs .head) (drop 7 xs) (length (drop 7 xs)) room) = c .before .before .before .check-read .ensures (drop 7 xs) cn (loaded-residues (numbersOf s) _ _ t few) ∙ ap₂ (λ (h : Head) (n : ℕ). verdict (inSize h (drop 7 xs) n room)) hd (sym cn) in rw (read-refused room s xs (t .reads) seven _ (sym v ∙ ap checked (c .before .enum-told3 .given .1))) (c .refused .ensures ∙ ap receivedBy (c .before .enum-told3 .given .1), refl)
+    let s = a .s .now in
+    let out = a .out .now in
+    let room = length out in
+    let t = told (numbersOf s) (replicate 3079 0) (load .last .1 .0) (load .result) _ (load .ensures)
+    (c .before .before .before .before .before .before .before .before .before .loaded .given .1) in
+    let xs = t .values in
+    let seven : 7 ≤ length xs = omega (arith, t .count, if1 .left) in
+    let few = if1 .left in
+    let hd : head-of .result ≡ messageFrom xs .head = head-of .ensures ∙ loaded-head (numbersOf s) _ _ t few in
+    let cn = loaded-count (numbersOf s) _ _ t few in
+    let v : checked (c .before .before .before .check-read .result) ≡ verdict
+    (inSize (messageFrom xs .head) (drop 7 xs) (length (drop 7 xs)) room) = c .before .before .before .check-read .ensures (drop 7 xs) cn
+    (loaded-residues (numbersOf s) _ _ t few) ∙ ap₂ (λ (h : Head) (n : ℕ). verdict (inSize h (drop 7 xs) n room)) hd (sym cn) in
+    rw (read-refused room s xs (t .reads) seven _ (sym v ∙ ap checked (c .before .enum-told3 .given .1)))
+    (c .refused .ensures ∙ ap receivedBy (c .before .enum-told3 .given .1), refl)
 
 slice-aggregate-put-residues : tie.Need-slice-aggregate-put-residues
 slice-aggregate-put-residues c = search needs
@@ -81,7 +103,20 @@ put-residues-requires c κs =
     let head-of = c .before .before .before .before .before .before .head-of in
     let if1 = c .before .before .before .before .before .before .before .before .if1 in
     let load = c .before .before .before .before .before .before .before .before .before .before .before .before .before .load in
-    let s = a .s .now in let out = a .out .now in let room = length out in let t = told (numbersOf s) (replicate 3079 0) (load .last .1 .0) (load .result) _ (load .ensures) (c .before .before .before .before .before .before .before .before .before .before .loaded .given .1) in let xs = t .values in let seven : 7 ≤ length xs = omega (arith, t .count, if1 .left) in let few = if1 .left in let hd : head-of .result ≡ messageFrom xs .head = head-of .ensures ∙ loaded-head (numbersOf s) _ _ t few in let cn = loaded-count (numbersOf s) _ _ t few in let v : checked (check-read .result) ≡ verdict (inSize (messageFrom xs .head) (drop 7 xs) (length (drop 7 xs)) room) = check-read .ensures (drop 7 xs) cn (loaded-residues (numbersOf s) _ _ t few) ∙ ap₂ (λ (h : Head) (n : ℕ). verdict (inSize h (drop 7 xs) n room)) hd (sym cn) in let p = size-passed (messageFrom xs .head) (drop 7 xs) (length (drop 7 xs)) room (sym v ∙ ap checked (c .before .before .enum-told2 .given .1)) in (omega (arith, p .0, cn), omega (arith, p .1, cn))
+    let s = a .s .now in
+    let out = a .out .now in
+    let room = length out in
+    let t = told (numbersOf s) (replicate 3079 0) (load .last .1 .0) (load .result) _ (load .ensures)
+    (c .before .before .before .before .before .before .before .before .before .before .loaded .given .1) in
+    let xs = t .values in
+    let seven : 7 ≤ length xs = omega (arith, t .count, if1 .left) in
+    let few = if1 .left in
+    let hd : head-of .result ≡ messageFrom xs .head = head-of .ensures ∙ loaded-head (numbersOf s) _ _ t few in
+    let cn = loaded-count (numbersOf s) _ _ t few in
+    let v : checked (check-read .result) ≡ verdict (inSize (messageFrom xs .head) (drop 7 xs) (length (drop 7 xs)) room) = check-read .ensures
+    (drop 7 xs) cn (loaded-residues (numbersOf s) _ _ t few) ∙ ap₂ (λ (h : Head) (n : ℕ). verdict (inSize h (drop 7 xs) n room)) hd (sym cn) in
+    let p = size-passed (messageFrom xs .head) (drop 7 xs) (length (drop 7 xs)) room (sym v ∙ ap checked (c .before .before .enum-told2 .given .1)) in
+    (omega (arith, p .0, cn), omega (arith, p .1, cn))
 
 same-length : tie.Need-same-length
 same-length c = search needs
@@ -92,8 +127,24 @@ returns-4 c =
     let check-read = c .before .before .before .before .before .before .before .check-read in
     let head-of = c .before .before .before .before .before .before .before .before .before .head-of in
     let if1 = c .before .before .before .before .before .before .before .before .before .before .before .if1 in
-    let load = c .before .before .before .before .before .before .before .before .before .before .before .before .before .before .before .before .load in
-    let s = a .s .now in let out = a .out .now in let room = length out in let t = told (numbersOf s) (replicate 3079 0) (load .last .1 .0) (load .result) _ (load .ensures) (c .before .before .before .before .before .before .before .before .before .before .before .before .before .loaded .given .1) in let xs = t .values in let seven : 7 ≤ length xs = omega (arith, t .count, if1 .left) in let few = if1 .left in let hd : head-of .result ≡ messageFrom xs .head = head-of .ensures ∙ loaded-head (numbersOf s) _ _ t few in let cn = loaded-count (numbersOf s) _ _ t few in let v : checked (check-read .result) ≡ verdict (inSize (messageFrom xs .head) (drop 7 xs) (length (drop 7 xs)) room) = check-read .ensures (drop 7 xs) cn (loaded-residues (numbersOf s) _ _ t few) ∙ ap₂ (λ (h : Head) (n : ℕ). verdict (inSize h (drop 7 xs) n room)) hd (sym cn) in let d = sym v ∙ ap checked (c .before .before .before .before .before .enum-told2 .given .1) in let p = size-passed (messageFrom xs .head) (drop 7 xs) (length (drop 7 xs)) room d in rw (read-done room s xs (t .reads) seven d) (ap₂ received.Message hd (sym cn), c .before .before .put-residues .ensures ∙ ap (λ (l : List ℕ). over l out) (loaded-residues (numbersOf s) _ _ t few (omega (arith, p .0, cn))))
+    let load = c .before .before .before .before .before .before .before .before .before .before .before .before .before .before .before .before .load
+    in
+    let s = a .s .now in
+    let out = a .out .now in
+    let room = length out in
+    let t = told (numbersOf s) (replicate 3079 0) (load .last .1 .0) (load .result) _ (load .ensures)
+    (c .before .before .before .before .before .before .before .before .before .before .before .before .before .loaded .given .1) in
+    let xs = t .values in
+    let seven : 7 ≤ length xs = omega (arith, t .count, if1 .left) in
+    let few = if1 .left in
+    let hd : head-of .result ≡ messageFrom xs .head = head-of .ensures ∙ loaded-head (numbersOf s) _ _ t few in
+    let cn = loaded-count (numbersOf s) _ _ t few in
+    let v : checked (check-read .result) ≡ verdict (inSize (messageFrom xs .head) (drop 7 xs) (length (drop 7 xs)) room) = check-read .ensures
+    (drop 7 xs) cn (loaded-residues (numbersOf s) _ _ t few) ∙ ap₂ (λ (h : Head) (n : ℕ). verdict (inSize h (drop 7 xs) n room)) hd (sym cn) in
+    let d = sym v ∙ ap checked (c .before .before .before .before .before .enum-told2 .given .1) in
+    let p = size-passed (messageFrom xs .head) (drop 7 xs) (length (drop 7 xs)) room d in
+    rw (read-done room s xs (t .reads) seven d)
+    (ap₂ received.Message hd (sym cn), c .before .before .put-residues .ensures ∙ ap (λ (l : List ℕ). over l out) (loaded-residues (numbersOf s) _ _ t few (omega (arith, p .0, cn))))
 
 pub read-spec : {M : Type 1} → statement M
 read-spec =

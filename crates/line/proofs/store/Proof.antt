@@ -20,7 +20,10 @@ same-length : tie.Need-same-length
 same-length c = search needs
 
 returns : tie.Need-returns
-returns c = λ xs e n w. c .before .before .put-residues .ensures ∙ ap (λ (l : List ℕ). over l (c .before .before .before .before .before .before .before .before .args .out .now)) (w (c .before .before .before .before .if1 .taken))
+returns c =
+    λ xs e n w. c .before .before .put-residues .ensures ∙ ap
+    (λ (l : List ℕ). over l (c .before .before .before .before .before .before .before .before .args .out .now))
+    (w (c .before .before .before .before .if1 .taken))
 
 load-behind-requires : tie.Need-load-behind-requires
 load-behind-requires c κs = search needs
@@ -29,7 +32,9 @@ same-length-2 : tie.Need-same-length-2
 same-length-2 c = search needs
 
 returns-2 : tie.Need-returns-2
-returns-2 c = λ xs e n w. stored-behind 7 (numbersOf _) xs _ _ (c .before .before .load-behind .result) e (c .before .before .load-behind .ensures) ∙ sets-over (drop 7 xs) _ (omega (arith, n))
+returns-2 c =
+    λ xs e n w. stored-behind 7 (numbersOf _) xs _ _ (c .before .before .load-behind .result) e (c .before .before .load-behind .ensures) ∙ sets-over
+    (drop 7 xs) _ (omega (arith, n))
 
 pub store-spec : {M : Type 1} → statement M
 store-spec = tie.close (tie.spec put-residues-requires same-length returns load-behind-requires same-length-2 returns-2)

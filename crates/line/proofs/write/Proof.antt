@@ -25,16 +25,30 @@ unwritten-requires : tie.Need-unwritten-requires
 unwritten-requires c κs = search needs
 
 returns : tie.Need-returns
-returns c = let a = c .before .before .before .before .before .before .args in let m = messageWith (a .h) (a .residues .now) in let room = length (a .out .now) in rw (write-refused room m _ (sym (c .before .before .before .check-write .ensures) ∙ ap checked (c .before .enum-told2 .given .1))) (c .unwritten .ensures ∙ ap writtenBy (c .before .enum-told2 .given .1), refl)
+returns c =
+    let a = c .before .before .before .before .before .before .args in
+    let m = messageWith (a .h) (a .residues .now) in
+    let room = length (a .out .now) in
+    rw (write-refused room m _ (sym (c .before .before .before .check-write .ensures) ∙ ap checked (c .before .enum-told2 .given .1)))
+    (c .unwritten .ensures ∙ ap writtenBy (c .before .enum-told2 .given .1), refl)
 
 put-message-requires : tie.Need-put-message-requires
-put-message-requires c κs = let a = c .before .before .before .before .before .before .args in let m = messageWith (a .h) (a .residues .now) in let room = length (a .out .now) in size-passed (a .h) (a .residues .now) (length (messageLine m)) room (sym (c .before .before .before .check-write .ensures) ∙ ap checked (c .before .enum-told .given .1))
+put-message-requires c κs =
+    let a = c .before .before .before .before .before .before .args in
+    let m = messageWith (a .h) (a .residues .now) in
+    let room = length (a .out .now) in
+    size-passed (a .h) (a .residues .now) (length (messageLine m)) room
+    (sym (c .before .before .before .check-write .ensures) ∙ ap checked (c .before .enum-told .given .1))
 
 same-length : tie.Need-same-length
 same-length c = search needs
 
 returns-2 : tie.Need-returns-2
-returns-2 c = let a = c .before .before .before .before .before .before .before .before .before .args in let m = messageWith (a .h) (a .residues .now) in let room = length (a .out .now) in rw (write-done room m (sym (c .before .before .before .before .before .before .check-write .ensures) ∙ ap checked (c .before .before .before .before .enum-told .given .1))) (ap written.Bytes (c .before .before .put-message .ensures .0), c .before .before .put-message .ensures .1)
+returns-2 c =
+    let a = c .before .before .before .before .before .before .before .before .before .args in
+    let m = messageWith (a .h) (a .residues .now) in
+    let room = length (a .out .now) in
+    rw (write-done room m (sym (c .before .before .before .before .before .before .check-write .ensures) ∙ ap checked (c .before .before .before .before .enum-told .given .1))) (ap written.Bytes (c .before .before .put-message .ensures .0), c .before .before .put-message .ensures .1)
 
 pub write-spec : {M : Type 1} → statement M
 write-spec =

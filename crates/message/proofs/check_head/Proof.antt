@@ -18,21 +18,24 @@ modulus-fits-requires c κs = search needs
 
 returns-2 : tie.Need-returns-2
 unfolding inOrder headTests
-returns-2 c = rw (holds (c .before .before .before .kind-known .ensures) (c .before .before .if1 .left), fails (c .before .modulus-fits .ensures) (c .if2 .taken))
+returns-2 c =
+    rw (holds (c .before .before .before .kind-known .ensures) (c .before .before .if1 .left), fails (c .before .modulus-fits .ensures) (c .if2 .taken))
 
 kind-field-fits-requires : tie.Need-kind-field-fits-requires
 kind-field-fits-requires c κs = search needs
 
 returns-3 : tie.Need-returns-3
 unfolding inOrder headTests
-returns-3 c = rw (holds (c .before .before .before .before .before .kind-known .ensures) (c .before .before .before .before .if1 .left), holds (c .before .before .before .modulus-fits .ensures) (c .before .before .if2 .left), fails (c .before .kind-field-fits .ensures) (c .if3 .taken))
+returns-3 c =
+    rw (holds (c .before .before .before .before .before .kind-known .ensures) (c .before .before .before .before .if1 .left), holds (c .before .before .before .modulus-fits .ensures) (c .before .before .if2 .left), fails (c .before .kind-field-fits .ensures) (c .if3 .taken))
 
 check-sizes-requires : tie.Need-check-sizes-requires
 check-sizes-requires c κs = search needs
 
 returns-4 : tie.Need-returns-4
 unfolding inOrder headTests
-returns-4 c = rw (holds (c .before .before .before .before .before .before .kind-known .ensures) (c .before .before .before .before .before .if1 .left), holds (c .before .before .before .before .modulus-fits .ensures) (c .before .before .before .if2 .left), holds (c .before .before .kind-field-fits .ensures) (c .before .if3 .left)) (c .check-sizes .ensures)
+returns-4 c =
+    rw (holds (c .before .before .before .before .before .before .kind-known .ensures) (c .before .before .before .before .before .if1 .left), holds (c .before .before .before .before .modulus-fits .ensures) (c .before .before .before .if2 .left), holds (c .before .before .kind-field-fits .ensures) (c .before .if3 .left)) (c .check-sizes .ensures)
 
 pub check-head-spec : {M : Type 1} → statement M
 check-head-spec =

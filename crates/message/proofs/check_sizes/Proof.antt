@@ -27,15 +27,20 @@ unfolding inOrder messageSizes
 returns-3 c = search (chain, holds (c .before .before .before .kind-sides-fit .ensures) (c .before .before .if2 .left))
 
 message-size-requires : tie.Need-message-size-requires
-message-size-requires c κs = let a = c .before .before .before .before .before .before .before .before .before .args .a in few (kindSort (a .kind)) (a .terms .m) (a .terms .k) (a .terms .p) (holds (c .before .before .before .kind-sides-fit .ensures) (c .before .before .if2 .left))
+message-size-requires c κs =
+    let a = c .before .before .before .before .before .before .before .before .before .args .a in
+    few (kindSort (a .kind)) (a .terms .m) (a .terms .k) (a .terms .p)
+    (holds (c .before .before .before .kind-sides-fit .ensures) (c .before .before .if2 .left))
 
 returns-4 : tie.Need-returns-4
 unfolding inOrder messageSizes
-returns-4 c = search (chain, holds (c .before .before .before .before .before .kind-sides-fit .ensures) (c .before .before .before .before .if2 .left), ne-eqb _ _ (rw (c .before .message-size .ensures) at (c .if4 .taken)))
+returns-4 c =
+    search (chain, holds (c .before .before .before .before .before .kind-sides-fit .ensures) (c .before .before .before .before .if2 .left), ne-eqb _ _ (rw (c .before .message-size .ensures) at (c .if4 .taken)))
 
 returns-5 : tie.Need-returns-5
 unfolding inOrder messageSizes
-returns-5 c = search (chain, holds (c .before .before .before .before .before .kind-sides-fit .ensures) (c .before .before .before .before .if2 .left), eq-eqb _ _ (c .if4 .left ∙ c .before .message-size .ensures))
+returns-5 c =
+    search (chain, holds (c .before .before .before .before .before .kind-sides-fit .ensures) (c .before .before .before .before .if2 .left), eq-eqb _ _ (c .if4 .left ∙ c .before .message-size .ensures))
 
 pub check-sizes-spec : {M : Type 1} → statement M
 check-sizes-spec =

@@ -23,7 +23,9 @@ add-result : tie.Need-add-result
 add-result c = search needs
 
 returns-2 : tie.Need-returns-2
-returns-2 c = let a = c .before .before .before .before .args .t in rw (c .before .before .if2 .taken) (omega (arith, c .before .times2 .ensures, c .times3 .ensures, size-2 a))
+returns-2 c =
+    let a = c .before .before .before .before .args .t in
+    rw (c .before .before .if2 .taken) (omega (arith, c .before .times2 .ensures, c .times3 .ensures, size-2 a))
 
 times-requires-4 : tie.Need-times-requires-4
 times-requires-4 c κs = search needs
@@ -57,7 +59,8 @@ unfolding sideSize
 returns-5 c =
     let a = c .before .before .before .before .before .args in
     c .side-size2 .ensures
-    ∙ size-5 (a .t) (a .kind) (c .before .before .before .before .if1 .left) (c .before .before .before .if2 .left) (c .before .before .if3 .left) (c .before .if4 .left)
+    ∙ size-5 (a .t) (a .kind) (c .before .before .before .before .if1 .left) (c .before .before .before .if2 .left) (c .before .before .if3 .left)
+    (c .before .if4 .left)
 
 pub message-size-spec : {M : Type 1} → statement M
 message-size-spec =

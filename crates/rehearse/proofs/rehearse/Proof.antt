@@ -41,7 +41,10 @@ returns : tie.Need-returns
 returns c =
     let a = c .before .before .before .before .before .before .before .before .before .before .before .before .before .before .before .before .args in
     let read = c .before .before .before .before .before .before .before .before .before .read in
-    let z = wrong-printed (a .bytes .now) _ _ _ (said-wrong (a .bytes .now) _ _ _ _ _ (read .result) (read .ensures) (c .before .before .enum-told .given .1)) (c .refusal .ensures .0) (c .refusal .ensures .1 .0) (c .refusal .ensures .1 .1) in (z .0, (z .1, z .2))
+    let z = wrong-printed (a .bytes .now) _ _ _
+    (said-wrong (a .bytes .now) _ _ _ _ _ (read .result) (read .ensures) (c .before .before .enum-told .given .1)) (c .refusal .ensures .0)
+    (c .refusal .ensures .1 .0) (c .refusal .ensures .1 .1) in
+    (z .0, (z .1, z .2))
 
 slice-aggregate-terms-of : tie.Need-slice-aggregate-terms-of
 slice-aggregate-terms-of c = search needs
@@ -59,25 +62,33 @@ array-share-prefix-dealer : tie.Need-array-share-prefix-dealer
 array-share-prefix-dealer c =
     let lines = c .before .before .before .before .before .lines in
     let read = c .before .before .before .before .before .before .before .before .before .before .before .before .read in
-    let a = c .before .before .before .before .before .before .before .before .before .before .before .before .before .before .before .before .before .before .before .args in let s = said-read (a .bytes .now) _ _ _ _ _ (read .result) (lines .given .0 .0) (read .ensures) (lines .given .1) in omega (arith, s .in-dealer .few)
+    let a = c .before .before .before .before .before .before .before .before .before .before .before .before .before .before .before .before .before .before .before .args in
+    let s = said-read (a .bytes .now) _ _ _ _ _ (read .result) (lines .given .0 .0) (read .ensures) (lines .given .1) in
+    omega (arith, s .in-dealer .few)
 
 slice-aggregate-answer-3 : tie.Need-slice-aggregate-answer-3
 slice-aggregate-answer-3 c =
     let lines = c .before .before .before .before .before .before .lines in
     let read = c .before .before .before .before .before .before .before .before .before .before .before .before .before .read in
-    let a = c .before .before .before .before .before .before .before .before .before .before .before .before .before .before .before .before .before .before .before .before .args in let s = said-read (a .bytes .now) _ _ _ _ _ (read .result) (lines .given .0 .0) (read .ensures) (lines .given .1) in sym (length-take-le _ _ (omega (arith, s .in-dealer .few, c .before .before .before .before .before .before .before .before .before .dealer2 .given)))
+    let a = c .before .before .before .before .before .before .before .before .before .before .before .before .before .before .before .before .before .before .before .before .args in
+    let s = said-read (a .bytes .now) _ _ _ _ _ (read .result) (lines .given .0 .0) (read .ensures) (lines .given .1) in
+    sym (length-take-le _ _ (omega (arith, s .in-dealer .few, c .before .before .before .before .before .before .before .before .before .dealer2 .given)))
 
 array-share-prefix-coins : tie.Need-array-share-prefix-coins
 array-share-prefix-coins c =
     let lines = c .before .before .before .before .before .before .lines in
     let read = c .before .before .before .before .before .before .before .before .before .before .before .before .before .read in
-    let a = c .before .before .before .before .before .before .before .before .before .before .before .before .before .before .before .before .before .before .before .before .args in let s = said-read (a .bytes .now) _ _ _ _ _ (read .result) (lines .given .0 .0) (read .ensures) (lines .given .1) in omega (arith, s .in-left .few)
+    let a = c .before .before .before .before .before .before .before .before .before .before .before .before .before .before .before .before .before .before .before .before .args in
+    let s = said-read (a .bytes .now) _ _ _ _ _ (read .result) (lines .given .0 .0) (read .ensures) (lines .given .1) in
+    omega (arith, s .in-left .few)
 
 slice-aggregate-answer-4 : tie.Need-slice-aggregate-answer-4
 slice-aggregate-answer-4 c =
     let lines = c .before .before .before .before .before .before .before .lines in
     let read = c .before .before .before .before .before .before .before .before .before .before .before .before .before .before .read in
-    let a = c .before .before .before .before .before .before .before .before .before .before .before .before .before .before .before .before .before .before .before .before .before .args in let s = said-read (a .bytes .now) _ _ _ _ _ (read .result) (lines .given .0 .0) (read .ensures) (lines .given .1) in sym (length-take-le _ _ (omega (arith, s .in-left .few, c .before .before .before .before .before .before .before .before .before .coins2 .given)))
+    let a = c .before .before .before .before .before .before .before .before .before .before .before .before .before .before .before .before .before .before .before .before .before .args in
+    let s = said-read (a .bytes .now) _ _ _ _ _ (read .result) (lines .given .0 .0) (read .ensures) (lines .given .1) in
+    sym (length-take-le _ _ (omega (arith, s .in-left .few, c .before .before .before .before .before .before .before .before .before .coins2 .given)))
 
 answer-requires : tie.Need-answer-requires
 answer-requires c κs = search needs
@@ -85,8 +96,14 @@ answer-requires c κs = search needs
 returns-2 : tie.Need-returns-2
 returns-2 c =
     let lines = c .before .before .before .before .before .before .before .before .before .lines in
-    let read = c .before .before .before .before .before .before .before .before .before .before .before .before .before .before .before .before .read in
-    let a = c .before .before .before .before .before .before .before .before .before .before .before .before .before .before .before .before .before .before .before .before .before .before .before .args in let s = said-read (a .bytes .now) _ _ _ _ _ (read .result) (lines .given .0 .0) (read .ensures) (lines .given .1) in let z = said-printed (a .bytes .now) (s .input) _ _ _ _ _ _ (s .prints) (c .before .before .before .before .before .before .terms-of .ensures ∙ sym (s .terms)) (s .in-dealer .held (omega (arith, s .in-dealer .few, c .before .before .before .before .before .before .before .before .before .before .before .before .dealer2 .given))) (s .in-left .held (omega (arith, s .in-left .few, c .before .before .before .before .before .before .before .before .before .before .before .coins2 .given))) (c .answer .ensures (s .input .x) (s .input .y) (s .in-x) (s .in-y)) in (z .0, (z .1, z .2))
+    let read = c .before .before .before .before .before .before .before .before .before .before .before .before .before .before .before .before .read
+    in
+    let a = c .before .before .before .before .before .before .before .before .before .before .before .before .before .before .before .before .before .before .before .before .before .before .before .args in
+    let s = said-read (a .bytes .now) _ _ _ _ _ (read .result) (lines .given .0 .0) (read .ensures) (lines .given .1) in
+    let z = said-printed (a .bytes .now) (s .input) _ _ _ _ _ _ (s .prints)
+    (c .before .before .before .before .before .before .terms-of .ensures ∙ sym (s .terms))
+    (s .in-dealer .held (omega (arith, s .in-dealer .few, c .before .before .before .before .before .before .before .before .before .before .before .before .dealer2 .given))) (s .in-left .held (omega (arith, s .in-left .few, c .before .before .before .before .before .before .before .before .before .before .before .coins2 .given))) (c .answer .ensures (s .input .x) (s .input .y) (s .in-x) (s .in-y)) in
+    (z .0, (z .1, z .2))
 
 pub rehearse-spec : {M : Type 1} → statement M
 rehearse-spec =

@@ -28,7 +28,8 @@ returns : tie.Need-returns
 unfolding receivedNumbers kindTests modulusTests
 returns c =
     let a = c .before .before .before .before .before .args in
-    also (kindTests (a .a) ++ modulusTests (sort (a .end)) (a .t .q)) _ (c .worst2 .ensures) (c .before .before .before .before .check-moduli .ensures)
+    also (kindTests (a .a) ++ modulusTests (sort (a .end)) (a .t .q)) _ (c .worst2 .ensures)
+    (c .before .before .before .before .check-moduli .ensures)
     (also _ _ (c .before .worst .ensures) (c .before .before .before .check-head .ensures) (c .before .before .check-sizes .ensures))
 
 pub check-numbers-spec : {M : Type 1} → statement M

@@ -41,7 +41,9 @@ worst-requires-3 c κs = search needs
 
 returns : tie.Need-returns
 unfolding receivedWords
-returns c = also _ _ (c .worst3 .ensures) (c .before .before .before .before .before .before .before .check-tape .ensures) (also _ _ (c .before .worst2 .ensures) (c .before .before .before .before .before .before .check-same .ensures) (also (_ ∷ []) _ (c .before .before .worst .ensures) (rw (c .before .before .before .before .before .all-below .ensures) at (c .before .before .before .before .need .ensures)) (c .before .before .before .check-body .ensures)))
+returns c =
+    also _ _ (c .worst3 .ensures) (c .before .before .before .before .before .before .before .check-tape .ensures)
+    (also _ _ (c .before .worst2 .ensures) (c .before .before .before .before .before .before .check-same .ensures) (also (_ ∷ []) _ (c .before .before .worst .ensures) (rw (c .before .before .before .before .before .all-below .ensures) at (c .before .before .before .before .need .ensures)) (c .before .before .before .check-body .ensures)))
 
 pub check-words-spec : {M : Type 1} → statement M
 check-words-spec =

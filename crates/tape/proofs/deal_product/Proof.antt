@@ -8,7 +8,7 @@ use Rattle.checks.specs.InOrder.{checked}
 use Rattle.protocol.specs.Drawing.{residuesOf, wordsRead}
 use Rattle.protocol.specs.Deal.{productRequest}
 use Rattle.tape.proofs.Known.{deal-fits, deal-enough, shape-masks, product-count}
-use Rattle.tape.proofs.Halves.{first-count, second-count, product-first, product-second}
+use Rattle.halves.proofs.Halves.{first-count, second-count, product-first, product-second}
 use Rattle.tape.proofs.Leaving.{deal-refused, deal-done}
 use Rattle.checks.proofs.Written.{part-written}
 use Rattle.checks.proofs.Place.{left-size, right-size}
@@ -36,30 +36,35 @@ same-length-2 c = search needs
 returns : tie.Need-returns
 returns c =
     let a = c .before .before .before .before .before .before .before .before .before .args in
-    rw (c .answer-of .ensures, c .before .enum-told2 .given .1) (deal-refused (a .first .now) (a .second .now) (a .size) (a .index) (productRequest (a .tape) (a .q) (a .m) (a .k) (a .p) (a .words .now)) (sym (c .before .before .before .product .ensures) ∙ ap checked (c .before .enum-told2 .given .1)))
+    rw (c .answer-of .ensures, c .before .enum-told2 .given .1)
+    (deal-refused (a .first .now) (a .second .now) (a .size) (a .index) (productRequest (a .tape) (a .q) (a .m) (a .k) (a .p) (a .words .now)) (sym (c .before .before .before .product .ensures) ∙ ap checked (c .before .enum-told2 .given .1)))
 
 mul-at : tie.Need-mul-at
 mul-at c =
     let a = c .before .before .before .before .before .before .before .before .args in
-    let s = deal-fits (a .first .now) (a .second .now) (a .size) (a .index) (productRequest (a .tape) (a .q) (a .m) (a .k) (a .p) (a .words .now)) (sym (c .before .before .product .ensures) ∙ ap checked (c .enum-told .given .1)) in
+    let s = deal-fits (a .first .now) (a .second .now) (a .size) (a .index) (productRequest (a .tape) (a .q) (a .m) (a .k) (a .p) (a .words .now))
+    (sym (c .before .before .product .ensures) ∙ ap checked (c .enum-told .given .1)) in
     omega (arith, s .left .inside)
 
 mul-product : tie.Need-mul-product
 mul-product c =
     let a = c .before .before .before .before .before .before .before .before .args in
-    let s = deal-fits (a .first .now) (a .second .now) (a .size) (a .index) (productRequest (a .tape) (a .q) (a .m) (a .k) (a .p) (a .words .now)) (sym (c .before .before .product .ensures) ∙ ap checked (c .enum-told .given .1)) in
+    let s = deal-fits (a .first .now) (a .second .now) (a .size) (a .index) (productRequest (a .tape) (a .q) (a .m) (a .k) (a .p) (a .words .now))
+    (sym (c .before .before .product .ensures) ∙ ap checked (c .enum-told .given .1)) in
     search needs
 
 sub-product : tie.Need-sub-product
 sub-product c =
     let a = c .before .before .before .before .before .before .before .before .args in
-    let s = deal-fits (a .first .now) (a .second .now) (a .size) (a .index) (productRequest (a .tape) (a .q) (a .m) (a .k) (a .p) (a .words .now)) (sym (c .before .before .product .ensures) ∙ ap checked (c .enum-told .given .1)) in
+    let s = deal-fits (a .first .now) (a .second .now) (a .size) (a .index) (productRequest (a .tape) (a .q) (a .m) (a .k) (a .p) (a .words .now))
+    (sym (c .before .before .product .ensures) ∙ ap checked (c .enum-told .given .1)) in
     omega (arith, s .left .inside)
 
 part-product-start : tie.Need-part-product-start
 part-product-start c =
     let a = c .before .before .before .before .before .before .before .before .args in
-    let s = deal-fits (a .first .now) (a .second .now) (a .size) (a .index) (productRequest (a .tape) (a .q) (a .m) (a .k) (a .p) (a .words .now)) (sym (c .before .before .product .ensures) ∙ ap checked (c .enum-told .given .1)) in
+    let s = deal-fits (a .first .now) (a .second .now) (a .size) (a .index) (productRequest (a .tape) (a .q) (a .m) (a .k) (a .p) (a .words .now))
+    (sym (c .before .before .product .ensures) ∙ ap checked (c .enum-told .given .1)) in
     search needs
 
 part-product-end : tie.Need-part-product-end
@@ -68,19 +73,22 @@ part-product-end c = search needs
 mul-product-2 : tie.Need-mul-product-2
 mul-product-2 c =
     let a = c .before .before .before .before .before .before .before .before .before .args in
-    let s = deal-fits (a .first .now) (a .second .now) (a .size) (a .index) (productRequest (a .tape) (a .q) (a .m) (a .k) (a .p) (a .words .now)) (sym (c .before .before .before .product .ensures) ∙ ap checked (c .before .enum-told .given .1)) in
+    let s = deal-fits (a .first .now) (a .second .now) (a .size) (a .index) (productRequest (a .tape) (a .q) (a .m) (a .k) (a .p) (a .words .now))
+    (sym (c .before .before .before .product .ensures) ∙ ap checked (c .before .enum-told .given .1)) in
     search needs
 
 sub-product-2 : tie.Need-sub-product-2
 sub-product-2 c =
     let a = c .before .before .before .before .before .before .before .before .before .args in
-    let s = deal-fits (a .first .now) (a .second .now) (a .size) (a .index) (productRequest (a .tape) (a .q) (a .m) (a .k) (a .p) (a .words .now)) (sym (c .before .before .before .product .ensures) ∙ ap checked (c .before .enum-told .given .1)) in
+    let s = deal-fits (a .first .now) (a .second .now) (a .size) (a .index) (productRequest (a .tape) (a .q) (a .m) (a .k) (a .p) (a .words .now))
+    (sym (c .before .before .before .product .ensures) ∙ ap checked (c .before .enum-told .given .1)) in
     omega (arith, s .right .inside)
 
 part-product-start-2 : tie.Need-part-product-start-2
 part-product-start-2 c =
     let a = c .before .before .before .before .before .before .before .before .before .args in
-    let s = deal-fits (a .first .now) (a .second .now) (a .size) (a .index) (productRequest (a .tape) (a .q) (a .m) (a .k) (a .p) (a .words .now)) (sym (c .before .before .before .product .ensures) ∙ ap checked (c .before .enum-told .given .1)) in
+    let s = deal-fits (a .first .now) (a .second .now) (a .size) (a .index) (productRequest (a .tape) (a .q) (a .m) (a .k) (a .p) (a .words .now))
+    (sym (c .before .before .before .product .ensures) ∙ ap checked (c .before .enum-told .given .1)) in
     search needs
 
 part-product-end-2 : tie.Need-part-product-end-2
@@ -90,9 +98,11 @@ product-requires-2 : tie.Need-product-requires-2
 product-requires-2 c κs =
     let a = c .before .before .before .before .before .before .before .before .before .before .args in
     let product = c .before .before .before .before .product in
-    let s = deal-fits (a .first .now) (a .second .now) (a .size) (a .index) (productRequest (a .tape) (a .q) (a .m) (a .k) (a .p) (a .words .now)) (sym (product .ensures) ∙ ap checked (c .before .before .enum-told .given .1)) in
+    let s = deal-fits (a .first .now) (a .second .now) (a .size) (a .index) (productRequest (a .tape) (a .q) (a .m) (a .k) (a .p) (a .words .now))
+    (sym (product .ensures) ∙ ap checked (c .before .before .enum-told .given .1)) in
     let g = shape-masks _ _ _ _ _ (s .shape) in
-    let n = deal-enough (a .first .now) (a .second .now) (a .size) (a .index) (productRequest (a .tape) (a .q) (a .m) (a .k) (a .p) (a .words .now)) (sym (product .ensures) ∙ ap checked (c .before .before .enum-told .given .1)) in
+    let n = deal-enough (a .first .now) (a .second .now) (a .size) (a .index) (productRequest (a .tape) (a .q) (a .m) (a .k) (a .p) (a .words .now))
+    (sym (product .ensures) ∙ ap checked (c .before .before .enum-told .given .1)) in
     let count = product-count (a .tape) (a .q) (a .m) (a .k) (a .p) (a .words .now) in (
       g,
       omega (arith, n, count),
@@ -113,7 +123,14 @@ returns-2 c =
     let s = deal-fits (c .before .before .before .before .before .before .before .before .before .before .before .before .before .before .before .args .first .now) (c .before .before .before .before .before .before .before .before .before .before .before .before .before .before .before .args .second .now) (c .before .before .before .before .before .before .before .before .before .before .before .before .before .before .before .args .size) (c .before .before .before .before .before .before .before .before .before .before .before .before .before .before .before .args .index) (productRequest (c .before .before .before .before .before .before .before .before .before .before .before .before .before .before .before .args .tape) (c .before .before .before .before .before .before .before .before .before .before .before .before .before .before .before .args .q) (c .before .before .before .before .before .before .before .before .before .before .before .before .before .before .before .args .m) (c .before .before .before .before .before .before .before .before .before .before .before .before .before .before .before .args .k) (c .before .before .before .before .before .before .before .before .before .before .before .before .before .before .before .args .p) (c .before .before .before .before .before .before .before .before .before .before .before .before .before .before .before .args .words .now)) (sym (product .ensures) ∙ ap checked (enum-told .given .1)) in
     let g = shape-masks _ _ _ _ _ (s .shape) in
     let n = deal-enough (c .before .before .before .before .before .before .before .before .before .before .before .before .before .before .before .args .first .now) (c .before .before .before .before .before .before .before .before .before .before .before .before .before .before .before .args .second .now) (c .before .before .before .before .before .before .before .before .before .before .before .before .before .before .before .args .size) (c .before .before .before .before .before .before .before .before .before .before .before .before .before .before .before .args .index) (productRequest (c .before .before .before .before .before .before .before .before .before .before .before .before .before .before .before .args .tape) (c .before .before .before .before .before .before .before .before .before .before .before .before .before .before .before .args .q) (c .before .before .before .before .before .before .before .before .before .before .before .before .before .before .before .args .m) (c .before .before .before .before .before .before .before .before .before .before .before .before .before .before .before .args .k) (c .before .before .before .before .before .before .before .before .before .before .before .before .before .before .before .args .p) (c .before .before .before .before .before .before .before .before .before .before .before .before .before .before .before .args .words .now)) (sym (product .ensures) ∙ ap checked (enum-told .given .1)) in
-    let count = product-count (c .before .before .before .before .before .before .before .before .before .before .before .before .before .before .before .args .tape) (c .before .before .before .before .before .before .before .before .before .before .before .before .before .before .before .args .q) (c .before .before .before .before .before .before .before .before .before .before .before .before .before .before .before .args .m) (c .before .before .before .before .before .before .before .before .before .before .before .before .before .before .before .args .k) (c .before .before .before .before .before .before .before .before .before .before .before .before .before .before .before .args .p) (c .before .before .before .before .before .before .before .before .before .before .before .before .before .before .before .args .words .now) in
+    let count = product-count
+    (c .before .before .before .before .before .before .before .before .before .before .before .before .before .before .before .args .tape)
+    (c .before .before .before .before .before .before .before .before .before .before .before .before .before .before .before .args .q)
+    (c .before .before .before .before .before .before .before .before .before .before .before .before .before .before .before .args .m)
+    (c .before .before .before .before .before .before .before .before .before .before .before .before .before .before .before .args .k)
+    (c .before .before .before .before .before .before .before .before .before .before .before .before .before .before .before .args .p)
+    (c .before .before .before .before .before .before .before .before .before .before .before .before .before .before .before .args .words .now)
+    in
     let a = c .before .before .before .before .before .before .before .before .before .before .before .before .before .before .before .args in
     let enough : a .m * a .k + (a .k * a .p + a .m * a .p) ≤ length (residuesOf (a .q) (a .words .now)) = omega (arith, n, count) in
     let e = c .before .before .before .before .product2 .ensures in

@@ -8,7 +8,7 @@ use Rattle.checks.specs.InOrder.{checked}
 use Rattle.protocol.specs.Drawing.{residuesOf, wordsRead}
 use Rattle.protocol.specs.Deal.{systemRequest}
 use Rattle.tape.proofs.Known.{deal-fits, deal-enough, shape-mask, system-count, blinder-count, solver-count}
-use Rattle.tape.proofs.Systems.{blinder-words, solver-words}
+use Rattle.halves.proofs.Systems.{blinder-words, solver-words}
 use Rattle.tape.proofs.Leaving.{deal-refused, deal-done}
 use Rattle.checks.proofs.Written.{part-written}
 use Rattle.tape.proofs.deal_system.Statement.{statement}
@@ -35,30 +35,35 @@ same-length-2 c = search needs
 returns : tie.Need-returns
 returns c =
     let a = c .before .before .before .before .before .before .before .before .before .args in
-    rw (c .answer-of .ensures, c .before .enum-told2 .given .1) (deal-refused (a .first .now) (a .second .now) (a .size) (a .index) (systemRequest (a .tape) (a .q) (a .n) (a .words .now)) (sym (c .before .before .before .system .ensures) ∙ ap checked (c .before .enum-told2 .given .1)))
+    rw (c .answer-of .ensures, c .before .enum-told2 .given .1)
+    (deal-refused (a .first .now) (a .second .now) (a .size) (a .index) (systemRequest (a .tape) (a .q) (a .n) (a .words .now)) (sym (c .before .before .before .system .ensures) ∙ ap checked (c .before .enum-told2 .given .1)))
 
 mul-at : tie.Need-mul-at
 mul-at c =
     let a = c .before .before .before .before .before .before .before .before .args in
-    let s = deal-fits (a .first .now) (a .second .now) (a .size) (a .index) (systemRequest (a .tape) (a .q) (a .n) (a .words .now)) (sym (c .before .before .system .ensures) ∙ ap checked (c .enum-told .given .1)) in
+    let s = deal-fits (a .first .now) (a .second .now) (a .size) (a .index) (systemRequest (a .tape) (a .q) (a .n) (a .words .now))
+    (sym (c .before .before .system .ensures) ∙ ap checked (c .enum-told .given .1)) in
     omega (arith, s .left .inside)
 
 mul-system : tie.Need-mul-system
 mul-system c =
     let a = c .before .before .before .before .before .before .before .before .args in
-    let s = deal-fits (a .first .now) (a .second .now) (a .size) (a .index) (systemRequest (a .tape) (a .q) (a .n) (a .words .now)) (sym (c .before .before .system .ensures) ∙ ap checked (c .enum-told .given .1)) in
+    let s = deal-fits (a .first .now) (a .second .now) (a .size) (a .index) (systemRequest (a .tape) (a .q) (a .n) (a .words .now))
+    (sym (c .before .before .system .ensures) ∙ ap checked (c .enum-told .given .1)) in
     search needs
 
 sub-system : tie.Need-sub-system
 sub-system c =
     let a = c .before .before .before .before .before .before .before .before .args in
-    let s = deal-fits (a .first .now) (a .second .now) (a .size) (a .index) (systemRequest (a .tape) (a .q) (a .n) (a .words .now)) (sym (c .before .before .system .ensures) ∙ ap checked (c .enum-told .given .1)) in
+    let s = deal-fits (a .first .now) (a .second .now) (a .size) (a .index) (systemRequest (a .tape) (a .q) (a .n) (a .words .now))
+    (sym (c .before .before .system .ensures) ∙ ap checked (c .enum-told .given .1)) in
     omega (arith, s .left .inside)
 
 part-system-start : tie.Need-part-system-start
 part-system-start c =
     let a = c .before .before .before .before .before .before .before .before .args in
-    let s = deal-fits (a .first .now) (a .second .now) (a .size) (a .index) (systemRequest (a .tape) (a .q) (a .n) (a .words .now)) (sym (c .before .before .system .ensures) ∙ ap checked (c .enum-told .given .1)) in
+    let s = deal-fits (a .first .now) (a .second .now) (a .size) (a .index) (systemRequest (a .tape) (a .q) (a .n) (a .words .now))
+    (sym (c .before .before .system .ensures) ∙ ap checked (c .enum-told .given .1)) in
     search needs
 
 part-system-end : tie.Need-part-system-end
@@ -67,19 +72,22 @@ part-system-end c = search needs
 mul-system-2 : tie.Need-mul-system-2
 mul-system-2 c =
     let a = c .before .before .before .before .before .before .before .before .before .args in
-    let s = deal-fits (a .first .now) (a .second .now) (a .size) (a .index) (systemRequest (a .tape) (a .q) (a .n) (a .words .now)) (sym (c .before .before .before .system .ensures) ∙ ap checked (c .before .enum-told .given .1)) in
+    let s = deal-fits (a .first .now) (a .second .now) (a .size) (a .index) (systemRequest (a .tape) (a .q) (a .n) (a .words .now))
+    (sym (c .before .before .before .system .ensures) ∙ ap checked (c .before .enum-told .given .1)) in
     search needs
 
 sub-system-2 : tie.Need-sub-system-2
 sub-system-2 c =
     let a = c .before .before .before .before .before .before .before .before .before .args in
-    let s = deal-fits (a .first .now) (a .second .now) (a .size) (a .index) (systemRequest (a .tape) (a .q) (a .n) (a .words .now)) (sym (c .before .before .before .system .ensures) ∙ ap checked (c .before .enum-told .given .1)) in
+    let s = deal-fits (a .first .now) (a .second .now) (a .size) (a .index) (systemRequest (a .tape) (a .q) (a .n) (a .words .now))
+    (sym (c .before .before .before .system .ensures) ∙ ap checked (c .before .enum-told .given .1)) in
     omega (arith, s .right .inside)
 
 part-system-start-2 : tie.Need-part-system-start-2
 part-system-start-2 c =
     let a = c .before .before .before .before .before .before .before .before .before .args in
-    let s = deal-fits (a .first .now) (a .second .now) (a .size) (a .index) (systemRequest (a .tape) (a .q) (a .n) (a .words .now)) (sym (c .before .before .before .system .ensures) ∙ ap checked (c .before .enum-told .given .1)) in
+    let s = deal-fits (a .first .now) (a .second .now) (a .size) (a .index) (systemRequest (a .tape) (a .q) (a .n) (a .words .now))
+    (sym (c .before .before .before .system .ensures) ∙ ap checked (c .before .enum-told .given .1)) in
     search needs
 
 part-system-end-2 : tie.Need-part-system-end-2
@@ -89,9 +97,11 @@ system-requires-2 : tie.Need-system-requires-2
 system-requires-2 c κs =
     let a = c .before .before .before .before .before .before .before .before .before .before .args in
     let system = c .before .before .before .before .system in
-    let s = deal-fits (a .first .now) (a .second .now) (a .size) (a .index) (systemRequest (a .tape) (a .q) (a .n) (a .words .now)) (sym (system .ensures) ∙ ap checked (c .before .before .enum-told .given .1)) in
+    let s = deal-fits (a .first .now) (a .second .now) (a .size) (a .index) (systemRequest (a .tape) (a .q) (a .n) (a .words .now))
+    (sym (system .ensures) ∙ ap checked (c .before .before .enum-told .given .1)) in
     let g = shape-mask _ _ _ (s .shape) in
-    let n = deal-enough (a .first .now) (a .second .now) (a .size) (a .index) (systemRequest (a .tape) (a .q) (a .n) (a .words .now)) (sym (system .ensures) ∙ ap checked (c .before .before .enum-told .given .1)) in
+    let n = deal-enough (a .first .now) (a .second .now) (a .size) (a .index) (systemRequest (a .tape) (a .q) (a .n) (a .words .now))
+    (sym (system .ensures) ∙ ap checked (c .before .before .enum-told .given .1)) in
     let count = system-count (a .tape) (a .q) (a .n) (a .words .now) in (
       g,
       omega (arith, n, count),
@@ -110,13 +120,17 @@ returns-2 c =
     let a = c .before .before .before .before .before .before .before .before .before .before .before .before .before .before .before .args in
     let enum-told = c .before .before .before .before .before .before .before .enum-told in
     let system = c .before .before .before .before .before .before .before .before .before .system in
-    let s = deal-fits (a .first .now) (a .second .now) (a .size) (a .index) (systemRequest (a .tape) (a .q) (a .n) (a .words .now)) (sym (system .ensures) ∙ ap checked (enum-told .given .1)) in
+    let s = deal-fits (a .first .now) (a .second .now) (a .size) (a .index) (systemRequest (a .tape) (a .q) (a .n) (a .words .now))
+    (sym (system .ensures) ∙ ap checked (enum-told .given .1)) in
     let g = shape-mask _ _ _ (s .shape) in
-    let n = deal-enough (a .first .now) (a .second .now) (a .size) (a .index) (systemRequest (a .tape) (a .q) (a .n) (a .words .now)) (sym (system .ensures) ∙ ap checked (enum-told .given .1)) in
+    let n = deal-enough (a .first .now) (a .second .now) (a .size) (a .index) (systemRequest (a .tape) (a .q) (a .n) (a .words .now))
+    (sym (system .ensures) ∙ ap checked (enum-told .given .1)) in
     let count = system-count (a .tape) (a .q) (a .n) (a .words .now) in
-    let enough : (a .n * a .n + (a .n * (a .n + 1) + a .n * (a .n + 1))) + (a .n * a .n + (a .n * a .n + a .n * a .n)) ≤ length (residuesOf (a .q) (a .words .now)) = omega (arith, n, count) in
+    let enough : (a .n * a .n + (a .n * (a .n + 1) + a .n * (a .n + 1))) + (a .n * a .n + (a .n * a .n + a .n * a .n)) ≤ length
+    (residuesOf (a .q) (a .words .now)) = omega (arith, n, count) in
     let e = c .before .before .before .before .system2 .ensures in
-    deal-done (a .first .now) (a .second .now) (a .size) (a .index) (systemRequest (a .tape) (a .q) (a .n) (a .words .now)) (sym (system .ensures) ∙ ap checked (enum-told .given .1)) (s .left .inside) (s .right .inside)
+    deal-done (a .first .now) (a .second .now) (a .size) (a .index) (systemRequest (a .tape) (a .q) (a .n) (a .words .now))
+    (sym (system .ensures) ∙ ap checked (enum-told .given .1)) (s .left .inside) (s .right .inside)
     (omega (arith, s .left .room, blinder-count (a .n), blinder-words (a .tape) (a .q) (a .n) (a .words .now) enough))
     (omega (arith, s .right .room, solver-count (a .n), solver-words (a .tape) (a .q) (a .n) (a .words .now) enough))
     (e .0 ∙ ap (λ (i : ℕ). wordsRead (a .q) i (a .words .now)) count)

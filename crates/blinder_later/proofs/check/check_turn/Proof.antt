@@ -35,7 +35,9 @@ worst-requires-3 c κs = search needs
 
 returns : tie.Need-returns
 unfolding laterTurn
-returns c = also (_ ∷ []) _ (c .worst3 .ensures) (rw (c .before .before .before .before .before .before .before .before .scratch-size .ensures) at (c .before .before .before .before .before .before .before .need .ensures)) (also (_ ∷ []) _ (c .before .worst2 .ensures) (rw (c .before .before .before .before .before .before .written-size .ensures) at (c .before .before .before .before .before .need2 .ensures)) (also (_ ∷ []) _ (c .before .before .worst .ensures) (c .before .before .before .before .need3 .ensures) (c .before .before .before .need4 .ensures)))
+returns c =
+    also (_ ∷ []) _ (c .worst3 .ensures)
+    (rw (c .before .before .before .before .before .before .before .before .scratch-size .ensures) at (c .before .before .before .before .before .before .before .need .ensures)) (also (_ ∷ []) _ (c .before .worst2 .ensures) (rw (c .before .before .before .before .before .before .written-size .ensures) at (c .before .before .before .before .before .need2 .ensures)) (also (_ ∷ []) _ (c .before .before .worst .ensures) (c .before .before .before .before .need3 .ensures) (c .before .before .before .need4 .ensures)))
 
 pub check-turn-spec : {M : Type 1} → statement M
 check-turn-spec =

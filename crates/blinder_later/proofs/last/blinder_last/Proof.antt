@@ -41,25 +41,29 @@ unfolding blinderLast
 returns c =
     let a = c .before .before .before .before .before .before .before .before .before .before .before .before .args in
     let s = slotAt (a .pool .now) (a .size) (a .index) in
-    rw (c .answer-of .ensures, c .before .enum-told2 .given .1, c .before .before .before .no-head .ensures) (sym (refused-leaves (a .s) s (a .scratch .now) [] (a .out .now) _ (blinderLastEffect (a .s) s (a .scratch .now) (record { head = a .a; residues = a .residues .now })) (sym ((c .before .before .before .before .check .ensures ∙ ap judged (last-tests (a .s) s (a .scratch .now) (record { head = a .a; residues = a .residues .now }) (length (a .out .now))))) ∙ ap checked (c .before .enum-told2 .given .1))))
+    rw (c .answer-of .ensures, c .before .enum-told2 .given .1, c .before .before .before .no-head .ensures)
+    (sym (refused-leaves (a .s) s (a .scratch .now) [] (a .out .now) _ (blinderLastEffect (a .s) s (a .scratch .now) (record { head = a .a; residues = a .residues .now })) (sym ((c .before .before .before .before .check .ensures ∙ ap judged (last-tests (a .s) s (a .scratch .now) (record { head = a .a; residues = a .residues .now }) (length (a .out .now))))) ∙ ap checked (c .before .enum-told2 .given .1))))
 
 mul-at : tie.Need-mul-at
 mul-at c =
     let a = c .before .before .before .before .before .before .before .before .before .before .before .args in
     let s = slotAt (a .pool .now) (a .size) (a .index) in
-    let i = slot-room s (last-known (a .s) s (a .scratch .now) (record { head = a .a; residues = a .residues .now }) (length (a .out .now)) (sym ((c .before .before .before .check .ensures ∙ ap judged (last-tests (a .s) s (a .scratch .now) (record { head = a .a; residues = a .residues .now }) (length (a .out .now))))) ∙ ap checked (c .enum-told .given .1)) .later .session-open .half .inside) in search needs
+    let i = slot-room s (last-known (a .s) s (a .scratch .now) (record { head = a .a; residues = a .residues .now }) (length (a .out .now)) (sym ((c .before .before .before .check .ensures ∙ ap judged (last-tests (a .s) s (a .scratch .now) (record { head = a .a; residues = a .residues .now }) (length (a .out .now))))) ∙ ap checked (c .enum-told .given .1)) .later .session-open .half .inside) in
+    search needs
 
 add-end : tie.Need-add-end
 add-end c =
     let a = c .before .before .before .before .before .before .before .before .before .before .before .args in
     let s = slotAt (a .pool .now) (a .size) (a .index) in
-    let i = slot-room s (last-known (a .s) s (a .scratch .now) (record { head = a .a; residues = a .residues .now }) (length (a .out .now)) (sym ((c .before .before .before .check .ensures ∙ ap judged (last-tests (a .s) s (a .scratch .now) (record { head = a .a; residues = a .residues .now }) (length (a .out .now))))) ∙ ap checked (c .enum-told .given .1)) .later .session-open .half .inside) in search needs
+    let i = slot-room s (last-known (a .s) s (a .scratch .now) (record { head = a .a; residues = a .residues .now }) (length (a .out .now)) (sym ((c .before .before .before .check .ensures ∙ ap judged (last-tests (a .s) s (a .scratch .now) (record { head = a .a; residues = a .residues .now }) (length (a .out .now))))) ∙ ap checked (c .enum-told .given .1)) .later .session-open .half .inside) in
+    search needs
 
 mul-write : tie.Need-mul-write
 mul-write c =
     let a = c .before .before .before .before .before .before .before .before .before .before .before .args in
     let s = slotAt (a .pool .now) (a .size) (a .index) in
-    let i = slot-room s (last-known (a .s) s (a .scratch .now) (record { head = a .a; residues = a .residues .now }) (length (a .out .now)) (sym ((c .before .before .before .check .ensures ∙ ap judged (last-tests (a .s) s (a .scratch .now) (record { head = a .a; residues = a .residues .now }) (length (a .out .now))))) ∙ ap checked (c .enum-told .given .1)) .later .session-open .half .inside) in search needs
+    let i = slot-room s (last-known (a .s) s (a .scratch .now) (record { head = a .a; residues = a .residues .now }) (length (a .out .now)) (sym ((c .before .before .before .check .ensures ∙ ap judged (last-tests (a .s) s (a .scratch .now) (record { head = a .a; residues = a .residues .now }) (length (a .out .now))))) ∙ ap checked (c .enum-told .given .1)) .later .session-open .half .inside) in
+    search needs
 
 sub-write : tie.Need-sub-write
 sub-write c = search needs
@@ -71,15 +75,18 @@ part-write-end : tie.Need-part-write-end
 part-write-end c =
     let a = c .before .before .before .before .before .before .before .before .before .before .before .args in
     let s = slotAt (a .pool .now) (a .size) (a .index) in
-    let i = slot-room s (last-known (a .s) s (a .scratch .now) (record { head = a .a; residues = a .residues .now }) (length (a .out .now)) (sym ((c .before .before .before .check .ensures ∙ ap judged (last-tests (a .s) s (a .scratch .now) (record { head = a .a; residues = a .residues .now }) (length (a .out .now))))) ∙ ap checked (c .enum-told .given .1)) .later .session-open .half .inside) in search needs
+    let i = slot-room s (last-known (a .s) s (a .scratch .now) (record { head = a .a; residues = a .residues .now }) (length (a .out .now)) (sym ((c .before .before .before .check .ensures ∙ ap judged (last-tests (a .s) s (a .scratch .now) (record { head = a .a; residues = a .residues .now }) (length (a .out .now))))) ∙ ap checked (c .enum-told .given .1)) .later .session-open .half .inside) in
+    search needs
 
 write-requires : tie.Need-write-requires
 write-requires c κs =
     let a = c .before .before .before .before .before .before .before .before .before .before .before .before .before .before .args in
     let s = slotAt (a .pool .now) (a .size) (a .index) in
-    let f = last-known (a .s) s (a .scratch .now) (record { head = a .a; residues = a .residues .now }) (length (a .out .now)) (sym ((c .before .before .before .before .before .before .check .ensures ∙ ap judged (last-tests (a .s) s (a .scratch .now) (record { head = a .a; residues = a .residues .now }) (length (a .out .now))))) ∙ ap checked (c .before .before .before .enum-told .given .1)) in
+    let f = last-known (a .s) s (a .scratch .now) (record { head = a .a; residues = a .residues .now }) (length (a .out .now))
+    (sym ((c .before .before .before .before .before .before .check .ensures ∙ ap judged (last-tests (a .s) s (a .scratch .now) (record { head = a .a; residues = a .residues .now }) (length (a .out .now))))) ∙ ap checked (c .before .before .before .enum-told .given .1)) in
     let i = slot-room s (f .later .session-open .half .inside) in
-    last-shape (a .s) s (a .scratch .now) (record { head = a .a; residues = a .residues .now }) (length (a .out .now)) _ (slot-part-length (a .pool .now) (a .size) (a .index) i) f
+    last-shape (a .s) s (a .scratch .now) (record { head = a .a; residues = a .residues .now }) (length (a .out .now)) _
+    (slot-part-length (a .pool .now) (a .size) (a .index) i) f
 
 closed-requires : tie.Need-closed-requires
 closed-requires c κs = search needs
@@ -100,9 +107,11 @@ returns-2 c =
     let enum-told = c .before .before .before .before .before .before .before .before .before .before .before .enum-told in
     let write = c .before .before .before .before .before .before .before .write in
     let s = slotAt (a .pool .now) (a .size) (a .index) in
-    let f = last-known (a .s) s (a .scratch .now) (record { head = a .a; residues = a .residues .now }) (length (a .out .now)) (sym ((check .ensures ∙ ap judged (last-tests (a .s) s (a .scratch .now) (record { head = a .a; residues = a .residues .now }) (length (a .out .now))))) ∙ ap checked (enum-told .given .1)) in
+    let f = last-known (a .s) s (a .scratch .now) (record { head = a .a; residues = a .residues .now }) (length (a .out .now))
+    (sym ((check .ensures ∙ ap judged (last-tests (a .s) s (a .scratch .now) (record { head = a .a; residues = a .residues .now }) (length (a .out .now))))) ∙ ap checked (enum-told .given .1)) in
     let i = slot-room s (f .later .session-open .half .inside) in
-    last-done (a .s) s (a .scratch .now) (record { head = a .a; residues = a .residues .now }) (a .out .now) (sym ((check .ensures ∙ ap judged (last-tests (a .s) s (a .scratch .now) (record { head = a .a; residues = a .residues .now }) (length (a .out .now))))) ∙ ap checked (enum-told .given .1)) (f .later .session-open .terms .sides) (last-shape (a .s) s (a .scratch .now) (record { head = a .a; residues = a .residues .now }) (length (a .out .now)) _ (slot-part-length (a .pool .now) (a .size) (a .index) i) f .full)
+    last-done (a .s) s (a .scratch .now) (record { head = a .a; residues = a .residues .now }) (a .out .now)
+    (sym ((check .ensures ∙ ap judged (last-tests (a .s) s (a .scratch .now) (record { head = a .a; residues = a .residues .now }) (length (a .out .now))))) ∙ ap checked (enum-told .given .1)) (f .later .session-open .terms .sides) (last-shape (a .s) s (a .scratch .now) (record { head = a .a; residues = a .residues .now }) (length (a .out .now)) _ (slot-part-length (a .pool .now) (a .size) (a .index) i) f .full)
     (c .closed .ensures)
     (c .before .before .before .before .before .before .before .before .before .before .before .before .before .no-head .ensures)
     (slot-written (a .pool .now) _ (a .size) (a .index) (wordsSpent blinder (a .s .terms)) i (λ ws e. spent-keeps blinder (a .s .terms) ws (omega (arith, f .later .session-open .half .room, e)) ∙ e) (write .ensures .0))

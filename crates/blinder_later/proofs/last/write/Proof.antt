@@ -15,7 +15,8 @@ cast-n : tie.Need-cast-n
 cast-n c = search needs
 
 sub-rhs : tie.Need-sub-rhs
-sub-rhs c = omega (arith, wide-enough (c .before .before .before .before .before .before .args .t) (c .before .before .before .before .before .before .pre .sides))
+sub-rhs c =
+    omega (arith, wide-enough (c .before .before .before .before .before .before .args .t) (c .before .before .before .before .before .before .pre .sides))
 
 cast-rhs : tie.Need-cast-rhs
 cast-rhs c = search needs
@@ -48,7 +49,11 @@ mul-write-product : tie.Need-mul-write-product
 mul-write-product c =
     let a = c .before .before .before .before .before .before .before .before .args in
     let h = c .before .before .before .before .before .before .before .before .pre in
-    let u = unknowns (a .t .m) (a .t .k) (a .t .p) (h .sides) in let same : a .t .m * a .t .k ≡ a .t .m * a .t .m = ap (λ (k : ℕ). a .t .m * k) (u .square) in let b : 7 + (c .before .times .result + c .times2 .result) + c .before .times .result ≤ length (a .slot .now) = omega (arith, c .before .times .ensures, c .times2 .ensures, half-is (a .t), same, h .half) in search needs
+    let u = unknowns (a .t .m) (a .t .k) (a .t .p) (h .sides) in
+    let same : a .t .m * a .t .k ≡ a .t .m * a .t .m = ap (λ (k : ℕ). a .t .m * k) (u .square) in
+    let b : 7 + (c .before .times .result + c .times2 .result) + c .before .times .result ≤ length
+    (a .slot .now) = omega (arith, c .before .times .ensures, c .times2 .ensures, half-is (a .t), same, h .half) in
+    search needs
 
 sub-write-product : tie.Need-sub-write-product
 sub-write-product c = search needs
@@ -60,14 +65,21 @@ part-write-product-end : tie.Need-part-write-product-end
 part-write-product-end c =
     let a = c .before .before .before .before .before .before .before .before .before .args in
     let h = c .before .before .before .before .before .before .before .before .before .pre in
-    let u = unknowns (a .t .m) (a .t .k) (a .t .p) (h .sides) in let same : a .t .m * a .t .k ≡ a .t .m * a .t .m = ap (λ (k : ℕ). a .t .m * k) (u .square) in let b : 7 + (c .before .before .times .result + c .before .times2 .result) + c .before .before .times .result ≤ length (a .slot .now) = omega (arith, c .before .before .times .ensures, c .before .times2 .ensures, half-is (a .t), same, h .half) in search needs
+    let u = unknowns (a .t .m) (a .t .k) (a .t .p) (h .sides) in
+    let same : a .t .m * a .t .k ≡ a .t .m * a .t .m = ap (λ (k : ℕ). a .t .m * k) (u .square) in
+    let b : 7 + (c .before .before .times .result + c .before .times2 .result) + c .before .before .times .result ≤ length
+    (a .slot .now) = omega (arith, c .before .before .times .ensures, c .before .times2 .ensures, half-is (a .t), same, h .half) in
+    search needs
 
 write-product-requires : tie.Need-write-product-requires
 write-product-requires c κs =
     let a = c .before .before .before .before .before .before .before .before .before .before .before .args in
     let h = c .before .before .before .before .before .before .before .before .before .before .before .pre in
     let times = c .before .before .before .before .times in
-    let u = unknowns (a .t .m) (a .t .k) (a .t .p) (h .sides) in let same : a .t .m * a .t .k ≡ a .t .m * a .t .m = ap (λ (k : ℕ). a .t .m * k) (u .square) in let b : 7 + (times .result + c .before .before .before .times2 .result) + times .result ≤ length (a .slot .now) = omega (arith, times .ensures, c .before .before .before .times2 .ensures, half-is (a .t), same, h .half) in
+    let u = unknowns (a .t .m) (a .t .k) (a .t .p) (h .sides) in
+    let same : a .t .m * a .t .k ≡ a .t .m * a .t .m = ap (λ (k : ℕ). a .t .m * k) (u .square) in
+    let b : 7 + (times .result + c .before .before .before .times2 .result) + times .result ≤ length
+    (a .slot .now) = omega (arith, times .ensures, c .before .before .before .times2 .ensures, half-is (a .t), same, h .half) in
     record {
       some-q = h .some-q;
       small-q = h .small-q;
@@ -100,7 +112,8 @@ same-length-3 c = search needs
 returns : tie.Need-returns
 returns c =
     let a = c .before .before .before .before .before .before .before .before .before .before .before .before .before .before .before .before .before .before .before .before .before .before .before .args in
-    let cut : 7 + ((a .t .m * a .t .m) + (a .t .m * a .t .p)) + (a .t .m * a .t .m) - (7 + ((a .t .m * a .t .m) + (a .t .m * a .t .p))) ≡ (a .t .m * a .t .m) = omega arith in
+    let cut : 7 + ((a .t .m * a .t .m) + (a .t .m * a .t .p)) + (a .t .m * a .t .m) -
+    (7 + ((a .t .m * a .t .m) + (a .t .m * a .t .p))) ≡ (a .t .m * a .t .m) = omega arith in
     (c .before .before .before .before .before .before .before .spend .ensures, (rw (c .before .before .before .before .scratch-size .ensures) at (c .before .before .write-zeros .ensures), rw (c .before .before .before .before .before .before .before .before .before .before .before .before .before .before .before .before .times .ensures, c .before .before .before .before .before .before .before .before .before .before .before .before .before .before .before .times2 .ensures, cut) at (c .before .before .before .before .before .before .before .before .before .before .before .write-product .ensures)))
 
 pub write-spec : {M : Type 1} → statement M

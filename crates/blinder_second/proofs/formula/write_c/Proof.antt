@@ -40,7 +40,8 @@ array-share-prefix-last c = search needs
 slice-aggregate-write-sum : tie.Need-slice-aggregate-write-sum
 slice-aggregate-write-sum c =
     let a = c .before .before .before .before .before .before .before .before .before .before .before .args in
-    start-length (a .n * a .rhs) _ _ _ (cols-length (a .n) (a .n + a .rhs) (a .n) (a .rhs) (a .u0 .now)) (c .before .before .before .before .before .write-cols .ensures)
+    start-length (a .n * a .rhs) _ _ _ (cols-length (a .n) (a .n + a .rhs) (a .n) (a .rhs) (a .u0 .now))
+    (c .before .before .before .before .before .write-cols .ensures)
 
 array-share-prefix-product : tie.Need-array-share-prefix-product
 array-share-prefix-product c = search needs
@@ -48,7 +49,8 @@ array-share-prefix-product c = search needs
 slice-aggregate-write-sum-2 : tie.Need-slice-aggregate-write-sum-2
 slice-aggregate-write-sum-2 c =
     let a = c .before .before .before .before .before .before .before .before .before .before .before .before .args in
-    start-length (a .n * a .rhs) _ _ _ (mul-residues (c .before .before .before .before .before .before .before .before .before .before .before .before .pre .0 .some-q) (a .n) (a .n) (a .rhs) (a .pm .now) (a .y .now) .size) (c .before .before .before .write-product .ensures)
+    start-length (a .n * a .rhs) _ _ _
+    (mul-residues (c .before .before .before .before .before .before .before .before .before .before .before .before .pre .0 .some-q) (a .n) (a .n) (a .rhs) (a .pm .now) (a .y .now) .size) (c .before .before .before .write-product .ensures)
 
 write-sum-requires : tie.Need-write-sum-requires
 write-sum-requires c κs =

@@ -25,7 +25,8 @@ array-share-prefix-inner c = search needs
 slice-aggregate-write-deal : tie.Need-slice-aggregate-write-deal
 slice-aggregate-write-deal c =
     let a = c .before .before .before .before .before .before .before .before .before .before .before .args in
-    start-length (a .n * a .n) _ _ _ (inner-length (c .before .before .before .before .before .before .before .before .before .before .before .pre .0 .some-q) (a .n) (a .rhs) (a .u0 .now) (a .f .now) (a .pm .now) (a .mm .now)) (c .before .before .write-inner .ensures)
+    start-length (a .n * a .n) _ _ _
+    (inner-length (c .before .before .before .before .before .before .before .before .before .before .before .pre .0 .some-q) (a .n) (a .rhs) (a .u0 .now) (a .f .now) (a .pm .now) (a .mm .now)) (c .before .before .write-inner .ensures)
 
 write-deal-requires : tie.Need-write-deal-requires
 write-deal-requires c κs =

@@ -37,25 +37,29 @@ unfolding blinderSecond
 returns c =
     let a = c .before .before .before .before .before .before .before .before .before .before .before .before .args in
     let s = slotAt (a .pool .now) (a .size) (a .index) in
-    rw (c .before .answer-of .ensures, c .before .before .enum-told2 .given .1, c .no-head .ensures) (sym (refused-leaves (a .s) s (a .scratch .now) (a .out .now) [] _ (blinderSecondEffect (a .s) s (a .scratch .now) (record { head = a .a; residues = a .residues .now })) (sym (c .before .before .before .before .check .ensures ∙ ap judged (second-tests (a .s) s (a .scratch .now) (record { head = a .a; residues = a .residues .now }) (length (a .out .now)))) ∙ ap checked (c .before .before .enum-told2 .given .1))))
+    rw (c .before .answer-of .ensures, c .before .before .enum-told2 .given .1, c .no-head .ensures)
+    (sym (refused-leaves (a .s) s (a .scratch .now) (a .out .now) [] _ (blinderSecondEffect (a .s) s (a .scratch .now) (record { head = a .a; residues = a .residues .now })) (sym (c .before .before .before .before .check .ensures ∙ ap judged (second-tests (a .s) s (a .scratch .now) (record { head = a .a; residues = a .residues .now }) (length (a .out .now)))) ∙ ap checked (c .before .before .enum-told2 .given .1))))
 
 mul-at : tie.Need-mul-at
 mul-at c =
     let a = c .before .before .before .before .before .before .before .before .before .before .args in
     let s = slotAt (a .pool .now) (a .size) (a .index) in
-    let i = slot-room s (second-known (a .s) s (a .scratch .now) (record { head = a .a; residues = a .residues .now }) (length (a .out .now)) (sym (c .before .before .check .ensures ∙ ap judged (second-tests (a .s) s (a .scratch .now) (record { head = a .a; residues = a .residues .now }) (length (a .out .now)))) ∙ ap checked (c .enum-told .given .1)) .later .session-open .half .inside) in search needs
+    let i = slot-room s (second-known (a .s) s (a .scratch .now) (record { head = a .a; residues = a .residues .now }) (length (a .out .now)) (sym (c .before .before .check .ensures ∙ ap judged (second-tests (a .s) s (a .scratch .now) (record { head = a .a; residues = a .residues .now }) (length (a .out .now)))) ∙ ap checked (c .enum-told .given .1)) .later .session-open .half .inside) in
+    search needs
 
 add-end : tie.Need-add-end
 add-end c =
     let a = c .before .before .before .before .before .before .before .before .before .before .args in
     let s = slotAt (a .pool .now) (a .size) (a .index) in
-    let i = slot-room s (second-known (a .s) s (a .scratch .now) (record { head = a .a; residues = a .residues .now }) (length (a .out .now)) (sym (c .before .before .check .ensures ∙ ap judged (second-tests (a .s) s (a .scratch .now) (record { head = a .a; residues = a .residues .now }) (length (a .out .now)))) ∙ ap checked (c .enum-told .given .1)) .later .session-open .half .inside) in search needs
+    let i = slot-room s (second-known (a .s) s (a .scratch .now) (record { head = a .a; residues = a .residues .now }) (length (a .out .now)) (sym (c .before .before .check .ensures ∙ ap judged (second-tests (a .s) s (a .scratch .now) (record { head = a .a; residues = a .residues .now }) (length (a .out .now)))) ∙ ap checked (c .enum-told .given .1)) .later .session-open .half .inside) in
+    search needs
 
 mul-write : tie.Need-mul-write
 mul-write c =
     let a = c .before .before .before .before .before .before .before .before .before .before .args in
     let s = slotAt (a .pool .now) (a .size) (a .index) in
-    let i = slot-room s (second-known (a .s) s (a .scratch .now) (record { head = a .a; residues = a .residues .now }) (length (a .out .now)) (sym (c .before .before .check .ensures ∙ ap judged (second-tests (a .s) s (a .scratch .now) (record { head = a .a; residues = a .residues .now }) (length (a .out .now)))) ∙ ap checked (c .enum-told .given .1)) .later .session-open .half .inside) in search needs
+    let i = slot-room s (second-known (a .s) s (a .scratch .now) (record { head = a .a; residues = a .residues .now }) (length (a .out .now)) (sym (c .before .before .check .ensures ∙ ap judged (second-tests (a .s) s (a .scratch .now) (record { head = a .a; residues = a .residues .now }) (length (a .out .now)))) ∙ ap checked (c .enum-told .given .1)) .later .session-open .half .inside) in
+    search needs
 
 sub-write : tie.Need-sub-write
 sub-write c = search needs
@@ -67,13 +71,18 @@ part-write-end : tie.Need-part-write-end
 part-write-end c =
     let a = c .before .before .before .before .before .before .before .before .before .before .args in
     let s = slotAt (a .pool .now) (a .size) (a .index) in
-    let i = slot-room s (second-known (a .s) s (a .scratch .now) (record { head = a .a; residues = a .residues .now }) (length (a .out .now)) (sym (c .before .before .check .ensures ∙ ap judged (second-tests (a .s) s (a .scratch .now) (record { head = a .a; residues = a .residues .now }) (length (a .out .now)))) ∙ ap checked (c .enum-told .given .1)) .later .session-open .half .inside) in search needs
+    let i = slot-room s (second-known (a .s) s (a .scratch .now) (record { head = a .a; residues = a .residues .now }) (length (a .out .now)) (sym (c .before .before .check .ensures ∙ ap judged (second-tests (a .s) s (a .scratch .now) (record { head = a .a; residues = a .residues .now }) (length (a .out .now)))) ∙ ap checked (c .enum-told .given .1)) .later .session-open .half .inside) in
+    search needs
 
 write-requires : tie.Need-write-requires
 write-requires c κs =
     let a = c .before .before .before .before .before .before .before .before .before .before .before .before .args in
     let s = slotAt (a .pool .now) (a .size) (a .index) in
-    let f = second-known (a .s) s (a .scratch .now) (record { head = a .a; residues = a .residues .now }) (length (a .out .now)) (sym (c .before .before .before .before .check .ensures ∙ ap judged (second-tests (a .s) s (a .scratch .now) (record { head = a .a; residues = a .residues .now }) (length (a .out .now)))) ∙ ap checked (c .before .before .enum-told .given .1)) in let i = slot-room s (f .later .session-open .half .inside) in second-shape (a .s) s (a .scratch .now) (record { head = a .a; residues = a .residues .now }) (length (a .out .now)) _ (slot-part-length (a .pool .now) (a .size) (a .index) i) f
+    let f = second-known (a .s) s (a .scratch .now) (record { head = a .a; residues = a .residues .now }) (length (a .out .now))
+    (sym (c .before .before .before .before .check .ensures ∙ ap judged (second-tests (a .s) s (a .scratch .now) (record { head = a .a; residues = a .residues .now }) (length (a .out .now)))) ∙ ap checked (c .before .before .enum-told .given .1)) in
+    let i = slot-room s (f .later .session-open .half .inside) in
+    second-shape (a .s) s (a .scratch .now) (record { head = a .a; residues = a .residues .now }) (length (a .out .now)) _
+    (slot-part-length (a .pool .now) (a .size) (a .index) i) f
 
 same-length : tie.Need-same-length
 same-length c = search needs
@@ -86,7 +95,8 @@ returns-2 c =
     let f = second-known (a .s) s (a .scratch .now) (record { head = a .a; residues = a .residues .now }) (length (a .out .now)) h in
     let o = f .later .session-open in
     let i = slot-room s (o .half .inside) in
-    second-done (a .s) s (a .scratch .now) (record { head = a .a; residues = a .residues .now }) (a .out .now) h (o .half .inside) (o .terms .sides) (second-shape (a .s) s (a .scratch .now) (record { head = a .a; residues = a .residues .now }) (length (a .out .now)) _ (slot-part-length (a .pool .now) (a .size) (a .index) i) f .full)
+    second-done (a .s) s (a .scratch .now) (record { head = a .a; residues = a .residues .now }) (a .out .now) h (o .half .inside) (o .terms .sides)
+    (second-shape (a .s) s (a .scratch .now) (record { head = a .a; residues = a .residues .now }) (length (a .out .now)) _ (slot-part-length (a .pool .now) (a .size) (a .index) i) f .full)
     (rw (slot-part (a .pool .now) (a .size) (a .index)) at (c .before .before .write .ensures))
 
 pub blinder-second-spec : {M : Type 1} → statement M

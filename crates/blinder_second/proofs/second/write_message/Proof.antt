@@ -111,7 +111,9 @@ write-c-requires : tie.Need-write-c-requires
 write-c-requires c κs =
     let a = c .before .before .before .before .before .before .before .before .before .before .before .before .before .before .before .before .before .args in
     let h = c .before .before .before .before .before .before .before .before .before .before .before .before .before .before .before .before .before .pre in
-    let long = w-after (a .q) (a .n) (a .rhs) _ _ _ _ _ _ (h .small .some-q) (a .out .now) (omega (arith, h .room)) (c .before .before .before .before .before .write-w .ensures) in (h .small, simp (length-take, length-drop) (omega (arith, h .coins)), simp length-take (omega (arith, h .coins)), h .kept-y, simp (length-take, length-drop) (omega (arith, long, h .room)))
+    let long = w-after (a .q) (a .n) (a .rhs) _ _ _ _ _ _ (h .small .some-q) (a .out .now) (omega (arith, h .room))
+    (c .before .before .before .before .before .write-w .ensures) in
+    (h .small, simp (length-take, length-drop) (omega (arith, h .coins)), simp length-take (omega (arith, h .coins)), h .kept-y, simp (length-take, length-drop) (omega (arith, long, h .room)))
 
 same-length : tie.Need-same-length
 same-length c = search needs
@@ -123,10 +125,13 @@ returns c =
     let h = c .before .before .before .before .before .before .before .before .before .before .before .before .before .before .before .before .before .before .before .before .pre in
     let write-w = c .before .before .before .before .before .before .before .before .write-w in
     let wide : (a .n * a .n) + a .n * (a .n + a .rhs) - (a .n * a .n) ≡ a .n * (a .n + a .rhs) = omega arith in
-    let first : 7 + ((a .n * a .n) + a .n * (a .n + a .rhs)) + (a .n * a .n) - (7 + ((a .n * a .n) + a .n * (a .n + a .rhs))) ≡ a .n * a .n = omega arith in
-    let second : 7 + ((a .n * a .n) + a .n * (a .n + a .rhs)) + (a .n * a .n) + (a .n * a .n) - (7 + ((a .n * a .n) + a .n * (a .n + a .rhs)) + (a .n * a .n)) ≡ a .n * a .n = omega arith in
+    let first : 7 + ((a .n * a .n) + a .n * (a .n + a .rhs)) + (a .n * a .n) -
+    (7 + ((a .n * a .n) + a .n * (a .n + a .rhs))) ≡ a .n * a .n = omega arith in
+    let second : 7 + ((a .n * a .n) + a .n * (a .n + a .rhs)) + (a .n * a .n) + (a .n * a .n) -
+    (7 + ((a .n * a .n) + a .n * (a .n + a .rhs)) + (a .n * a .n)) ≡ a .n * a .n = omega arith in
     let long = w-after (a .q) (a .n) (a .rhs) _ _ _ _ _ _ (h .small .some-q) (a .out .now) (omega (arith, h .room)) (write-w .ensures) in
-    part-then _ _ (a .out .now) _ _ (a .n * a .n) (w-length (a .q) (a .n) (a .rhs) _ _ _ _ _ _ (h .small .some-q)) (omega (arith, long, h .room)) (rw (wide, first, second) at (write-w .ensures)) (rw wide at (c .before .before .write-c .ensures))
+    part-then _ _ (a .out .now) _ _ (a .n * a .n) (w-length (a .q) (a .n) (a .rhs) _ _ _ _ _ _ (h .small .some-q)) (omega (arith, long, h .room))
+    (rw (wide, first, second) at (write-w .ensures)) (rw wide at (c .before .before .write-c .ensures))
 
 pub write-message-spec : {M : Type 1} → statement M
 write-message-spec =

@@ -20,7 +20,9 @@ worst-requires c κs = search needs
 
 returns : tie.Need-returns
 unfolding closedTests
-returns c = also (_ ∷ []) _ (c .worst .ensures) (rw (c .before .before .before .is-slot .ensures) at (c .before .before .need .ensures)) (c .before .need2 .ensures)
+returns c =
+    also (_ ∷ []) _ (c .worst .ensures) (rw (c .before .before .before .is-slot .ensures) at (c .before .before .need .ensures))
+    (c .before .need2 .ensures)
 
 pub check-closed-spec : {M : Type 1} → statement M
 check-closed-spec =

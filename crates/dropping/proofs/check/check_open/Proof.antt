@@ -19,7 +19,8 @@ check-closed-requires c κs = search needs
 returns : tie.Need-returns
 returns c =
     let a = c .before .before .before .args in
-    c .check-closed .ensures ∙ sym (closed-judged (role (a .end)) (a .due) (a .t) (slotAt (a .pool .now) (a .size) (a .index)) (c .before .if1 .taken))
+    c .check-closed .ensures ∙ sym
+    (closed-judged (role (a .end)) (a .due) (a .t) (slotAt (a .pool .now) (a .size) (a .index)) (c .before .if1 .taken))
 
 check-numbers-requires : tie.Need-check-numbers-requires
 check-numbers-requires c κs = search needs
@@ -33,22 +34,29 @@ enum-told-2 c = search needs
 returns-2 : tie.Need-returns-2
 returns-2 c =
     let a = c .before .before .before .before .before .args in
-    hands-on (c .before .before .check-numbers .result) _ (c .before .before .check-numbers .ensures) (c .enum-told2 .given .1) ∙ sym (open-phases (role (a .end)) (a .due) (a .t) (slotAt (a .pool .now) (a .size) (a .index)) (open-due (a .due) .1 (omega (arith, c .before .before .before .if1 .left))))
+    hands-on (c .before .before .check-numbers .result) _ (c .before .before .check-numbers .ensures) (c .enum-told2 .given .1) ∙ sym
+    (open-phases (role (a .end)) (a .due) (a .t) (slotAt (a .pool .now) (a .size) (a .index)) (open-due (a .due) .1 (omega (arith, c .before .before .before .if1 .left))))
 
 mul-at : tie.Need-mul-at
 mul-at c =
     let a = c .before .before .before .before .before .args in
-    let k = numbers-placed (role (a .end)) (a .t) _ (a .size) (a .index) (sym (c .before .before .check-numbers .ensures) ∙ ap checked (c .enum-told .given .1)) .0 in search needs
+    let k = numbers-placed (role (a .end)) (a .t) _ (a .size) (a .index)
+    (sym (c .before .before .check-numbers .ensures) ∙ ap checked (c .enum-told .given .1)) .0 in
+    search needs
 
 add-stop : tie.Need-add-stop
 add-stop c =
     let a = c .before .before .before .before .before .args in
-    let k = numbers-placed (role (a .end)) (a .t) _ (a .size) (a .index) (sym (c .before .before .check-numbers .ensures) ∙ ap checked (c .enum-told .given .1)) .0 in search needs
+    let k = numbers-placed (role (a .end)) (a .t) _ (a .size) (a .index)
+    (sym (c .before .before .check-numbers .ensures) ∙ ap checked (c .enum-told .given .1)) .0 in
+    search needs
 
 mul-check-tape : tie.Need-mul-check-tape
 mul-check-tape c =
     let a = c .before .before .before .before .before .args in
-    let k = numbers-placed (role (a .end)) (a .t) _ (a .size) (a .index) (sym (c .before .before .check-numbers .ensures) ∙ ap checked (c .enum-told .given .1)) .0 in search needs
+    let k = numbers-placed (role (a .end)) (a .t) _ (a .size) (a .index)
+    (sym (c .before .before .check-numbers .ensures) ∙ ap checked (c .enum-told .given .1)) .0 in
+    search needs
 
 sub-check-tape : tie.Need-sub-check-tape
 sub-check-tape c = search needs
@@ -59,18 +67,23 @@ part-check-tape-start c = search needs
 part-check-tape-end : tie.Need-part-check-tape-end
 part-check-tape-end c =
     let a = c .before .before .before .before .before .args in
-    let k = numbers-placed (role (a .end)) (a .t) _ (a .size) (a .index) (sym (c .before .before .check-numbers .ensures) ∙ ap checked (c .enum-told .given .1)) .0 in search needs
+    let k = numbers-placed (role (a .end)) (a .t) _ (a .size) (a .index)
+    (sym (c .before .before .check-numbers .ensures) ∙ ap checked (c .enum-told .given .1)) .0 in
+    search needs
 
 check-tape-requires : tie.Need-check-tape-requires
 check-tape-requires c κs =
     let a = c .before .before .before .before .before .before .args in
-    let k = numbers-placed (role (a .end)) (a .t) _ (a .size) (a .index) (sym (c .before .before .before .check-numbers .ensures) ∙ ap checked (c .before .enum-told .given .1)) in omega (arith, k .1, half-body (role (a .end)) (a .t), slot-part-length (a .pool .now) (a .size) (a .index) (k .0))
+    let k = numbers-placed (role (a .end)) (a .t) _ (a .size) (a .index)
+    (sym (c .before .before .before .check-numbers .ensures) ∙ ap checked (c .before .enum-told .given .1)) in
+    omega (arith, k .1, half-body (role (a .end)) (a .t), slot-part-length (a .pool .now) (a .size) (a .index) (k .0))
 
 returns-3 : tie.Need-returns-3
 returns-3 c =
     let a = c .before .before .before .before .before .before .before .args in
     let check-numbers = c .before .before .before .before .check-numbers in
-    (rw (slot-part (a .pool .now) (a .size) (a .index)) at (c .check-tape .ensures)) ∙ sym (open-phases (role (a .end)) (a .due) (a .t) (slotAt (a .pool .now) (a .size) (a .index)) (open-due (a .due) .1 (omega (arith, c .before .before .before .before .before .if1 .left))) ∙ goes-past (check-numbers .result) (check-numbers .ensures) (c .before .before .enum-told .given .1))
+    (rw (slot-part (a .pool .now) (a .size) (a .index)) at (c .check-tape .ensures)) ∙ sym
+    (open-phases (role (a .end)) (a .due) (a .t) (slotAt (a .pool .now) (a .size) (a .index)) (open-due (a .due) .1 (omega (arith, c .before .before .before .before .before .if1 .left))) ∙ goes-past (check-numbers .result) (check-numbers .ensures) (c .before .before .enum-told .given .1))
 
 pub check-open-spec : {M : Type 1} → statement M
 check-open-spec =

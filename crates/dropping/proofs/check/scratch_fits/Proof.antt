@@ -25,7 +25,8 @@ returns-2 : tie.Need-returns-2
 unfolding scratchSize
 returns-2 c =
     let a = c .before .before .before .args in
-    rw (c .times2 .ensures, c .before .before .times .ensures) (room-left (a .t .m * a .t .m) (a .t .m * a .t .p) (a .room) (omega (arith, c .before .before .times .ensures, c .before .if1 .left)))
+    rw (c .times2 .ensures, c .before .before .times .ensures)
+    (room-left (a .t .m * a .t .m) (a .t .m * a .t .p) (a .room) (omega (arith, c .before .before .times .ensures, c .before .if1 .left)))
 
 pub scratch-fits-spec : {M : Type 1} → statement M
 scratch-fits-spec = tie.close (tie.spec times-requires returns times-requires-2 returns-2)

@@ -36,7 +36,8 @@ returns : tie.Need-returns
 unfolding firstNumbers
 returns c =
     let times = c .before .before .before .before .before .before .before .times in
-    also _ _ (c .worst3 .ensures) (c .before .before .before .before .before .before .check-modulus .ensures) (also _ _ (c .before .worst2 .ensures) (c .before .before .before .before .before .check-sizes .ensures) (also (_ ∷ []) _ (c .before .before .worst .ensures) (rw (times .ensures) at (c .before .before .before .before .need .ensures)) (rw (times .ensures ∙ size-1 (c .before .before .before .before .before .before .before .before .args .t)) at (c .before .before .before .need2 .ensures))))
+    also _ _ (c .worst3 .ensures) (c .before .before .before .before .before .before .check-modulus .ensures)
+    (also _ _ (c .before .worst2 .ensures) (c .before .before .before .before .before .check-sizes .ensures) (also (_ ∷ []) _ (c .before .before .worst .ensures) (rw (times .ensures) at (c .before .before .before .before .need .ensures)) (rw (times .ensures ∙ size-1 (c .before .before .before .before .before .before .before .before .args .t)) at (c .before .before .before .need2 .ensures))))
 
 pub check-numbers-spec : {M : Type 1} → statement M
 check-numbers-spec =

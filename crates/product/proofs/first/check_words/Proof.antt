@@ -28,7 +28,9 @@ worst-requires-2 c κs = search needs
 
 returns : tie.Need-returns
 unfolding firstWords
-returns c = also _ _ (c .worst2 .ensures) (c .before .before .before .before .before .check-tape .ensures) (also _ _ (c .before .worst .ensures) (c .before .before .before .before .check-body .ensures) (rw (c .before .before .before .all-below .ensures) at (c .before .before .need .ensures)))
+returns c =
+    also _ _ (c .worst2 .ensures) (c .before .before .before .before .before .check-tape .ensures)
+    (also _ _ (c .before .worst .ensures) (c .before .before .before .before .check-body .ensures) (rw (c .before .before .before .all-below .ensures) at (c .before .before .need .ensures)))
 
 pub check-words-spec : {M : Type 1} → statement M
 check-words-spec =

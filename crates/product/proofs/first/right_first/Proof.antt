@@ -40,25 +40,29 @@ unfolding rightFirst
 returns c =
     let a = c .before .before .before .before .before .before .before .before .before .before .args in
     let s = slotAt (a .pool .now) (a .size) (a .index) in
-    rw (c .answer-of .ensures, c .before .enum-told2 .given .1, c .before .before .before .before .no-head .ensures) (sym (refused-leaves noRight s [] (a .out .now) [] _ (rightFirstEffect (a .t) s (a .y .now)) (sym (c .before .before .before .before .before .check .ensures) ∙ ap checked (c .before .enum-told2 .given .1))))
+    rw (c .answer-of .ensures, c .before .enum-told2 .given .1, c .before .before .before .before .no-head .ensures)
+    (sym (refused-leaves noRight s [] (a .out .now) [] _ (rightFirstEffect (a .t) s (a .y .now)) (sym (c .before .before .before .before .before .check .ensures) ∙ ap checked (c .before .enum-told2 .given .1))))
 
 mul-at : tie.Need-mul-at
 mul-at c =
     let a = c .before .before .before .before .before .before .before .before .before .args in
     let s = slotAt (a .pool .now) (a .size) (a .index) in
-    let i = slot-room s (first-known (a .t) s (a .y .now) (length (a .out .now)) (sym (c .before .before .before .before .check .ensures) ∙ ap checked (c .enum-told .given .1)) .first .half .inside) in search needs
+    let i = slot-room s (first-known (a .t) s (a .y .now) (length (a .out .now)) (sym (c .before .before .before .before .check .ensures) ∙ ap checked (c .enum-told .given .1)) .first .half .inside) in
+    search needs
 
 add-end : tie.Need-add-end
 add-end c =
     let a = c .before .before .before .before .before .before .before .before .before .args in
     let s = slotAt (a .pool .now) (a .size) (a .index) in
-    let i = slot-room s (first-known (a .t) s (a .y .now) (length (a .out .now)) (sym (c .before .before .before .before .check .ensures) ∙ ap checked (c .enum-told .given .1)) .first .half .inside) in search needs
+    let i = slot-room s (first-known (a .t) s (a .y .now) (length (a .out .now)) (sym (c .before .before .before .before .check .ensures) ∙ ap checked (c .enum-told .given .1)) .first .half .inside) in
+    search needs
 
 mul-write : tie.Need-mul-write
 mul-write c =
     let a = c .before .before .before .before .before .before .before .before .before .args in
     let s = slotAt (a .pool .now) (a .size) (a .index) in
-    let i = slot-room s (first-known (a .t) s (a .y .now) (length (a .out .now)) (sym (c .before .before .before .before .check .ensures) ∙ ap checked (c .enum-told .given .1)) .first .half .inside) in search needs
+    let i = slot-room s (first-known (a .t) s (a .y .now) (length (a .out .now)) (sym (c .before .before .before .before .check .ensures) ∙ ap checked (c .enum-told .given .1)) .first .half .inside) in
+    search needs
 
 sub-write : tie.Need-sub-write
 sub-write c = search needs
@@ -70,15 +74,18 @@ part-write-end : tie.Need-part-write-end
 part-write-end c =
     let a = c .before .before .before .before .before .before .before .before .before .args in
     let s = slotAt (a .pool .now) (a .size) (a .index) in
-    let i = slot-room s (first-known (a .t) s (a .y .now) (length (a .out .now)) (sym (c .before .before .before .before .check .ensures) ∙ ap checked (c .enum-told .given .1)) .first .half .inside) in search needs
+    let i = slot-room s (first-known (a .t) s (a .y .now) (length (a .out .now)) (sym (c .before .before .before .before .check .ensures) ∙ ap checked (c .enum-told .given .1)) .first .half .inside) in
+    search needs
 
 write-requires : tie.Need-write-requires
 write-requires c κs =
     let a = c .before .before .before .before .before .before .before .before .before .before .before .args in
     let s = slotAt (a .pool .now) (a .size) (a .index) in
-    let f = first-known (a .t) s (a .y .now) (length (a .out .now)) (sym (c .before .before .before .before .before .before .check .ensures) ∙ ap checked (c .before .before .enum-told .given .1)) in
+    let f = first-known (a .t) s (a .y .now) (length (a .out .now))
+    (sym (c .before .before .before .before .before .before .check .ensures) ∙ ap checked (c .before .before .enum-told .given .1)) in
     let i = slot-room s (f .first .half .inside) in (
-      masks right (a .t) s (a .t .k * a .t .p) (a .t .m * a .t .p) (a .y .now) refl (f .first) (f .y-fits) (slot-part (a .pool .now) (a .size) (a .index)),
+      masks right (a .t) s (a .t .k * a .t .p) (a .t .m * a .t .p) (a .y .now) refl (f .first) (f .y-fits)
+          (slot-part (a .pool .now) (a .size) (a .index)),
       omega (arith, f .first .half .room, slot-part-length (a .pool .now) (a .size) (a .index) i),
       omega (arith, f .message-room, size-1 (a .t)),
     )

@@ -34,7 +34,8 @@ subtract-residues-requires c κs =
     let a = c .before .before .before .before .before .before .before .args in
     let h = c .before .before .before .before .before .before .before .pre .0 in
     let n : c .before .before .before .times .result ≡ a .t .k * a .t .p = c .before .before .before .times .ensures in
-    let mask : take (7 + c .before .before .before .times .result - 7) (drop 7 (a .slot .now)) ≡ part 0 (matrices right (a .t) (a .slot .now)) = rw n (first-matrix right (a .t) (a .slot .now) (a .t .k * a .t .p) (a .t .m * a .t .p) refl) in (
+    let mask : take (7 + c .before .before .before .times .result - 7) (drop 7 (a .slot .now)) ≡ part 0 (matrices right (a .t) (a .slot .now)) = rw n
+    (first-matrix right (a .t) (a .slot .now) (a .t .k * a .t .p) (a .t .m * a .t .p) refl) in (
       h .small-q,
       λ j l. h .plain .below j (omega (arith, n)),
       λ j l. rw mask (h .mask .below j (omega (arith, n))),

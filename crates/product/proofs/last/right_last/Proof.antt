@@ -39,25 +39,29 @@ unfolding rightLast
 returns c =
     let a = c .before .before .before .before .before .before .before .before .before .args in
     let s = slotAt (a .pool .now) (a .size) (a .index) in
-    rw (c .answer-of .ensures, c .before .enum-told2 .given .1, c .before .before .before .no-head .ensures) (sym (refused-leaves (a .s) s [] [] (a .share .now) _ (rightLastEffect (a .s) s (record { head = a .a; residues = a .residues .now })) (sym (c .before .before .before .before .check .ensures) ∙ ap checked (c .before .enum-told2 .given .1))))
+    rw (c .answer-of .ensures, c .before .enum-told2 .given .1, c .before .before .before .no-head .ensures)
+    (sym (refused-leaves (a .s) s [] [] (a .share .now) _ (rightLastEffect (a .s) s (record { head = a .a; residues = a .residues .now })) (sym (c .before .before .before .before .check .ensures) ∙ ap checked (c .before .enum-told2 .given .1))))
 
 mul-at : tie.Need-mul-at
 mul-at c =
     let a = c .before .before .before .before .before .before .before .before .before .args in
     let s = slotAt (a .pool .now) (a .size) (a .index) in
-    let i = slot-room s (last-known (a .s) s (record { head = a .a; residues = a .residues .now }) (length (a .share .now)) (sym (c .before .before .before .before .check .ensures) ∙ ap checked (c .before .enum-told .given .1)) .later .session-open .half .inside) in search needs
+    let i = slot-room s (last-known (a .s) s (record { head = a .a; residues = a .residues .now }) (length (a .share .now)) (sym (c .before .before .before .before .check .ensures) ∙ ap checked (c .before .enum-told .given .1)) .later .session-open .half .inside) in
+    search needs
 
 add-end : tie.Need-add-end
 add-end c =
     let a = c .before .before .before .before .before .before .before .before .before .args in
     let s = slotAt (a .pool .now) (a .size) (a .index) in
-    let i = slot-room s (last-known (a .s) s (record { head = a .a; residues = a .residues .now }) (length (a .share .now)) (sym (c .before .before .before .before .check .ensures) ∙ ap checked (c .before .enum-told .given .1)) .later .session-open .half .inside) in search needs
+    let i = slot-room s (last-known (a .s) s (record { head = a .a; residues = a .residues .now }) (length (a .share .now)) (sym (c .before .before .before .before .check .ensures) ∙ ap checked (c .before .enum-told .given .1)) .later .session-open .half .inside) in
+    search needs
 
 mul-write : tie.Need-mul-write
 mul-write c =
     let a = c .before .before .before .before .before .before .before .before .before .args in
     let s = slotAt (a .pool .now) (a .size) (a .index) in
-    let i = slot-room s (last-known (a .s) s (record { head = a .a; residues = a .residues .now }) (length (a .share .now)) (sym (c .before .before .before .before .check .ensures) ∙ ap checked (c .before .enum-told .given .1)) .later .session-open .half .inside) in search needs
+    let i = slot-room s (last-known (a .s) s (record { head = a .a; residues = a .residues .now }) (length (a .share .now)) (sym (c .before .before .before .before .check .ensures) ∙ ap checked (c .before .enum-told .given .1)) .later .session-open .half .inside) in
+    search needs
 
 sub-write : tie.Need-sub-write
 sub-write c = search needs
@@ -69,13 +73,15 @@ part-write-end : tie.Need-part-write-end
 part-write-end c =
     let a = c .before .before .before .before .before .before .before .before .before .args in
     let s = slotAt (a .pool .now) (a .size) (a .index) in
-    let i = slot-room s (last-known (a .s) s (record { head = a .a; residues = a .residues .now }) (length (a .share .now)) (sym (c .before .before .before .before .check .ensures) ∙ ap checked (c .before .enum-told .given .1)) .later .session-open .half .inside) in search needs
+    let i = slot-room s (last-known (a .s) s (record { head = a .a; residues = a .residues .now }) (length (a .share .now)) (sym (c .before .before .before .before .check .ensures) ∙ ap checked (c .before .enum-told .given .1)) .later .session-open .half .inside) in
+    search needs
 
 write-requires : tie.Need-write-requires
 write-requires c κs =
     let a = c .before .before .before .before .before .before .before .before .before .before .before .args in
     let s = slotAt (a .pool .now) (a .size) (a .index) in
-    let f = last-known (a .s) s (record { head = a .a; residues = a .residues .now }) (length (a .share .now)) (sym (c .before .before .before .before .before .before .check .ensures) ∙ ap checked (c .before .before .before .enum-told .given .1)) in
+    let f = last-known (a .s) s (record { head = a .a; residues = a .residues .now }) (length (a .share .now))
+    (sym (c .before .before .before .before .before .before .check .ensures) ∙ ap checked (c .before .before .before .enum-told .given .1)) in
     let i = slot-room s (f .later .session-open .half .inside) in
     (last-shape (a .s) s (record { head = a .a; residues = a .residues .now }) (length (a .share .now)) _ f (slot-part-length (a .pool .now) (a .size) (a .index) i), f .later .session-open .terms .sides)
 
@@ -92,7 +98,8 @@ returns-2 c =
     let enum-told = c .before .before .before .before .before .before .before .before .enum-told in
     let write = c .before .before .before .before .write in
     let s = slotAt (a .pool .now) (a .size) (a .index) in
-    let f = last-known (a .s) s (record { head = a .a; residues = a .residues .now }) (length (a .share .now)) (sym (check .ensures) ∙ ap checked (enum-told .given .1)) in
+    let f = last-known (a .s) s (record { head = a .a; residues = a .residues .now }) (length (a .share .now))
+    (sym (check .ensures) ∙ ap checked (enum-told .given .1)) in
     let i = slot-room s (f .later .session-open .half .inside) in
     rw (c .before .before .before .before .before .before .before .before .before .before .no-head .ensures)
     (last-done (a .s) s (record { head = a .a; residues = a .residues .now }) (a .share .now) (sym (check .ensures) ∙ ap checked (enum-told .given .1))

@@ -38,7 +38,8 @@ cast-write-share-3 : tie.Need-cast-write-share-3
 cast-write-share-3 c = search needs
 
 slice-aggregate-write-share : tie.Need-slice-aggregate-write-share
-slice-aggregate-write-share c = sym (length-take-le _ (c .before .before .before .before .before .before .before .before .before .before .args .residues .now) (omega (arith, c .before .before .before .before .before .before .times .ensures, c .before .before .before .before .before .before .before .before .before .before .pre .0 .full)))
+slice-aggregate-write-share c =
+    sym (length-take-le _ (c .before .before .before .before .before .before .before .before .before .before .args .residues .now) (omega (arith, c .before .before .before .before .before .before .times .ensures, c .before .before .before .before .before .before .before .before .before .before .pre .0 .full)))
 
 sub-write-share : tie.Need-sub-write-share
 sub-write-share c = search needs

@@ -25,12 +25,14 @@ enum-told-2 c = search needs
 returns : tie.Need-returns
 returns c =
     let a = c .before .before .before .before .before .before .before .args in
-    hands-on (c .before .before .check-numbers .result) _ (c .before .before .check-numbers .ensures) (c .enum-told2 .given .1) ∙ sym (left-phases (a .t) (slotAt (a .pool .now) (a .size) (a .index)) (a .x .now) (a .words .now) (a .a) (a .residues .now) (a .room) (a .share))
+    hands-on (c .before .before .check-numbers .result) _ (c .before .before .check-numbers .ensures) (c .enum-told2 .given .1) ∙ sym
+    (left-phases (a .t) (slotAt (a .pool .now) (a .size) (a .index)) (a .x .now) (a .words .now) (a .a) (a .residues .now) (a .room) (a .share))
 
 check-lengths-requires : tie.Need-check-lengths-requires
 check-lengths-requires c κs =
     let a = c .before .before .before .before .before .before .before .args in
-    let k = received-fits left (a .t) (a .a) _ _ _ _ (sym (c .before .before .check-numbers .ensures) ∙ ap checked (c .enum-told .given .1)) in few product (a .t .m) (a .t .k) (a .t .p) (k .sides-fit)
+    let k = received-fits left (a .t) (a .a) _ _ _ _ (sym (c .before .before .check-numbers .ensures) ∙ ap checked (c .enum-told .given .1)) in
+    few product (a .t .m) (a .t .k) (a .t .p) (k .sides-fit)
 
 enum-told-3 : tie.Need-enum-told-3
 enum-told-3 c = search needs
@@ -42,22 +44,29 @@ returns-2 : tie.Need-returns-2
 returns-2 c =
     let a = c .before .before .before .before .before .before .before .before .before .before .args in
     let check-numbers = c .before .before .before .before .before .check-numbers in
-    hands-on (c .before .before .check-lengths .result) _ (c .before .before .check-lengths .ensures) (c .enum-told4 .given .1) ∙ sym (left-phases (a .t) (slotAt (a .pool .now) (a .size) (a .index)) (a .x .now) (a .words .now) (a .a) (a .residues .now) (a .room) (a .share) ∙ goes-past (check-numbers .result) (check-numbers .ensures) (c .before .before .before .enum-told .given .1))
+    hands-on (c .before .before .check-lengths .result) _ (c .before .before .check-lengths .ensures) (c .enum-told4 .given .1) ∙ sym
+    (left-phases (a .t) (slotAt (a .pool .now) (a .size) (a .index)) (a .x .now) (a .words .now) (a .a) (a .residues .now) (a .room) (a .share) ∙ goes-past (check-numbers .result) (check-numbers .ensures) (c .before .before .before .enum-told .given .1))
 
 mul-at : tie.Need-mul-at
 mul-at c =
     let a = c .before .before .before .before .before .before .before .before .before .before .args in
-    let k = received-fits left (a .t) (a .a) _ _ _ _ (sym (c .before .before .before .before .before .check-numbers .ensures) ∙ ap checked (c .before .before .before .enum-told .given .1)) .inside in search needs
+    let k = received-fits left (a .t) (a .a) _ _ _ _
+    (sym (c .before .before .before .before .before .check-numbers .ensures) ∙ ap checked (c .before .before .before .enum-told .given .1)) .inside in
+    search needs
 
 add-end : tie.Need-add-end
 add-end c =
     let a = c .before .before .before .before .before .before .before .before .before .before .args in
-    let k = received-fits left (a .t) (a .a) _ _ _ _ (sym (c .before .before .before .before .before .check-numbers .ensures) ∙ ap checked (c .before .before .before .enum-told .given .1)) .inside in search needs
+    let k = received-fits left (a .t) (a .a) _ _ _ _
+    (sym (c .before .before .before .before .before .check-numbers .ensures) ∙ ap checked (c .before .before .before .enum-told .given .1)) .inside in
+    search needs
 
 mul-check-words : tie.Need-mul-check-words
 mul-check-words c =
     let a = c .before .before .before .before .before .before .before .before .before .before .args in
-    let k = received-fits left (a .t) (a .a) _ _ _ _ (sym (c .before .before .before .before .before .check-numbers .ensures) ∙ ap checked (c .before .before .before .enum-told .given .1)) .inside in search needs
+    let k = received-fits left (a .t) (a .a) _ _ _ _
+    (sym (c .before .before .before .before .before .check-numbers .ensures) ∙ ap checked (c .before .before .before .enum-told .given .1)) .inside in
+    search needs
 
 sub-check-words : tie.Need-sub-check-words
 sub-check-words c = search needs
@@ -68,12 +77,16 @@ part-check-words-start c = search needs
 part-check-words-end : tie.Need-part-check-words-end
 part-check-words-end c =
     let a = c .before .before .before .before .before .before .before .before .before .before .args in
-    let k = received-fits left (a .t) (a .a) _ _ _ _ (sym (c .before .before .before .before .before .check-numbers .ensures) ∙ ap checked (c .before .before .before .enum-told .given .1)) .inside in search needs
+    let k = received-fits left (a .t) (a .a) _ _ _ _
+    (sym (c .before .before .before .before .before .check-numbers .ensures) ∙ ap checked (c .before .before .before .enum-told .given .1)) .inside in
+    search needs
 
 check-words-requires : tie.Need-check-words-requires
 check-words-requires c κs =
     let a = c .before .before .before .before .before .before .before .before .before .before .before .args in
-    let k = received-fits left (a .t) (a .a) _ _ _ _ (sym (c .before .before .before .before .before .before .check-numbers .ensures) ∙ ap checked (c .before .before .before .before .enum-told .given .1)) in (k .sides-fit, omega (arith, k .half, slot-part-length (a .pool .now) (a .size) (a .index) (k .inside)))
+    let k = received-fits left (a .t) (a .a) _ _ _ _
+    (sym (c .before .before .before .before .before .before .check-numbers .ensures) ∙ ap checked (c .before .before .before .before .enum-told .given .1)) in
+    (k .sides-fit, omega (arith, k .half, slot-part-length (a .pool .now) (a .size) (a .index) (k .inside)))
 
 enum-told-5 : tie.Need-enum-told-5
 enum-told-5 c = search needs
@@ -86,7 +99,9 @@ returns-3 c =
     let a = c .before .before .before .before .before .before .before .before .before .before .before .before .before .before .args in
     let check-lengths = c .before .before .before .before .before .before .check-lengths in
     let check-numbers = c .before .before .before .before .before .before .before .before .before .check-numbers in
-    hands-on (c .before .before .check-words .result) _ ((rw (slot-part (a .pool .now) (a .size) (a .index)) at (c .before .before .check-words .ensures))) (c .enum-told6 .given .1) ∙ sym (left-phases (a .t) (slotAt (a .pool .now) (a .size) (a .index)) (a .x .now) (a .words .now) (a .a) (a .residues .now) (a .room) (a .share) ∙ goes-past (check-numbers .result) (check-numbers .ensures) (c .before .before .before .before .before .before .before .enum-told .given .1) ∙ goes-past (check-lengths .result) (check-lengths .ensures) (c .before .before .before .before .enum-told3 .given .1))
+    hands-on (c .before .before .check-words .result) _
+    ((rw (slot-part (a .pool .now) (a .size) (a .index)) at (c .before .before .check-words .ensures))) (c .enum-told6 .given .1) ∙ sym
+    (left-phases (a .t) (slotAt (a .pool .now) (a .size) (a .index)) (a .x .now) (a .words .now) (a .a) (a .residues .now) (a .room) (a .share) ∙ goes-past (check-numbers .result) (check-numbers .ensures) (c .before .before .before .before .before .before .before .enum-told .given .1) ∙ goes-past (check-lengths .result) (check-lengths .ensures) (c .before .before .before .before .enum-told3 .given .1))
 
 times-requires : tie.Need-times-requires
 times-requires c κs = search needs
@@ -94,7 +109,9 @@ times-requires c κs = search needs
 check-coins-requires : tie.Need-check-coins-requires
 check-coins-requires c κs =
     let a = c .before .before .before .before .before .before .before .before .before .before .before .before .before .before .before .args in
-    let k = received-fits left (a .t) (a .a) _ _ _ _ (sym (c .before .before .before .before .before .before .before .before .before .before .check-numbers .ensures) ∙ ap checked (c .before .before .before .before .before .before .before .before .enum-told .given .1)) in k .modulus-fits .some
+    let k = received-fits left (a .t) (a .a) _ _ _ _
+    (sym (c .before .before .before .before .before .before .before .before .before .before .check-numbers .ensures) ∙ ap checked (c .before .before .before .before .before .before .before .before .enum-told .given .1)) in
+    k .modulus-fits .some
 
 returns-4 : tie.Need-returns-4
 returns-4 c =
@@ -102,7 +119,8 @@ returns-4 c =
     let check-lengths = c .before .before .before .before .before .before .before .before .check-lengths in
     let check-numbers = c .before .before .before .before .before .before .before .before .before .before .before .check-numbers in
     let check-words = c .before .before .before .before .check-words in
-    (rw (c .before .times .ensures) at (c .check-coins .ensures)) ∙ sym (left-phases (a .t) (slotAt (a .pool .now) (a .size) (a .index)) (a .x .now) (a .words .now) (a .a) (a .residues .now) (a .room) (a .share) ∙ goes-past (check-numbers .result) (check-numbers .ensures) (c .before .before .before .before .before .before .before .before .before .enum-told .given .1) ∙ goes-past (check-lengths .result) (check-lengths .ensures) (c .before .before .before .before .before .before .enum-told3 .given .1) ∙ goes-past (check-words .result) ((rw (slot-part (a .pool .now) (a .size) (a .index)) at (check-words .ensures))) (c .before .before .enum-told5 .given .1))
+    (rw (c .before .times .ensures) at (c .check-coins .ensures)) ∙ sym
+    (left-phases (a .t) (slotAt (a .pool .now) (a .size) (a .index)) (a .x .now) (a .words .now) (a .a) (a .residues .now) (a .room) (a .share) ∙ goes-past (check-numbers .result) (check-numbers .ensures) (c .before .before .before .before .before .before .before .before .before .enum-told .given .1) ∙ goes-past (check-lengths .result) (check-lengths .ensures) (c .before .before .before .before .before .before .enum-told3 .given .1) ∙ goes-past (check-words .result) ((rw (slot-part (a .pool .now) (a .size) (a .index)) at (check-words .ensures))) (c .before .before .enum-told5 .given .1))
 
 pub check-spec : {M : Type 1} → statement M
 check-spec =

@@ -38,7 +38,9 @@ worst-requires-3 c κs = search needs
 
 returns : tie.Need-returns
 unfolding leftLengths
-returns c = also (_ ∷ []) _ (c .worst3 .ensures) (rw (c .before .before .before .before .before .before .before .before .before .times .ensures) at (c .before .before .before .before .before .before .before .before .need .ensures)) (also (_ ∷ []) _ (c .before .worst2 .ensures) (rw (c .before .before .before .before .before .before .before .message-size .ensures) at (c .before .before .before .before .before .before .need2 .ensures)) (also (_ ∷ []) _ (c .before .before .worst .ensures) (rw (c .before .before .before .before .before .times2 .ensures) at (c .before .before .before .before .need3 .ensures)) (c .before .before .before .need4 .ensures)))
+returns c =
+    also (_ ∷ []) _ (c .worst3 .ensures)
+    (rw (c .before .before .before .before .before .before .before .before .before .times .ensures) at (c .before .before .before .before .before .before .before .before .need .ensures)) (also (_ ∷ []) _ (c .before .worst2 .ensures) (rw (c .before .before .before .before .before .before .before .message-size .ensures) at (c .before .before .before .before .before .before .need2 .ensures)) (also (_ ∷ []) _ (c .before .before .worst .ensures) (rw (c .before .before .before .before .before .times2 .ensures) at (c .before .before .before .before .need3 .ensures)) (c .before .before .before .need4 .ensures)))
 
 pub check-lengths-spec : {M : Type 1} → statement M
 check-lengths-spec =

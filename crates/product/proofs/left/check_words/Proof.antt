@@ -19,7 +19,9 @@ worst-requires c κs = search needs
 
 returns : tie.Need-returns
 unfolding leftWords
-returns c = also _ _ (c .worst .ensures) (c .before .before .before .check-words .ensures) (rw (c .before .before .all-below .ensures) at (c .before .need .ensures))
+returns c =
+    also _ _ (c .worst .ensures) (c .before .before .before .check-words .ensures)
+    (rw (c .before .before .all-below .ensures) at (c .before .need .ensures))
 
 pub check-words-spec : {M : Type 1} → statement M
 check-words-spec =

@@ -41,25 +41,29 @@ unfolding leftStep
 returns c =
     let a = c .before .before .before .before .before .before .before .before .before .before .before .before .args in
     let s = slotAt (a .pool .now) (a .size) (a .index) in
-    rw (c .before .answer-of .ensures, c .before .before .enum-told2 .given .1, c .no-head .ensures) (sym (refused-leaves tt s [] (a .out .now) (a .share .now) _ (leftEffect (a .t) s (a .x .now) (a .words .now) (record { head = a .a; residues = a .residues .now })) (sym (c .before .before .before .before .check .ensures) ∙ ap checked (c .before .before .enum-told2 .given .1))))
+    rw (c .before .answer-of .ensures, c .before .before .enum-told2 .given .1, c .no-head .ensures)
+    (sym (refused-leaves tt s [] (a .out .now) (a .share .now) _ (leftEffect (a .t) s (a .x .now) (a .words .now) (record { head = a .a; residues = a .residues .now })) (sym (c .before .before .before .before .check .ensures) ∙ ap checked (c .before .before .enum-told2 .given .1))))
 
 mul-at : tie.Need-mul-at
 mul-at c =
     let a = c .before .before .before .before .before .before .before .before .before .before .args in
     let s = slotAt (a .pool .now) (a .size) (a .index) in
-    let i = slot-room s (left-known (a .t) s (a .x .now) (a .words .now) (record { head = a .a; residues = a .residues .now }) (length (a .out .now)) (length (a .share .now)) (sym (c .before .before .check .ensures) ∙ ap checked (c .enum-told .given .1)) .first .half .inside) in search needs
+    let i = slot-room s (left-known (a .t) s (a .x .now) (a .words .now) (record { head = a .a; residues = a .residues .now }) (length (a .out .now)) (length (a .share .now)) (sym (c .before .before .check .ensures) ∙ ap checked (c .enum-told .given .1)) .first .half .inside) in
+    search needs
 
 add-end : tie.Need-add-end
 add-end c =
     let a = c .before .before .before .before .before .before .before .before .before .before .args in
     let s = slotAt (a .pool .now) (a .size) (a .index) in
-    let i = slot-room s (left-known (a .t) s (a .x .now) (a .words .now) (record { head = a .a; residues = a .residues .now }) (length (a .out .now)) (length (a .share .now)) (sym (c .before .before .check .ensures) ∙ ap checked (c .enum-told .given .1)) .first .half .inside) in search needs
+    let i = slot-room s (left-known (a .t) s (a .x .now) (a .words .now) (record { head = a .a; residues = a .residues .now }) (length (a .out .now)) (length (a .share .now)) (sym (c .before .before .check .ensures) ∙ ap checked (c .enum-told .given .1)) .first .half .inside) in
+    search needs
 
 mul-write : tie.Need-mul-write
 mul-write c =
     let a = c .before .before .before .before .before .before .before .before .before .before .args in
     let s = slotAt (a .pool .now) (a .size) (a .index) in
-    let i = slot-room s (left-known (a .t) s (a .x .now) (a .words .now) (record { head = a .a; residues = a .residues .now }) (length (a .out .now)) (length (a .share .now)) (sym (c .before .before .check .ensures) ∙ ap checked (c .enum-told .given .1)) .first .half .inside) in search needs
+    let i = slot-room s (left-known (a .t) s (a .x .now) (a .words .now) (record { head = a .a; residues = a .residues .now }) (length (a .out .now)) (length (a .share .now)) (sym (c .before .before .check .ensures) ∙ ap checked (c .enum-told .given .1)) .first .half .inside) in
+    search needs
 
 sub-write : tie.Need-sub-write
 sub-write c = search needs
@@ -71,19 +75,22 @@ part-write-end : tie.Need-part-write-end
 part-write-end c =
     let a = c .before .before .before .before .before .before .before .before .before .before .args in
     let s = slotAt (a .pool .now) (a .size) (a .index) in
-    let i = slot-room s (left-known (a .t) s (a .x .now) (a .words .now) (record { head = a .a; residues = a .residues .now }) (length (a .out .now)) (length (a .share .now)) (sym (c .before .before .check .ensures) ∙ ap checked (c .enum-told .given .1)) .first .half .inside) in search needs
+    let i = slot-room s (left-known (a .t) s (a .x .now) (a .words .now) (record { head = a .a; residues = a .residues .now }) (length (a .out .now)) (length (a .share .now)) (sym (c .before .before .check .ensures) ∙ ap checked (c .enum-told .given .1)) .first .half .inside) in
+    search needs
 
 write-requires : tie.Need-write-requires
 write-requires c κs =
     let a = c .before .before .before .before .before .before .before .before .before .before .before .before .before .args in
     let s = slotAt (a .pool .now) (a .size) (a .index) in
     let message : Message = record { head = a .a; residues = a .residues .now } in
-    let f = left-known (a .t) s (a .x .now) (a .words .now) message (length (a .out .now)) (length (a .share .now)) (sym (c .before .before .before .before .before .check .ensures) ∙ ap checked (c .before .before .before .enum-told .given .1)) in
+    let f = left-known (a .t) s (a .x .now) (a .words .now) message (length (a .out .now)) (length (a .share .now))
+    (sym (c .before .before .before .before .before .check .ensures) ∙ ap checked (c .before .before .before .enum-told .given .1)) in
     let i = slot-room s (f .first .half .inside) in
     let shape =
     left-shape (a .t) s (a .x .now) (a .words .now) message (length (a .out .now)) (length (a .share .now)) _ f
     (slot-part-length (a .pool .now) (a .size) (a .index) i) in
-    let mask = masks left (a .t) s (a .t .m * a .t .k) (a .t .m * a .t .p) (a .x .now) refl (f .first) (f .x-fits) (slot-part (a .pool .now) (a .size) (a .index)) in
+    let mask = masks left (a .t) s (a .t .m * a .t .k) (a .t .m * a .t .p) (a .x .now) refl (f .first) (f .x-fits)
+    (slot-part (a .pool .now) (a .size) (a .index)) in
     (shape, f .first .terms .sides, f .enough, f .share-room, mask)
 
 same-length-2 : tie.Need-same-length-2
@@ -102,9 +109,11 @@ returns-2 c =
     let enum-told = c .before .before .before .before .before .before .before .before .before .before .enum-told in
     let write = c .before .before .before .before .before .before .write in
     let s = slotAt (a .pool .now) (a .size) (a .index) in
-    let f = left-known (a .t) s (a .x .now) (a .words .now) (record { head = a .a; residues = a .residues .now }) (length (a .out .now)) (length (a .share .now)) (sym (check .ensures) ∙ ap checked (enum-told .given .1)) in
+    let f = left-known (a .t) s (a .x .now) (a .words .now) (record { head = a .a; residues = a .residues .now }) (length (a .out .now))
+    (length (a .share .now)) (sym (check .ensures) ∙ ap checked (enum-told .given .1)) in
     let i = slot-room s (f .first .half .inside) in
-    left-done (a .t) s (a .x .now) (a .words .now) (record { head = a .a; residues = a .residues .now }) (a .out .now) (a .share .now) (sym (check .ensures) ∙ ap checked (enum-told .given .1))
+    left-done (a .t) s (a .x .now) (a .words .now) (record { head = a .a; residues = a .residues .now }) (a .out .now) (a .share .now)
+    (sym (check .ensures) ∙ ap checked (enum-told .given .1))
     (whole-message (a .t) (record { head = a .a; residues = a .residues .now }) (f .message .residues .size ∙ sym (size-1 (a .t))))
     (write .ensures .0)
     (slot-written (a .pool .now) _ (a .size) (a .index) (wordsSpent left (a .t)) i (λ ws e. spent-keeps left (a .t) ws (omega (arith, f .first .half .room, e)) ∙ e) (write .ensures .1 .0))

@@ -24,7 +24,8 @@ slice-aggregate-write-message : tie.Need-slice-aggregate-write-message
 slice-aggregate-write-message c =
     let a = c .before .before .before .before .before .before .before .before .before .before .before .before .args in
     let times = c .before .before .before .before .before .times in
-    let few : times .result ≤ length (residuesOf (a .t .q) (a .words .now)) = omega (arith, times .ensures, c .before .before .before .before .before .before .before .before .before .before .before .before .pre .2) in
+    let few : times .result ≤ length
+    (residuesOf (a .t .q) (a .words .now)) = omega (arith, times .ensures, c .before .before .before .before .before .before .before .before .before .before .before .before .pre .2) in
     let u = coins-part _ _ (a .words .now) _ _ few (c .before .before .before .draw .ensures .1) in
     sym (ap length u ∙ drawn-count _ _ _ few)
 
@@ -57,7 +58,8 @@ returns c =
     let a = c .before .before .before .before .before .before .before .before .before .before .before .before .before .before .before .before .before .before .before .before .before .args in
     let draw = c .before .before .before .before .before .before .before .before .before .before .before .before .draw in
     let times = c .before .before .before .before .before .before .before .before .before .before .before .before .before .before .times in
-    let few : times .result ≤ length (residuesOf (a .t .q) (a .words .now)) = omega (arith, times .ensures, c .before .before .before .before .before .before .before .before .before .before .before .before .before .before .before .before .before .before .before .before .before .pre .2) in
+    let few : times .result ≤ length
+    (residuesOf (a .t .q) (a .words .now)) = omega (arith, times .ensures, c .before .before .before .before .before .before .before .before .before .before .before .before .before .before .before .before .before .before .before .before .before .pre .2) in
     let u = coins-part _ _ (a .words .now) _ _ few (draw .ensures .1) in
     (rw (times .ensures) at (draw .ensures .0), (c .before .before .spend .ensures, (rw (u, times .ensures) at (c .before .before .before .before .before .before .write-message .ensures), rw (times .ensures) at (draw .ensures .1))))
 

@@ -43,7 +43,8 @@ add-residues-requires c κs =
     let a = c .before .before .before .before .before .before .before .before .before .args in
     let h = c .before .before .before .before .before .before .before .before .before .pre .2 in
     let n : c .before .before .before .times .result ≡ a .t .m * a .t .k = c .before .before .before .times .ensures in
-    let mask : take (7 + c .before .before .before .times .result - 7) (drop 7 (a .slot .now)) ≡ part 0 (matrices left (a .t) (a .slot .now)) = rw n (first-matrix left (a .t) (a .slot .now) (a .t .m * a .t .k) (a .t .m * a .t .p) refl) in (
+    let mask : take (7 + c .before .before .before .times .result - 7) (drop 7 (a .slot .now)) ≡ part 0 (matrices left (a .t) (a .slot .now)) = rw n
+    (first-matrix left (a .t) (a .slot .now) (a .t .m * a .t .k) (a .t .m * a .t .p) refl) in (
       h .small-q,
       λ j l. h .plain .below j (omega (arith, n)),
       λ j l. rw mask (h .mask .below j (omega (arith, n))),
@@ -97,8 +98,10 @@ returns c =
     let arg = c .before .before .before .before .before .before .before .before .before .before .before .before .before .before .before .before .before .before .before .before .args in
     let h = c .before .before .before .before .before .before .before .before .before .before .before .before .before .before .before .before .before .before .before .before .pre in
     let times = c .before .before .before .before .before .before .before .before .before .before .before .before .before .before .times in
-    let mask = ap (λ (n : ℕ). take (7 + n - 7) (drop 7 (arg .slot .now))) (times .ensures) ∙ first-matrix left (arg .t) (arg .slot .now) (arg .t .m * arg .t .k) (arg .t .m * arg .t .p) refl in
-    let sent : _≡_ {A = List ℕ} _ (over (matAdd (arg .t .q) (times .result) (arg .x .now) (take (7 + times .result - 7) (drop 7 (arg .slot .now)))) (arg .out .now)) = c .before .before .before .before .before .before .before .before .before .before .add-residues .ensures in
+    let mask = ap (λ (n : ℕ). take (7 + n - 7) (drop 7 (arg .slot .now))) (times .ensures) ∙ first-matrix left (arg .t) (arg .slot .now)
+    (arg .t .m * arg .t .k) (arg .t .m * arg .t .p) refl in
+    let sent : _≡_ {A = List ℕ} _
+    (over (matAdd (arg .t .q) (times .result) (arg .x .now) (take (7 + times .result - 7) (drop 7 (arg .slot .now)))) (arg .out .now)) = c .before .before .before .before .before .before .before .before .before .before .add-residues .ensures in
     let e1 = sent ∙ ap₂ (λ (n : ℕ) (a : List ℕ). over (matAdd (arg .t .q) n (arg .x .now) a) (arg .out .now)) (times .ensures) mask in
     let e2 = rw (times .ensures, c .before .before .before .before .before .before .before .before .before .before .before .before .before .times2 .ensures, second-matrix left (arg .t) (arg .slot .now) (arg .t .m * arg .t .k) (arg .t .m * arg .t .p) refl) at (c .before .before .write-reply .ensures) in
     let full = sum-residues (h .0 .some-q) (arg .t .m * arg .t .k) (arg .x .now) (_) .size in

@@ -50,7 +50,10 @@ worst-requires-4 c κs = search needs
 
 returns : tie.Need-returns
 unfolding sizeTests
-returns c = also (_ ∷ []) _ (c .worst4 .ensures) (c .before .before .before .before .before .before .before .before .before .before .before .before .need .ensures) (also (_ ∷ []) _ (c .before .worst3 .ensures) (rw (c .before .before .before .before .before .before .before .before .before .before .before .sides-fit .ensures) at (c .before .before .before .before .before .before .before .before .before .before .need2 .ensures)) (also (_ ∷ []) _ (c .before .before .worst2 .ensures) (c .before .before .before .before .before .before .before .before .need3 .ensures) (also (_ ∷ []) _ (c .before .before .before .worst .ensures) (rw (c .before .before .before .before .before .before .before .times .ensures) at (c .before .before .before .before .before .before .need4 .ensures)) (rw (c .before .before .before .before .before .times2 .ensures) at (c .before .before .before .before .need5 .ensures)))))
+returns c =
+    also (_ ∷ []) _ (c .worst4 .ensures)
+    (c .before .before .before .before .before .before .before .before .before .before .before .before .need .ensures)
+    (also (_ ∷ []) _ (c .before .worst3 .ensures) (rw (c .before .before .before .before .before .before .before .before .before .before .before .sides-fit .ensures) at (c .before .before .before .before .before .before .before .before .before .before .need2 .ensures)) (also (_ ∷ []) _ (c .before .before .worst2 .ensures) (c .before .before .before .before .before .before .before .before .need3 .ensures) (also (_ ∷ []) _ (c .before .before .before .worst .ensures) (rw (c .before .before .before .before .before .before .before .times .ensures) at (c .before .before .before .before .before .before .need4 .ensures)) (rw (c .before .before .before .before .before .times2 .ensures) at (c .before .before .before .before .need5 .ensures)))))
 
 pub check-sizes-spec : {M : Type 1} → statement M
 check-sizes-spec =

@@ -64,7 +64,13 @@ returns c =
     let times = c .before .before .before .before .before .before .before .before .before .before .before .times in
     let times2 = c .before .before .before .before .before .before .before .before .before .before .times2 in
     let times3 = c .before .before .before .before .before .before .before .before .before .times3 in
-    let a = c .before .before .before .before .before .before .before .before .before .before .before .before .before .before .before .before .args in let t = a .t in let i = inputOf t (a .x .now) (a .y .now) (a .dealer .now) (a .left .now) in let z : times2 .result + (times3 .result + times .result) ≡ drawSize (request i) = omega (arith, times .ensures, times2 .ensures, times3 .ensures, draw-size t (a .x .now) (a .y .now) (a .dealer .now) (a .left .now)) in also (_ ∷ []) _ (c .worst3 .ensures) (rw (c .before .before .before .before .before .before .before .before .all-below .ensures) at (c .before .before .before .before .before .before .before .need .ensures)) (also (_ ∷ []) _ (c .before .worst2 .ensures) (rw (c .before .before .before .before .before .before .all-below2 .ensures) at (c .before .before .before .before .before .need2 .ensures)) (also (drawTests (t .q) (drawSize (request i)) (a .dealer .now)) (drawTests (t .q) (t .m * t .p) (a .left .now)) (c .before .before .worst .ensures) (c .before .before .before .before .check-coins .ensures ∙ ap (λ (n : ℕ). judged (drawTests (t .q) n (a .dealer .now))) z) (c .before .before .before .check-coins2 .ensures ∙ ap (λ (n : ℕ). judged (drawTests (t .q) n (a .left .now))) (times .ensures))))
+    let a = c .before .before .before .before .before .before .before .before .before .before .before .before .before .before .before .before .args in
+    let t = a .t in
+    let i = inputOf t (a .x .now) (a .y .now) (a .dealer .now) (a .left .now) in
+    let z : times2 .result + (times3 .result + times .result) ≡ drawSize
+    (request i) = omega (arith, times .ensures, times2 .ensures, times3 .ensures, draw-size t (a .x .now) (a .y .now) (a .dealer .now) (a .left .now)) in
+    also (_ ∷ []) _ (c .worst3 .ensures)
+    (rw (c .before .before .before .before .before .before .before .before .all-below .ensures) at (c .before .before .before .before .before .before .before .need .ensures)) (also (_ ∷ []) _ (c .before .worst2 .ensures) (rw (c .before .before .before .before .before .before .all-below2 .ensures) at (c .before .before .before .before .before .need2 .ensures)) (also (drawTests (t .q) (drawSize (request i)) (a .dealer .now)) (drawTests (t .q) (t .m * t .p) (a .left .now)) (c .before .before .worst .ensures) (c .before .before .before .before .check-coins .ensures ∙ ap (λ (n : ℕ). judged (drawTests (t .q) n (a .dealer .now))) z) (c .before .before .before .check-coins2 .ensures ∙ ap (λ (n : ℕ). judged (drawTests (t .q) n (a .left .now))) (times .ensures))))
 
 pub words-spec : {M : Type 1} → statement M
 words-spec =

@@ -14,7 +14,11 @@ steps-requires : tie.Need-steps-requires
 steps-requires c κs = search needs
 
 result-requires : tie.Need-result-requires
-result-requires c κs = let a = c .before .before .before .before .before .before .before .before .before .before .before .before .before .before .before .before .before .before .before .before .before .before .before .before .before .before .before .before .before .before .before .before .before .before .before .before .before .args in let p = c .before .before .before .before .before .before .before .before .before .before .before .before .before .before .before .before .before .before .before .before .before .before .before .before .before .before .before .before .before .before .before .before .before .before .before .before .before .pre in let f = rooms-few (a .t) (a .x .now) (a .y .now) (a .dealer .now) (a .coins .now) (p .0) _ _ _ _ (p .3) in (p .4, omega (arith, f .0, c .before .before .before .before .before .before .before .before .before .before .before .before .before .before .y1 .given), omega (arith, f .1, c .before .before .before .before .before .before .before .before .before .before .before .before .x1r1 .given), omega (arith, f .2, c .before .before .before .before .before .before .before .before .before .before .u .given), omega (arith, f .3, c .before .before .before .before .before .before .before .before .v .given))
+result-requires c κs =
+    let a = c .before .before .before .before .before .before .before .before .before .before .before .before .before .before .before .before .before .before .before .before .before .before .before .before .before .before .before .before .before .before .before .before .before .before .before .before .before .args in
+    let p = c .before .before .before .before .before .before .before .before .before .before .before .before .before .before .before .before .before .before .before .before .before .before .before .before .before .before .before .before .before .before .before .before .before .before .before .before .before .pre in
+    let f = rooms-few (a .t) (a .x .now) (a .y .now) (a .dealer .now) (a .coins .now) (p .0) _ _ _ _ (p .3) in
+    (p .4, omega (arith, f .0, c .before .before .before .before .before .before .before .before .before .before .before .before .before .before .y1 .given), omega (arith, f .1, c .before .before .before .before .before .before .before .before .before .before .before .before .x1r1 .given), omega (arith, f .2, c .before .before .before .before .before .before .before .before .before .before .u .given), omega (arith, f .3, c .before .before .before .before .before .before .before .before .v .given))
 
 same-length : tie.Need-same-length
 same-length c = search needs
@@ -38,7 +42,9 @@ same-length-7 : tie.Need-same-length-7
 same-length-7 c = search needs
 
 returns : tie.Need-returns
-returns c = run-printed _ _ _ _ _ (c .before .before .before .before .before .before .before .before .before .before .before .before .before .before .before .before .before .before .before .before .before .before .steps .ensures) (c .before .before .result .ensures .0) (c .before .before .result .ensures .1 .0) (c .before .before .result .ensures .1 .1)
+returns c =
+    run-printed _ _ _ _ _
+    (c .before .before .before .before .before .before .before .before .before .before .before .before .before .before .before .before .before .before .before .before .before .before .steps .ensures) (c .before .before .result .ensures .0) (c .before .before .result .ensures .1 .0) (c .before .before .result .ensures .1 .1)
 
 pub play-spec : {M : Type 1} → statement M
 play-spec =

@@ -27,7 +27,8 @@ add-result-2 c = search needs
 
 returns : tie.Need-returns
 unfolding slotSize tapeSize bodySize
-returns c = (omega (arith, c .before .before .before .times .ensures, c .before .before .times2 .ensures, c .before .times3 .ensures), omega (arith, c .before .before .before .before .pre, c .before .before .before .times .ensures, c .before .before .times2 .ensures, c .before .times3 .ensures))
+returns c =
+    (omega (arith, c .before .before .before .times .ensures, c .before .before .times2 .ensures, c .before .times3 .ensures), omega (arith, c .before .before .before .before .pre, c .before .before .before .times .ensures, c .before .before .times2 .ensures, c .before .times3 .ensures))
 
 add-result-3 : tie.Need-add-result-3
 add-result-3 c = search needs
@@ -37,7 +38,8 @@ add-result-4 c = search needs
 
 returns-2 : tie.Need-returns-2
 unfolding slotSize tapeSize bodySize
-returns-2 c = (omega (arith, c .before .before .before .times .ensures, c .before .before .times2 .ensures, c .before .times3 .ensures), omega (arith, c .before .before .before .before .pre, c .before .before .before .times .ensures, c .before .before .times2 .ensures, c .before .times3 .ensures))
+returns-2 c =
+    (omega (arith, c .before .before .before .times .ensures, c .before .before .times2 .ensures, c .before .times3 .ensures), omega (arith, c .before .before .before .before .pre, c .before .before .before .times .ensures, c .before .before .times2 .ensures, c .before .times3 .ensures))
 
 pub slot-size-spec : {M : Type 1} → statement M
 slot-size-spec =

@@ -23,13 +23,16 @@ right-last-requires : tie.Need-right-last-requires
 right-last-requires c κs = search needs
 
 same-length : tie.Need-same-length
-same-length c = omega (arith, c .before .before .before .before .before .before .before .before .before .before .before .before .before .before .first2 .given, c .before .before .before .before .before .before .before .before .before .before .before .before .before .before .before .before .before .before .before .before .before .before .before .before .before .before .before .before .before .before .before .before .first .given)
+same-length c =
+    omega (arith, c .before .before .before .before .before .before .before .before .before .before .before .before .before .before .first2 .given, c .before .before .before .before .before .before .before .before .before .before .before .before .before .before .before .before .before .before .before .before .before .before .before .before .before .before .before .before .before .before .before .before .first .given)
 
 same-length-2 : tie.Need-same-length-2
-same-length-2 c = omega (arith, c .before .before .before .second3 .given, c .before .before .before .before .before .before .before .before .before .before .before .before .before .before .before .before .before .before .before .before .before .before .before .before .before .second2 .given, c .before .before .before .before .before .before .before .before .before .before .before .before .before .before .before .before .before .before .before .before .before .before .before .before .before .before .before .before .before .before .second .given)
+same-length-2 c =
+    omega (arith, c .before .before .before .second3 .given, c .before .before .before .before .before .before .before .before .before .before .before .before .before .before .before .before .before .before .before .before .before .before .before .before .before .second2 .given, c .before .before .before .before .before .before .before .before .before .before .before .before .before .before .before .before .before .before .before .before .before .before .before .before .before .before .before .before .before .before .second .given)
 
 same-length-3 : tie.Need-same-length-3
-same-length-3 c = omega (arith, c .before .before .before .before .before .before .before .before .before .before .before .before .before .before .before .before .before .before .before .before .before .before .before .y1 .given)
+same-length-3 c =
+    omega (arith, c .before .before .before .before .before .before .before .before .before .before .before .before .before .before .before .before .before .before .before .before .before .before .before .y1 .given)
 
 same-length-4 : tie.Need-same-length-4
 same-length-4 c = search needs
@@ -42,7 +45,12 @@ same-length-6 c = search needs
 
 returns : tie.Need-returns
 unfolding slotSize
-returns c = let a = c .before .before .before .before .before .before .before .before .before .before .before .before .before .before .before .before .before .before .before .before .before .before .before .before .before .before .before .before .before .before .before .before .before .before .before .before .before .before .before .before .before .before .before .before .before .before .before .args in let p = c .before .before .before .before .before .before .before .before .before .before .before .before .before .before .before .before .before .before .before .before .before .before .before .before .before .before .before .before .before .before .before .before .before .before .before .before .before .before .before .before .before .before .before .before .before .before .before .pre in run-made (a .t) (a .x .now) (a .y .now) (a .dealer .now) (a .coins .now) (p .0) (length (a .first .now)) (a .first .now) (a .second .now) _ _ _ (ap length (p .1) ∙ zeros-length _) (p .1) (p .2) (c .before .before .before .before .before .before .before .before .before .before .before .before .before .before .before .before .before .before .before .before .before .before .before .before .before .before .before .before .before .before .before .before .before .deal-product .ensures) (a .y1 .now) _ _ _ _ _ (p .3 .one) (c .before .before .before .before .before .before .before .before .before .before .before .before .before .before .before .before .before .before .before .before .before .before .before .before .before .before .right-first .ensures) (a .x1r1 .now) _ (a .u .now) _ _ _ _ (p .3 .two) (p .3 .left-share) (c .before .before .before .before .before .before .before .before .before .before .before .before .before .before .before .left-step .ensures) (a .v .now) _ _ _ _ _ (p .3 .right-share) (c .before .before .before .before .right-last .ensures)
+returns c =
+    let a = c .before .before .before .before .before .before .before .before .before .before .before .before .before .before .before .before .before .before .before .before .before .before .before .before .before .before .before .before .before .before .before .before .before .before .before .before .before .before .before .before .before .before .before .before .before .before .before .args in
+    let p = c .before .before .before .before .before .before .before .before .before .before .before .before .before .before .before .before .before .before .before .before .before .before .before .before .before .before .before .before .before .before .before .before .before .before .before .before .before .before .before .before .before .before .before .before .before .before .before .pre in
+    run-made (a .t) (a .x .now) (a .y .now) (a .dealer .now) (a .coins .now) (p .0) (length (a .first .now)) (a .first .now) (a .second .now) _ _ _
+    (ap length (p .1) ∙ zeros-length _) (p .1) (p .2)
+    (c .before .before .before .before .before .before .before .before .before .before .before .before .before .before .before .before .before .before .before .before .before .before .before .before .before .before .before .before .before .before .before .before .before .deal-product .ensures) (a .y1 .now) _ _ _ _ _ (p .3 .one) (c .before .before .before .before .before .before .before .before .before .before .before .before .before .before .before .before .before .before .before .before .before .before .before .before .before .before .right-first .ensures) (a .x1r1 .now) _ (a .u .now) _ _ _ _ (p .3 .two) (p .3 .left-share) (c .before .before .before .before .before .before .before .before .before .before .before .before .before .before .before .left-step .ensures) (a .v .now) _ _ _ _ _ (p .3 .right-share) (c .before .before .before .before .right-last .ensures)
 
 pub steps-spec : {M : Type 1} → statement M
 steps-spec =

@@ -26,16 +26,25 @@ add-i : tie.Need-add-i Inv-loop μ-loop
 add-i c = search needs
 
 returns : tie.Need-returns Inv-loop μ-loop
-returns c = let s = c .before .before .before .before .args .s .now in let i = c .before .before .before .loop .i in omega (arith, first-ends s i (c .before .before .loop-test .taken) (c .if1 .taken), c .before .before .before .loop .inv .1)
+returns c =
+    let s = c .before .before .before .before .args .s .now in
+    let i = c .before .before .before .loop .i in
+    omega (arith, first-ends s i (c .before .before .loop-test .taken) (c .if1 .taken), c .before .before .before .loop .inv .1)
 
 loop-less : tie.Need-loop-less Inv-loop μ-loop
 loop-less c = search needs
 
 loop-again : tie.Need-loop-again Inv-loop μ-loop
-loop-again c = let s = c .before .before .before .before .args .s .now in let i = c .before .before .before .loop .i in (omega arith, omega (arith, first-goes s i (c .before .before .loop-test .taken) (c .if1 .left), c .before .before .before .loop .inv .1))
+loop-again c =
+    let s = c .before .before .before .before .args .s .now in
+    let i = c .before .before .before .loop .i in
+    (omega arith, omega (arith, first-goes s i (c .before .before .loop-test .taken) (c .if1 .left), c .before .before .before .loop .inv .1))
 
 returns-2 : tie.Need-returns-2 Inv-loop μ-loop
-returns-2 c = let s = c .before .before .args .s .now in let i = c .before .loop .i in omega (arith, first-none s i (c .loop-test .left), c .before .loop .inv .1)
+returns-2 c =
+    let s = c .before .before .args .s .now in
+    let i = c .before .loop .i in
+    omega (arith, first-none s i (c .loop-test .left), c .before .loop .inv .1)
 
 pub line-end-spec : {M : Type 1} → statement M
 line-end-spec =

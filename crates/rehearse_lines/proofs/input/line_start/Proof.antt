@@ -18,7 +18,9 @@ abbrev μ-loop : tie.MeasureT-loop
 μ-loop s n at₀ i₀ at i = n - i
 
 loop-holds : tie.Need-loop-holds Inv-loop μ-loop
-loop-holds c = let z : c .before .args .n - 0 ≡ c .before .args .n = omega arith in (omega arith, omega arith, ap (λ (k : ℕ). lineAt k (c .before .args .s .now)) z)
+loop-holds c =
+    let z : c .before .args .n - 0 ≡ c .before .args .n = omega arith in
+    (omega arith, omega arith, ap (λ (k : ℕ). lineAt k (c .before .args .s .now)) z)
 
 line-end-requires : tie.Need-line-end-requires Inv-loop μ-loop
 line-end-requires c κs = c .before .loop .inv .1
@@ -32,12 +34,20 @@ loop-less c = search needs
 loop-again : tie.Need-loop-again Inv-loop μ-loop
 loop-again c =
     let arg = c .before .before .before .before .args in
-    let s = arg .s .now in let n = arg .n in let l = c .before .before .loop in let z : suc (n - (l .i + 1)) ≡ n - l .i = omega arith in (omega arith, omega (arith, c .line-end .ensures, first-fits s (l .at) (l .inv .1)), ap (λ (a : ℕ). lineAt (n - (l .i + 1)) (drop a s)) (c .line-end .ensures) ∙ sym (line-next s (n - (l .i + 1)) (l .at)) ∙ ap (λ (k : ℕ). lineAt k (drop (l .at) s)) z ∙ l .inv .2)
+    let s = arg .s .now in
+    let n = arg .n in
+    let l = c .before .before .loop in
+    let z : suc (n - (l .i + 1)) ≡ n - l .i = omega arith in
+    (omega arith, omega (arith, c .line-end .ensures, first-fits s (l .at) (l .inv .1)), ap (λ (a : ℕ). lineAt (n - (l .i + 1)) (drop a s)) (c .line-end .ensures) ∙ sym (line-next s (n - (l .i + 1)) (l .at)) ∙ ap (λ (k : ℕ). lineAt k (drop (l .at) s)) z ∙ l .inv .2)
 
 returns : tie.Need-returns Inv-loop μ-loop
 returns c =
     let a = c .before .before .before .args in
-    let s = a .s .now in let n = a .n in let l = c .before .loop in let z : n - l .i ≡ 0 = omega arith in (l .inv .1, sym (l .inv .2) ∙ ap (λ (k : ℕ). lineAt k (drop (l .at) s)) z ∙ line-zero (drop (l .at) s))
+    let s = a .s .now in
+    let n = a .n in
+    let l = c .before .loop in
+    let z : n - l .i ≡ 0 = omega arith in
+    (l .inv .1, sym (l .inv .2) ∙ ap (λ (k : ℕ). lineAt k (drop (l .at) s)) z ∙ line-zero (drop (l .at) s))
 
 pub line-start-spec : {M : Type 1} → statement M
 line-start-spec =

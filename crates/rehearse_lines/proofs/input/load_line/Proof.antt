@@ -25,7 +25,8 @@ part-load-start : tie.Need-part-load-start
 part-load-start c = search needs
 
 part-load-end : tie.Need-part-load-end
-part-load-end c = omega (arith, c .line-end .ensures, first-fits (c .before .before .before .before .args .s .now) (c .before .line-start .result) (c .before .line-start .ensures .0))
+part-load-end c =
+    omega (arith, c .line-end .ensures, first-fits (c .before .before .before .before .args .s .now) (c .before .line-start .result) (c .before .line-start .ensures .0))
 
 load-requires : tie.Need-load-requires
 load-requires c κs = search needs
@@ -38,7 +39,9 @@ returns c =
     let a = c .before .before .before .before .before .before .before .before .before .args in
     let line-end = c .before .before .before .before .before .line-end in
     let line-start = c .before .before .before .before .before .before .line-start in
-    tallied-as 0 _ _ (a .out .now) (c .before .before .load .last .1 .0) (c .before .before .load .result) (ap numbersOf (sym (line-part (a .s .now) (a .n) (line-start .result) (line-end .result) (line-start .ensures .1) (line-end .ensures)))) (c .before .before .load .ensures)
+    tallied-as 0 _ _ (a .out .now) (c .before .before .load .last .1 .0) (c .before .before .load .result)
+    (ap numbersOf (sym (line-part (a .s .now) (a .n) (line-start .result) (line-end .result) (line-start .ensures .1) (line-end .ensures))))
+    (c .before .before .load .ensures)
 
 pub load-line-spec : {M : Type 1} → statement M
 load-line-spec =

@@ -48,7 +48,9 @@ returns c =
     let load-line2 = c .before .before .before .before .before .before .before .before .before .before .before .before .before .before .before .load-line2 in
     let load-line3 = c .before .before .before .before .before .before .before .before .before .before .before .load-line3 in
     let load-line4 = c .before .before .before .before .before .before .before .load-line4 in
-    let a = c .before .before .before .before .before .before .before .before .before .before .before .before .before .before .before .before .before .before .before .before .before .before .before .before .before .before .before .args in rw (c .counts .ensures) (said (a .s .now) (a .first .now) _ (a .x .now) _ (a .y .now) _ (a .dealer .now) _ (a .left .now) _ (load-line .result) (load-line2 .result) (load-line3 .result) (load-line4 .result) (c .before .before .before .load-line5 .result) (c .before .before .before .before .before .before .before .before .before .before .before .before .before .before .before .before .before .before .before .before .before .before .before .before .before .before .before .pre) (load-line .ensures) (load-line2 .ensures) (load-line3 .ensures) (load-line4 .ensures) (c .before .before .before .load-line5 .ensures))
+    let a = c .before .before .before .before .before .before .before .before .before .before .before .before .before .before .before .before .before .before .before .before .before .before .before .before .before .before .before .args in
+    rw (c .counts .ensures)
+    (said (a .s .now) (a .first .now) _ (a .x .now) _ (a .y .now) _ (a .dealer .now) _ (a .left .now) _ (load-line .result) (load-line2 .result) (load-line3 .result) (load-line4 .result) (c .before .before .before .load-line5 .result) (c .before .before .before .before .before .before .before .before .before .before .before .before .before .before .before .before .before .before .before .before .before .before .before .before .before .before .before .pre) (load-line .ensures) (load-line2 .ensures) (load-line3 .ensures) (load-line4 .ensures) (c .before .before .before .load-line5 .ensures))
 
 pub read-spec : {M : Type 1} → statement M
 read-spec =

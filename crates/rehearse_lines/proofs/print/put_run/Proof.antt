@@ -13,7 +13,8 @@ put-numbers-requires : tie.Need-put-numbers-requires
 put-numbers-requires c κs =
     let a = c .before .before .before .args in
     let h = c .before .before .before .pre in
-    let f = few-bytes (a .more) (a .xs .now) (λ i. omega (arith, c .before .before .shared-slice-known .given i)) in (omega (arith, f, h .0), omega (arith, h .0, h .1))
+    let f = few-bytes (a .more) (a .xs .now) (λ i. omega (arith, c .before .before .shared-slice-known .given i)) in
+    (omega (arith, f, h .0), omega (arith, h .0, h .1))
 
 same-length : tie.Need-same-length
 same-length c = search needs
@@ -21,7 +22,8 @@ same-length c = search needs
 returns : tie.Need-returns
 returns c =
     let a = c .before .before .before .before .before .before .args in
-    let f = few-bytes (a .more) (a .xs .now) (λ i. omega (arith, c .before .before .before .before .before .shared-slice-known .given i)) in (c .before .before .put-numbers .ensures .0, (omega (arith, f, c .before .before .put-numbers .ensures .0), c .before .before .put-numbers .ensures .1))
+    let f = few-bytes (a .more) (a .xs .now) (λ i. omega (arith, c .before .before .before .before .before .shared-slice-known .given i)) in
+    (c .before .before .put-numbers .ensures .0, (omega (arith, f, c .before .before .put-numbers .ensures .0), c .before .before .put-numbers .ensures .1))
 
 pub put-run-spec : {M : Type 1} → statement M
 put-run-spec = tie.close (tie.spec put-numbers-requires same-length returns)

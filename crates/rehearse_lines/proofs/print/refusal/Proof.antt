@@ -28,7 +28,11 @@ returns : tie.Need-returns
 returns c =
     let a = c .before .before .before .before .before .before .before .before .args in
     let number = c .before .before .before .before .before .before .number in
-    let z = refusal-stored (a .r) (a .out .now) (number .result) (c .before .before .put-named .result) _ (number .ensures) (c .before .before .put-named .ensures .0) (omega (arith, c .before .before .put-named .ensures .1 .0, c .before .before .before .before .before .before .before .before .pre)) (c .before .before .put-named .ensures .1 .1) in (z .0, (omega (arith, c .before .before .put-named .ensures .1 .0), z .1))
+    let z = refusal-stored (a .r) (a .out .now) (number .result) (c .before .before .put-named .result) _ (number .ensures)
+    (c .before .before .put-named .ensures .0)
+    (omega (arith, c .before .before .put-named .ensures .1 .0, c .before .before .before .before .before .before .before .before .pre))
+    (c .before .before .put-named .ensures .1 .1) in
+    (z .0, (omega (arith, c .before .before .put-named .ensures .1 .0), z .1))
 
 pub refusal-spec : {M : Type 1} → statement M
 refusal-spec =

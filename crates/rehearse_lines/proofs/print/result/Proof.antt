@@ -35,7 +35,13 @@ returns c =
     let put-message = c .before .before .before .before .before .before .before .before .before .before .before .before .before .before .before .before .put-message in
     let put-message2 = c .before .before .before .before .before .before .before .before .before .before .before .before .put-message2 in
     let put-named = c .before .before .before .before .before .before .before .put-named in
-    let a = c .before .before .before .before .before .before .before .before .before .before .before .before .before .before .before .before .before .before .before .before .before .before .before .args in let p = c .before .before .before .before .before .before .before .before .before .before .before .before .before .before .before .before .before .before .before .before .before .before .before .pre in let z = result-stored (a .one) (a .y1 .now) (a .two) (a .x1r1 .now) (a .left .now) (a .right .now) (a .out .now) (put-message .result) (put-message2 .result) (put-named .result) (c .before .before .put-named2 .result) _ _ _ _ (put-message .ensures .0) (put-message2 .ensures .0) (put-named .ensures .0) (c .before .before .put-named2 .ensures .0) (omega (arith, p .0, p .1, p .2, p .3, p .4, put-message .ensures .1 .0, put-message2 .ensures .1 .0, put-named .ensures .1 .0, c .before .before .put-named2 .ensures .1 .0)) (put-message .ensures .1 .1) (put-message2 .ensures .1 .1) (put-named .ensures .1 .1) (c .before .before .put-named2 .ensures .1 .1) in (z .0, (omega (arith, p .1, p .2, p .3, p .4, put-message .ensures .1 .0, put-message2 .ensures .1 .0, put-named .ensures .1 .0, c .before .before .put-named2 .ensures .1 .0), z .1))
+    let a = c .before .before .before .before .before .before .before .before .before .before .before .before .before .before .before .before .before .before .before .before .before .before .before .args in
+    let p = c .before .before .before .before .before .before .before .before .before .before .before .before .before .before .before .before .before .before .before .before .before .before .before .pre in
+    let z = result-stored (a .one) (a .y1 .now) (a .two) (a .x1r1 .now) (a .left .now) (a .right .now) (a .out .now) (put-message .result)
+    (put-message2 .result) (put-named .result) (c .before .before .put-named2 .result) _ _ _ _ (put-message .ensures .0)
+    (put-message2 .ensures .0) (put-named .ensures .0) (c .before .before .put-named2 .ensures .0)
+    (omega (arith, p .0, p .1, p .2, p .3, p .4, put-message .ensures .1 .0, put-message2 .ensures .1 .0, put-named .ensures .1 .0, c .before .before .put-named2 .ensures .1 .0)) (put-message .ensures .1 .1) (put-message2 .ensures .1 .1) (put-named .ensures .1 .1) (c .before .before .put-named2 .ensures .1 .1) in
+    (z .0, (omega (arith, p .1, p .2, p .3, p .4, put-message .ensures .1 .0, put-message2 .ensures .1 .0, put-named .ensures .1 .0, c .before .before .put-named2 .ensures .1 .0), z .1))
 
 pub result-spec : {M : Type 1} → statement M
 result-spec =

@@ -27,13 +27,17 @@ returns : tie.Need-returns
 unfolding numberTests idTests countTests
 returns c =
     let a = c .before .before .before .before .before .args in
-    hands-on (c .before .before .check-ids .result) _ (rw (c .before .before .before .kind-sides-fit .ensures) at (c .before .before .check-ids .ensures)) (c .enum-told2 .given .1) ∙ sym (head-phases (kindSort (a .a .kind)) (a .a) (a .count))
+    hands-on (c .before .before .check-ids .result) _
+    (rw (c .before .before .before .kind-sides-fit .ensures) at (c .before .before .check-ids .ensures)) (c .enum-told2 .given .1) ∙ sym
+    (head-phases (kindSort (a .a .kind)) (a .a) (a .count))
 
 message-size-requires : tie.Need-message-size-requires
 unfolding idTests
 message-size-requires c κs =
     let a = c .before .before .before .before .before .args in
-    let t = a .a .terms in few (kindSort (a .a .kind)) (t .m) (t .k) (t .p) (ids-fit t _ (sym (rw (c .before .before .before .kind-sides-fit .ensures) at (c .before .before .check-ids .ensures)) ∙ ap checked (c .enum-told .given .1)))
+    let t = a .a .terms in
+    few (kindSort (a .a .kind)) (t .m) (t .k) (t .p)
+    (ids-fit t _ (sym (rw (c .before .before .before .kind-sides-fit .ensures) at (c .before .before .check-ids .ensures)) ∙ ap checked (c .enum-told .given .1)))
 
 need-requires : tie.Need-need-requires
 need-requires c κs = search needs
@@ -43,7 +47,8 @@ unfolding numberTests idTests countTests
 returns-2 c =
     let a = c .before .before .before .before .before .before .before .args in
     let check-ids = c .before .before .before .before .check-ids in
-    simp (c .need .ensures, c .before .message-size .ensures) refl ∙ sym (head-phases (kindSort (a .a .kind)) (a .a) (a .count) ∙ goes-past (check-ids .result) (rw (c .before .before .before .before .before .kind-sides-fit .ensures) at (check-ids .ensures)) (c .before .before .enum-told .given .1))
+    simp (c .need .ensures, c .before .message-size .ensures) refl ∙ sym
+    (head-phases (kindSort (a .a .kind)) (a .a) (a .count) ∙ goes-past (check-ids .result) (rw (c .before .before .before .before .before .kind-sides-fit .ensures) at (check-ids .ensures)) (c .before .before .enum-told .given .1))
 
 pub check-head-spec : {M : Type 1} → statement M
 check-head-spec =

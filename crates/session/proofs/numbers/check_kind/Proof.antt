@@ -31,7 +31,8 @@ worst-requires-2 c κs = search needs
 
 returns : tie.Need-returns
 unfolding kindTests
-returns c = simp (c .worst2 .ensures, c .before .worst .ensures, c .before .before .before .before .before .before .need .ensures, c .before .before .before .before .need2 .ensures, c .before .before .need3 .ensures, c .before .before .before .before .before .before .before .kind-known .ensures, c .before .before .before .before .before .modulus-fits .ensures, c .before .before .before .kind-field-fits .ensures, judged-cons)
+returns c =
+    simp (c .worst2 .ensures, c .before .worst .ensures, c .before .before .before .before .before .before .need .ensures, c .before .before .before .before .need2 .ensures, c .before .before .need3 .ensures, c .before .before .before .before .before .before .before .kind-known .ensures, c .before .before .before .before .before .modulus-fits .ensures, c .before .before .before .kind-field-fits .ensures, judged-cons)
 
 pub check-kind-spec : {M : Type 1} → statement M
 check-kind-spec =

@@ -27,7 +27,8 @@ worst-requires c κs = search needs
 
 returns : tie.Need-returns
 unfolding modulusTests
-returns c = simp (c .worst .ensures, c .before .before .before .need .ensures, c .before .need2 .ensures, c .before .before .before .before .modulus-fits .ensures, c .before .before .field-fits .ensures, judged-cons)
+returns c =
+    simp (c .worst .ensures, c .before .before .before .need .ensures, c .before .need2 .ensures, c .before .before .before .before .modulus-fits .ensures, c .before .before .field-fits .ensures, judged-cons)
 
 pub check-modulus-spec : {M : Type 1} → statement M
 check-modulus-spec =

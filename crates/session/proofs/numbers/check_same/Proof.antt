@@ -45,7 +45,8 @@ worst-requires-5 c κs = search needs
 
 returns : tie.Need-returns
 unfolding sameTests
-returns c = simp (c .worst5 .ensures, c .before .worst4 .ensures, c .before .before .worst3 .ensures, c .before .before .before .worst2 .ensures, c .before .before .before .before .worst .ensures, c .before .before .before .before .before .before .before .before .before .before .before .before .before .before .before .before .before .before .before .before .need .ensures, c .before .before .before .before .before .before .before .before .before .before .before .before .before .before .before .before .before .need2 .ensures, c .before .before .before .before .before .before .before .before .before .before .before .before .before .before .need3 .ensures, c .before .before .before .before .before .before .before .before .before .before .before .need4 .ensures, c .before .before .before .before .before .before .before .before .need5 .ensures, c .before .before .before .before .before .need6 .ensures, judged-cons)
+returns c =
+    simp (c .worst5 .ensures, c .before .worst4 .ensures, c .before .before .worst3 .ensures, c .before .before .before .worst2 .ensures, c .before .before .before .before .worst .ensures, c .before .before .before .before .before .before .before .before .before .before .before .before .before .before .before .before .before .before .before .before .need .ensures, c .before .before .before .before .before .before .before .before .before .before .before .before .before .before .before .before .before .need2 .ensures, c .before .before .before .before .before .before .before .before .before .before .before .before .before .before .need3 .ensures, c .before .before .before .before .before .before .before .before .before .before .before .need4 .ensures, c .before .before .before .before .before .before .before .before .need5 .ensures, c .before .before .before .before .before .need6 .ensures, judged-cons)
 
 pub check-same-spec : {M : Type 1} → statement M
 check-same-spec =

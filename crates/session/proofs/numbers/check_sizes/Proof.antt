@@ -26,7 +26,8 @@ returns : tie.Need-returns
 unfolding numberTests idTests placeTests
 returns c =
     let a = c .before .before .before .before .args in
-    hands-on (c .before .before .check-ids .result) _ (rw (c .before .before .before .sides-fit .ensures) at (c .before .before .check-ids .ensures)) (c .enum-told2 .given .1) ∙ sym (sizes-phases (sort (a .end)) (role (a .end)) (a .t) (a .pool) (a .size) (a .index))
+    hands-on (c .before .before .check-ids .result) _ (rw (c .before .before .before .sides-fit .ensures) at (c .before .before .check-ids .ensures))
+    (c .enum-told2 .given .1) ∙ sym (sizes-phases (sort (a .end)) (role (a .end)) (a .t) (a .pool) (a .size) (a .index))
 
 returns-2 : tie.Need-returns-2
 unfolding numberTests idTests placeTests
@@ -42,7 +43,9 @@ need-requires c κs = search needs
 
 half-size-requires : tie.Need-half-size-requires
 unfolding numberTests idTests
-half-size-requires c κs = ids-fit (c .before .before .before .before .before .before .args .t) _ (sym (rw (c .before .before .before .before .before .sides-fit .ensures) at (c .before .before .before .before .check-ids .ensures)) ∙ ap checked (c .before .before .enum-told .given .1))
+half-size-requires c κs =
+    ids-fit (c .before .before .before .before .before .before .args .t) _
+    (sym (rw (c .before .before .before .before .before .sides-fit .ensures) at (c .before .before .before .before .check-ids .ensures)) ∙ ap checked (c .before .before .enum-told .given .1))
 
 need-requires-2 : tie.Need-need-requires-2
 need-requires-2 c κs = search needs
@@ -55,7 +58,9 @@ unfolding numberTests idTests placeTests
 returns-3 c =
     let a = c .before .before .before .before .before .before .before .before .before .args in
     let check-ids = c .before .before .before .before .before .before .before .check-ids in
-    simp (c .worst .ensures, c .before .before .before .need .ensures, c .before .need2 .ensures, c .before .before .half-size .ensures) (sym (judged-cons _ _ _)) ∙ sym (sizes-phases (sort (a .end)) (role (a .end)) (a .t) (a .pool) (a .size) (a .index) ∙ goes-past (check-ids .result) (rw (c .before .before .before .before .before .before .before .before .sides-fit .ensures) at (check-ids .ensures)) (c .before .before .before .before .before .enum-told .given .1))
+    simp (c .worst .ensures, c .before .before .before .need .ensures, c .before .need2 .ensures, c .before .before .half-size .ensures)
+    (sym (judged-cons _ _ _)) ∙ sym
+    (sizes-phases (sort (a .end)) (role (a .end)) (a .t) (a .pool) (a .size) (a .index) ∙ goes-past (check-ids .result) (rw (c .before .before .before .before .before .before .before .before .sides-fit .ensures) at (check-ids .ensures)) (c .before .before .before .before .before .enum-told .given .1))
 
 pub check-sizes-spec : {M : Type 1} → statement M
 check-sizes-spec =

@@ -22,12 +22,14 @@ enum-told c = search needs
 add-result : tie.Need-add-result
 add-result c =
     let a = c .before .before .before .before .before .args in
-    let s = sides-of (sort (a .end)) (a .t .m) (a .t .k) (a .t .p) (c .before .before .before .before .before .pre) in omega (arith, s .few-mk, s .few-kp, s .few-mp, c .before .before .before .before .times .ensures, c .before .before .before .times2 .ensures, c .before .before .times3 .ensures)
+    let s = sides-of (sort (a .end)) (a .t .m) (a .t .k) (a .t .p) (c .before .before .before .before .before .pre) in
+    omega (arith, s .few-mk, s .few-kp, s .few-mp, c .before .before .before .before .times .ensures, c .before .before .before .times2 .ensures, c .before .before .times3 .ensures)
 
 add-result-2 : tie.Need-add-result-2
 add-result-2 c =
     let a = c .before .before .before .before .before .args in
-    let s = sides-of (sort (a .end)) (a .t .m) (a .t .k) (a .t .p) (c .before .before .before .before .before .pre) in omega (arith, s .few-mk, s .few-kp, s .few-mp, c .before .before .before .before .times .ensures, c .before .before .before .times2 .ensures, c .before .before .times3 .ensures)
+    let s = sides-of (sort (a .end)) (a .t .m) (a .t .k) (a .t .p) (c .before .before .before .before .before .pre) in
+    omega (arith, s .few-mk, s .few-kp, s .few-mp, c .before .before .before .before .times .ensures, c .before .before .before .times2 .ensures, c .before .before .times3 .ensures)
 
 enum-told-2 : tie.Need-enum-told-2
 enum-told-2 c = search needs
@@ -35,12 +37,14 @@ enum-told-2 c = search needs
 add-result-3 : tie.Need-add-result-3
 add-result-3 c =
     let a = c .before .before .before .before .before .args in
-    let s = sides-of (sort (a .end)) (a .t .m) (a .t .k) (a .t .p) (c .before .before .before .before .before .pre) in omega (arith, s .few-mk, s .few-kp, s .few-mp, c .before .before .before .before .times .ensures, c .before .before .before .times2 .ensures, c .before .before .times3 .ensures)
+    let s = sides-of (sort (a .end)) (a .t .m) (a .t .k) (a .t .p) (c .before .before .before .before .before .pre) in
+    omega (arith, s .few-mk, s .few-kp, s .few-mp, c .before .before .before .before .times .ensures, c .before .before .before .times2 .ensures, c .before .before .times3 .ensures)
 
 add-result-4 : tie.Need-add-result-4
 add-result-4 c =
     let a = c .before .before .before .before .before .args in
-    let s = sides-of (sort (a .end)) (a .t .m) (a .t .k) (a .t .p) (c .before .before .before .before .before .pre) in omega (arith, s .few-mk, s .few-kp, s .few-mp, c .before .before .before .before .times .ensures, c .before .before .before .times2 .ensures, c .before .before .times3 .ensures)
+    let s = sides-of (sort (a .end)) (a .t .m) (a .t .k) (a .t .p) (c .before .before .before .before .before .pre) in
+    omega (arith, s .few-mk, s .few-kp, s .few-mp, c .before .before .before .before .times .ensures, c .before .before .before .times2 .ensures, c .before .before .times3 .ensures)
 
 enum-told-3 : tie.Need-enum-told-3
 enum-told-3 c = search needs
@@ -48,22 +52,26 @@ enum-told-3 c = search needs
 add-result-5 : tie.Need-add-result-5
 add-result-5 c =
     let a = c .before .before .before .before .before .args in
-    let s = sides-of (sort (a .end)) (a .t .m) (a .t .k) (a .t .p) (c .before .before .before .before .before .pre) in omega (arith, s .few-mk, s .few-kp, s .few-mp, c .before .before .before .before .times .ensures, c .before .before .before .times2 .ensures, c .before .before .times3 .ensures)
+    let s = sides-of (sort (a .end)) (a .t .m) (a .t .k) (a .t .p) (c .before .before .before .before .before .pre) in
+    omega (arith, s .few-mk, s .few-kp, s .few-mp, c .before .before .before .before .times .ensures, c .before .before .before .times2 .ensures, c .before .before .times3 .ensures)
 
 add-result-6 : tie.Need-add-result-6
 add-result-6 c =
     let a = c .before .before .before .before .before .args in
-    let s = sides-of (sort (a .end)) (a .t .m) (a .t .k) (a .t .p) (c .before .before .before .before .before .pre) in omega (arith, s .few-mk, s .few-kp, s .few-mp, c .before .before .before .before .times .ensures, c .before .before .before .times2 .ensures, c .before .before .times3 .ensures)
+    let s = sides-of (sort (a .end)) (a .t .m) (a .t .k) (a .t .p) (c .before .before .before .before .before .pre) in
+    omega (arith, s .few-mk, s .few-kp, s .few-mp, c .before .before .before .before .times .ensures, c .before .before .before .times2 .ensures, c .before .before .times3 .ensures)
 
 add-result-7 : tie.Need-add-result-7
 add-result-7 c =
     let a = c .before .before .before .before .before .args in
-    let s = sides-of (sort (a .end)) (a .t .m) (a .t .k) (a .t .p) (c .before .before .before .before .before .pre) in omega (arith, s .few-mk, s .few-kp, s .few-mp, c .before .before .before .before .times .ensures, c .before .before .before .times2 .ensures, c .before .before .times3 .ensures)
+    let s = sides-of (sort (a .end)) (a .t .m) (a .t .k) (a .t .p) (c .before .before .before .before .before .pre) in
+    omega (arith, s .few-mk, s .few-kp, s .few-mp, c .before .before .before .before .times .ensures, c .before .before .before .times2 .ensures, c .before .before .times3 .ensures)
 
 add-result-8 : tie.Need-add-result-8
 add-result-8 c =
     let a = c .before .before .before .before .before .args in
-    let s = sides-of (sort (a .end)) (a .t .m) (a .t .k) (a .t .p) (c .before .before .before .before .before .pre) in omega (arith, s .few-mk, s .few-kp, s .few-mp, c .before .before .before .before .times .ensures, c .before .before .before .times2 .ensures, c .before .before .times3 .ensures)
+    let s = sides-of (sort (a .end)) (a .t .m) (a .t .k) (a .t .p) (c .before .before .before .before .before .pre) in
+    omega (arith, s .few-mk, s .few-kp, s .few-mp, c .before .before .before .before .times .ensures, c .before .before .before .times2 .ensures, c .before .before .times3 .ensures)
 
 enum-told-4 : tie.Need-enum-told-4
 enum-told-4 c = search needs
@@ -71,38 +79,50 @@ enum-told-4 c = search needs
 add-result-9 : tie.Need-add-result-9
 add-result-9 c =
     let a = c .before .before .before .before .before .args in
-    let s = sides-of (sort (a .end)) (a .t .m) (a .t .k) (a .t .p) (c .before .before .before .before .before .pre) in omega (arith, s .few-mk, s .few-kp, s .few-mp, c .before .before .before .before .times .ensures, c .before .before .before .times2 .ensures, c .before .before .times3 .ensures)
+    let s = sides-of (sort (a .end)) (a .t .m) (a .t .k) (a .t .p) (c .before .before .before .before .before .pre) in
+    omega (arith, s .few-mk, s .few-kp, s .few-mp, c .before .before .before .before .times .ensures, c .before .before .before .times2 .ensures, c .before .before .times3 .ensures)
 
 add-result-10 : tie.Need-add-result-10
 add-result-10 c =
     let a = c .before .before .before .before .before .args in
-    let s = sides-of (sort (a .end)) (a .t .m) (a .t .k) (a .t .p) (c .before .before .before .before .before .pre) in omega (arith, s .few-mk, s .few-kp, s .few-mp, c .before .before .before .before .times .ensures, c .before .before .before .times2 .ensures, c .before .before .times3 .ensures)
+    let s = sides-of (sort (a .end)) (a .t .m) (a .t .k) (a .t .p) (c .before .before .before .before .before .pre) in
+    omega (arith, s .few-mk, s .few-kp, s .few-mp, c .before .before .before .before .times .ensures, c .before .before .before .times2 .ensures, c .before .before .times3 .ensures)
 
 add-result-11 : tie.Need-add-result-11
 add-result-11 c =
     let a = c .before .before .before .before .before .args in
-    let s = sides-of (sort (a .end)) (a .t .m) (a .t .k) (a .t .p) (c .before .before .before .before .before .pre) in omega (arith, s .few-mk, s .few-kp, s .few-mp, c .before .before .before .before .times .ensures, c .before .before .before .times2 .ensures, c .before .before .times3 .ensures)
+    let s = sides-of (sort (a .end)) (a .t .m) (a .t .k) (a .t .p) (c .before .before .before .before .before .pre) in
+    omega (arith, s .few-mk, s .few-kp, s .few-mp, c .before .before .before .before .times .ensures, c .before .before .before .times2 .ensures, c .before .before .times3 .ensures)
 
 add-result-12 : tie.Need-add-result-12
 add-result-12 c =
     let a = c .before .before .before .before .before .args in
-    let s = sides-of (sort (a .end)) (a .t .m) (a .t .k) (a .t .p) (c .before .before .before .before .before .pre) in omega (arith, s .few-mk, s .few-kp, s .few-mp, c .before .before .before .before .times .ensures, c .before .before .before .times2 .ensures, c .before .before .times3 .ensures)
+    let s = sides-of (sort (a .end)) (a .t .m) (a .t .k) (a .t .p) (c .before .before .before .before .before .pre) in
+    omega (arith, s .few-mk, s .few-kp, s .few-mp, c .before .before .before .before .times .ensures, c .before .before .before .times2 .ensures, c .before .before .times3 .ensures)
 
 returns : tie.Need-returns
 unfolding tapeSize bodySize
-returns c = rw (c .enum-told .given .1) (omega (arith, c .before .before .before .before .times .ensures, c .before .before .before .times2 .ensures, c .before .before .times3 .ensures))
+returns c =
+    rw (c .enum-told .given .1)
+    (omega (arith, c .before .before .before .before .times .ensures, c .before .before .before .times2 .ensures, c .before .before .times3 .ensures))
 
 returns-2 : tie.Need-returns-2
 unfolding tapeSize bodySize
-returns-2 c = rw (c .enum-told2 .given .1) (omega (arith, c .before .before .before .before .times .ensures, c .before .before .before .times2 .ensures, c .before .before .times3 .ensures))
+returns-2 c =
+    rw (c .enum-told2 .given .1)
+    (omega (arith, c .before .before .before .before .times .ensures, c .before .before .before .times2 .ensures, c .before .before .times3 .ensures))
 
 returns-3 : tie.Need-returns-3
 unfolding tapeSize bodySize
-returns-3 c = rw (c .enum-told3 .given .1) (omega (arith, c .before .before .before .before .times .ensures, c .before .before .before .times2 .ensures, c .before .before .times3 .ensures))
+returns-3 c =
+    rw (c .enum-told3 .given .1)
+    (omega (arith, c .before .before .before .before .times .ensures, c .before .before .before .times2 .ensures, c .before .before .times3 .ensures))
 
 returns-4 : tie.Need-returns-4
 unfolding tapeSize bodySize
-returns-4 c = rw (c .enum-told4 .given .1) (omega (arith, c .before .before .before .before .times .ensures, c .before .before .before .times2 .ensures, c .before .before .times3 .ensures))
+returns-4 c =
+    rw (c .enum-told4 .given .1)
+    (omega (arith, c .before .before .before .before .times .ensures, c .before .before .before .times2 .ensures, c .before .before .times3 .ensures))
 
 pub half-size-spec : {M : Type 1} → statement M
 half-size-spec =

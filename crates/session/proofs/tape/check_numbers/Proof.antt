@@ -62,7 +62,9 @@ worst-requires-5 c κs = search needs
 
 returns : tie.Need-returns
 unfolding tapeNumberTests
-returns c = also (_ ∷ []) _ (c .worst5 .ensures) (c .before .before .before .before .before .before .before .before .before .before .before .before .before .before .before .before .before .before .before .before .need .ensures) (also (_ ∷ []) _ (c .before .worst4 .ensures) (rw (c .before .before .before .before .before .before .before .before .before .before .before .before .before .before .before .before .before .before .sort-number .ensures) at (c .before .before .before .before .before .before .before .before .before .before .before .before .before .before .before .before .before .need2 .ensures)) (also (_ ∷ []) _ (c .before .before .worst3 .ensures) (c .before .before .before .before .before .before .before .before .before .before .before .before .before .before .need3 .ensures) (also (_ ∷ []) _ (c .before .before .before .worst2 .ensures) (c .before .before .before .before .before .before .before .before .before .before .before .need4 .ensures) (also (_ ∷ []) _ (c .before .before .before .before .worst .ensures) (c .before .before .before .before .before .before .before .before .need5 .ensures) (c .before .before .before .before .before .need6 .ensures)))))
+returns c =
+    also (_ ∷ []) _ (c .worst5 .ensures)
+    (c .before .before .before .before .before .before .before .before .before .before .before .before .before .before .before .before .before .before .before .before .need .ensures) (also (_ ∷ []) _ (c .before .worst4 .ensures) (rw (c .before .before .before .before .before .before .before .before .before .before .before .before .before .before .before .before .before .before .sort-number .ensures) at (c .before .before .before .before .before .before .before .before .before .before .before .before .before .before .before .before .before .need2 .ensures)) (also (_ ∷ []) _ (c .before .before .worst3 .ensures) (c .before .before .before .before .before .before .before .before .before .before .before .before .before .before .need3 .ensures) (also (_ ∷ []) _ (c .before .before .before .worst2 .ensures) (c .before .before .before .before .before .before .before .before .before .before .before .need4 .ensures) (also (_ ∷ []) _ (c .before .before .before .before .worst .ensures) (c .before .before .before .before .before .before .before .before .need5 .ensures) (c .before .before .before .before .before .need6 .ensures)))))
 
 pub check-numbers-spec : {M : Type 1} → statement M
 check-numbers-spec =

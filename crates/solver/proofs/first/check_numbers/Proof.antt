@@ -44,7 +44,9 @@ worst-requires-4 c κs = search needs
 
 returns : tie.Need-returns
 unfolding firstNumbers
-returns c = also _ _ (c .worst4 .ensures) (c .before .before .before .before .before .before .before .before .before .before .before .check-modulus .ensures) (also _ _ (c .before .worst3 .ensures) (c .before .before .before .before .before .before .before .before .before .before .check-sizes .ensures) (also (_ ∷ []) _ (c .before .before .worst2 .ensures) (rw (c .before .before .before .before .before .before .before .before .before .times .ensures) at (c .before .before .before .before .before .before .before .before .need .ensures)) (also (_ ∷ []) _ (c .before .before .before .worst .ensures) (rw (c .before .before .before .before .before .before .before .side-size .ensures) at (c .before .before .before .before .before .before .need2 .ensures)) (rw (c .before .before .before .before .before .times2 .ensures) at (c .before .before .before .before .need3 .ensures)))))
+returns c =
+    also _ _ (c .worst4 .ensures) (c .before .before .before .before .before .before .before .before .before .before .before .check-modulus .ensures)
+    (also _ _ (c .before .worst3 .ensures) (c .before .before .before .before .before .before .before .before .before .before .check-sizes .ensures) (also (_ ∷ []) _ (c .before .before .worst2 .ensures) (rw (c .before .before .before .before .before .before .before .before .before .times .ensures) at (c .before .before .before .before .before .before .before .before .need .ensures)) (also (_ ∷ []) _ (c .before .before .before .worst .ensures) (rw (c .before .before .before .before .before .before .before .side-size .ensures) at (c .before .before .before .before .before .before .need2 .ensures)) (rw (c .before .before .before .before .before .times2 .ensures) at (c .before .before .before .before .need3 .ensures)))))
 
 pub check-numbers-spec : {M : Type 1} → statement M
 check-numbers-spec =

@@ -39,7 +39,9 @@ worst-requires-3 c κs = search needs
 
 returns : tie.Need-returns
 unfolding firstWords keptTests
-returns c = also _ _ (c .worst3 .ensures) (c .before .before .before .before .before .before .before .before .check-tape .ensures) (also _ _ (c .before .worst2 .ensures) (c .before .before .before .before .before .before .before .check-body .ensures) (also (_ ∷ []) _ (c .before .before .worst .ensures) (rw (c .before .before .before .before .before .before .all-below .ensures) at (c .before .before .before .before .before .need .ensures)) (rw (c .before .before .before .before .all-below2 .ensures) at (c .before .before .before .need2 .ensures))))
+returns c =
+    also _ _ (c .worst3 .ensures) (c .before .before .before .before .before .before .before .before .check-tape .ensures)
+    (also _ _ (c .before .worst2 .ensures) (c .before .before .before .before .before .before .before .check-body .ensures) (also (_ ∷ []) _ (c .before .before .worst .ensures) (rw (c .before .before .before .before .before .before .all-below .ensures) at (c .before .before .before .before .before .need .ensures)) (rw (c .before .before .before .before .all-below2 .ensures) at (c .before .before .before .need2 .ensures))))
 
 pub check-words-spec : {M : Type 1} → statement M
 check-words-spec =

@@ -45,17 +45,26 @@ returns c =
 mul-at : tie.Need-mul-at
 mul-at c =
     let a = c .before .before .before .before .before .before .before .before .args in
-    let k = first-known (a .t) _ _ _ _ _ _ (after-first _ _ (sym (first-phases (a .t) (slotAt (a .pool .now) (a .size) (a .index)) (a .l .now) (a .x .now) (length (a .out .now))) ∙ (sym (c .before .before .check .ensures) ∙ ap checked (c .enum-told .given .1)))) in let i = k .inside in search needs
+    let k = first-known (a .t) _ _ _ _ _ _
+    (after-first _ _ (sym (first-phases (a .t) (slotAt (a .pool .now) (a .size) (a .index)) (a .l .now) (a .x .now) (length (a .out .now))) ∙ (sym (c .before .before .check .ensures) ∙ ap checked (c .enum-told .given .1)))) in
+    let i = k .inside in
+    search needs
 
 add-end : tie.Need-add-end
 add-end c =
     let a = c .before .before .before .before .before .before .before .before .args in
-    let k = first-known (a .t) _ _ _ _ _ _ (after-first _ _ (sym (first-phases (a .t) (slotAt (a .pool .now) (a .size) (a .index)) (a .l .now) (a .x .now) (length (a .out .now))) ∙ (sym (c .before .before .check .ensures) ∙ ap checked (c .enum-told .given .1)))) in let i = k .inside in search needs
+    let k = first-known (a .t) _ _ _ _ _ _
+    (after-first _ _ (sym (first-phases (a .t) (slotAt (a .pool .now) (a .size) (a .index)) (a .l .now) (a .x .now) (length (a .out .now))) ∙ (sym (c .before .before .check .ensures) ∙ ap checked (c .enum-told .given .1)))) in
+    let i = k .inside in
+    search needs
 
 mul-write : tie.Need-mul-write
 mul-write c =
     let a = c .before .before .before .before .before .before .before .before .args in
-    let k = first-known (a .t) _ _ _ _ _ _ (after-first _ _ (sym (first-phases (a .t) (slotAt (a .pool .now) (a .size) (a .index)) (a .l .now) (a .x .now) (length (a .out .now))) ∙ (sym (c .before .before .check .ensures) ∙ ap checked (c .enum-told .given .1)))) in let i = k .inside in search needs
+    let k = first-known (a .t) _ _ _ _ _ _
+    (after-first _ _ (sym (first-phases (a .t) (slotAt (a .pool .now) (a .size) (a .index)) (a .l .now) (a .x .now) (length (a .out .now))) ∙ (sym (c .before .before .check .ensures) ∙ ap checked (c .enum-told .given .1)))) in
+    let i = k .inside in
+    search needs
 
 sub-write : tie.Need-sub-write
 sub-write c = search needs
@@ -66,12 +75,17 @@ part-write-start c = search needs
 part-write-end : tie.Need-part-write-end
 part-write-end c =
     let a = c .before .before .before .before .before .before .before .before .args in
-    let k = first-known (a .t) _ _ _ _ _ _ (after-first _ _ (sym (first-phases (a .t) (slotAt (a .pool .now) (a .size) (a .index)) (a .l .now) (a .x .now) (length (a .out .now))) ∙ (sym (c .before .before .check .ensures) ∙ ap checked (c .enum-told .given .1)))) in let i = k .inside in search needs
+    let k = first-known (a .t) _ _ _ _ _ _
+    (after-first _ _ (sym (first-phases (a .t) (slotAt (a .pool .now) (a .size) (a .index)) (a .l .now) (a .x .now) (length (a .out .now))) ∙ (sym (c .before .before .check .ensures) ∙ ap checked (c .enum-told .given .1)))) in
+    let i = k .inside in
+    search needs
 
 write-requires : tie.Need-write-requires
 write-requires c κs =
     let a = c .before .before .before .before .before .before .before .before .before .before .args in
-    let k = first-known (a .t) _ _ _ _ _ _ (after-first _ _ (sym (first-phases (a .t) (slotAt (a .pool .now) (a .size) (a .index)) (a .l .now) (a .x .now) (length (a .out .now))) ∙ (sym (c .before .before .before .before .check .ensures) ∙ ap checked (c .before .before .enum-told .given .1)))) in first-shape (a .t) _ _ _ _ _ _ _ k (slot-part-length (a .pool .now) (a .size) (a .index) (k .inside))
+    let k = first-known (a .t) _ _ _ _ _ _
+    (after-first _ _ (sym (first-phases (a .t) (slotAt (a .pool .now) (a .size) (a .index)) (a .l .now) (a .x .now) (length (a .out .now))) ∙ (sym (c .before .before .before .before .check .ensures) ∙ ap checked (c .before .before .enum-told .given .1)))) in
+    first-shape (a .t) _ _ _ _ _ _ _ k (slot-part-length (a .pool .now) (a .size) (a .index) (k .inside))
 
 same-length-2 : tie.Need-same-length-2
 same-length-2 c = search needs
@@ -87,7 +101,9 @@ returns-2 c =
     let enum-told = c .before .before .before .before .before .before .before .enum-told in
     let write = c .before .before .before .before .write in
     let s = slotAt (a .pool .now) (a .size) (a .index) in
-    let k = first-known (a .t) _ _ _ _ _ _ (after-first _ _ (sym (first-phases (a .t) s (a .l .now) (a .x .now) (length (a .out .now))) ∙ (sym (check .ensures) ∙ ap checked (enum-told .given .1)))) in first-done (a .t) s (a .l .now) (a .x .now) (a .out .now) (sym (check .ensures) ∙ ap checked (enum-told .given .1))
+    let k = first-known (a .t) _ _ _ _ _ _
+    (after-first _ _ (sym (first-phases (a .t) s (a .l .now) (a .x .now) (length (a .out .now))) ∙ (sym (check .ensures) ∙ ap checked (enum-told .given .1)))) in
+    first-done (a .t) s (a .l .now) (a .x .now) (a .out .now) (sym (check .ensures) ∙ ap checked (enum-told .given .1))
     (slot-written (a .pool .now) _ (a .size) (a .index) wordsInUse (k .inside) (λ ws e. in-use-length ws (omega (arith, k .half, solver-size (a .t .m) (a .t .k) (a .t .p), e)) ∙ e) (write .ensures .0))
     (rw (slot-part (a .pool .now) (a .size) (a .index)) at (write .ensures .1))
 

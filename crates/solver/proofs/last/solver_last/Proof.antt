@@ -41,25 +41,35 @@ unfolding solverLast solverLastTests receiving messageSize messageLayout sideSiz
 returns c =
     let a = c .before .before .before .before .before .before .before .before .before .before .args in
     let s = slotAt (a .pool .now) (a .size) (a .index) in
-    rw (c .refused .ensures .0, c .refused .ensures .1, c .refused .ensures .2, c .before .enum-told2 .given .1) (sym (refused-leaves (a .s) s [] (a .out .now) [] _ (solverLastEffect (a .s) s (record { head = a .a; residues = a .residues .now })) (rw (c .before .before .before .before .before .side-size .ensures) at (sym (c .before .before .before .check .ensures) ∙ ap checked (c .before .enum-told2 .given .1)))))
+    rw (c .refused .ensures .0, c .refused .ensures .1, c .refused .ensures .2, c .before .enum-told2 .given .1)
+    (sym (refused-leaves (a .s) s [] (a .out .now) [] _ (solverLastEffect (a .s) s (record { head = a .a; residues = a .residues .now })) (rw (c .before .before .before .before .before .side-size .ensures) at (sym (c .before .before .before .check .ensures) ∙ ap checked (c .before .enum-told2 .given .1)))))
 
 mul-at : tie.Need-mul-at
 mul-at c =
     let a = c .before .before .before .before .before .before .before .before .before .args in
     let s = slotAt (a .pool .now) (a .size) (a .index) in
-    let h = (rw (c .before .before .before .before .side-size .ensures) at (sym (c .before .before .check .ensures) ∙ ap checked (c .enum-told .given .1))) in let f = last-known (a .s) s (record { head = a .a; residues = a .residues .now }) (length (a .out .now)) h in let i = slot-room s (f .later .session-open .half .inside) in search needs
+    let h = (rw (c .before .before .before .before .side-size .ensures) at (sym (c .before .before .check .ensures) ∙ ap checked (c .enum-told .given .1))) in
+    let f = last-known (a .s) s (record { head = a .a; residues = a .residues .now }) (length (a .out .now)) h in
+    let i = slot-room s (f .later .session-open .half .inside) in
+    search needs
 
 add-end : tie.Need-add-end
 add-end c =
     let a = c .before .before .before .before .before .before .before .before .before .args in
     let s = slotAt (a .pool .now) (a .size) (a .index) in
-    let h = (rw (c .before .before .before .before .side-size .ensures) at (sym (c .before .before .check .ensures) ∙ ap checked (c .enum-told .given .1))) in let f = last-known (a .s) s (record { head = a .a; residues = a .residues .now }) (length (a .out .now)) h in let i = slot-room s (f .later .session-open .half .inside) in search needs
+    let h = (rw (c .before .before .before .before .side-size .ensures) at (sym (c .before .before .check .ensures) ∙ ap checked (c .enum-told .given .1))) in
+    let f = last-known (a .s) s (record { head = a .a; residues = a .residues .now }) (length (a .out .now)) h in
+    let i = slot-room s (f .later .session-open .half .inside) in
+    search needs
 
 mul-write : tie.Need-mul-write
 mul-write c =
     let a = c .before .before .before .before .before .before .before .before .before .before .args in
     let s = slotAt (a .pool .now) (a .size) (a .index) in
-    let h = (rw (c .before .before .before .before .before .side-size .ensures) at (sym (c .before .before .before .check .ensures) ∙ ap checked (c .before .enum-told .given .1))) in let f = last-known (a .s) s (record { head = a .a; residues = a .residues .now }) (length (a .out .now)) h in let i = slot-room s (f .later .session-open .half .inside) in search needs
+    let h = (rw (c .before .before .before .before .before .side-size .ensures) at (sym (c .before .before .before .check .ensures) ∙ ap checked (c .before .enum-told .given .1))) in
+    let f = last-known (a .s) s (record { head = a .a; residues = a .residues .now }) (length (a .out .now)) h in
+    let i = slot-room s (f .later .session-open .half .inside) in
+    search needs
 
 sub-write : tie.Need-sub-write
 sub-write c = search needs
@@ -71,7 +81,10 @@ part-write-end : tie.Need-part-write-end
 part-write-end c =
     let a = c .before .before .before .before .before .before .before .before .before .before .args in
     let s = slotAt (a .pool .now) (a .size) (a .index) in
-    let h = (rw (c .before .before .before .before .before .side-size .ensures) at (sym (c .before .before .before .check .ensures) ∙ ap checked (c .before .enum-told .given .1))) in let f = last-known (a .s) s (record { head = a .a; residues = a .residues .now }) (length (a .out .now)) h in let i = slot-room s (f .later .session-open .half .inside) in search needs
+    let h = (rw (c .before .before .before .before .before .side-size .ensures) at (sym (c .before .before .before .check .ensures) ∙ ap checked (c .before .enum-told .given .1))) in
+    let f = last-known (a .s) s (record { head = a .a; residues = a .residues .now }) (length (a .out .now)) h in
+    let i = slot-room s (f .later .session-open .half .inside) in
+    search needs
 
 slice-aggregate-write : tie.Need-slice-aggregate-write
 slice-aggregate-write c = search needs
@@ -81,7 +94,12 @@ unfolding fieldFits
 write-requires c κs =
     let a = c .before .before .before .before .before .before .before .before .before .before .before .before .before .args in
     let s = slotAt (a .pool .now) (a .size) (a .index) in
-    let h = (rw (c .before .before .before .before .before .before .before .before .side-size .ensures) at (sym (c .before .before .before .before .before .before .check .ensures) ∙ ap checked (c .before .before .before .before .enum-told .given .1))) in let f = last-known (a .s) s (record { head = a .a; residues = a .residues .now }) (length (a .out .now)) h in let i = slot-room s (f .later .session-open .half .inside) in let n = few (a .s .terms) (f .later .session-open .terms .sides) in let l = last-counts (a .s) s (record { head = a .a; residues = a .residues .now }) (length (a .out .now)) f in (later-shape 4 (a .s) s (record { head = a .a; residues = a .residues .now }) _ _ _ f (slot-part-length (a .pool .now) (a .size) (a .index) i), f .later .session-open .terms .field, l .0, len-le (kept-length (a .s .s) (c .before .before .before .before .before .before .before .before .before .before .before .before .before .good .1 .1 .1 .0 .1 .1 .1 .1 .0 .1 .0 .1)), l .1)
+    let h = (rw (c .before .before .before .before .before .before .before .before .side-size .ensures) at (sym (c .before .before .before .before .before .before .check .ensures) ∙ ap checked (c .before .before .before .before .enum-told .given .1))) in
+    let f = last-known (a .s) s (record { head = a .a; residues = a .residues .now }) (length (a .out .now)) h in
+    let i = slot-room s (f .later .session-open .half .inside) in
+    let n = few (a .s .terms) (f .later .session-open .terms .sides) in
+    let l = last-counts (a .s) s (record { head = a .a; residues = a .residues .now }) (length (a .out .now)) f in
+    (later-shape 4 (a .s) s (record { head = a .a; residues = a .residues .now }) _ _ _ f (slot-part-length (a .pool .now) (a .size) (a .index) i), f .later .session-open .terms .field, l .0, len-le (kept-length (a .s .s) (c .before .before .before .before .before .before .before .before .before .before .before .before .before .good .1 .1 .1 .0 .1 .1 .1 .1 .0 .1 .0 .1)), l .1)
 
 answer-requires : tie.Need-answer-requires
 answer-requires c κs = search needs
@@ -97,7 +115,12 @@ returns-2 c =
     let a = c .before .before .before .before .before .before .before .before .before .before .before .before .before .before .before .before .before .before .before .args in
     let write = c .before .before .before .before .before .write in
     let s = slotAt (a .pool .now) (a .size) (a .index) in
-    let h = (rw (c .before .before .before .before .before .before .before .before .before .before .before .before .before .before .side-size .ensures) at (sym (c .before .before .before .before .before .before .before .before .before .before .before .before .check .ensures) ∙ ap checked (c .before .before .before .before .before .before .before .before .before .before .enum-told .given .1))) in let f = last-known (a .s) s (record { head = a .a; residues = a .residues .now }) (length (a .out .now)) h in let i = slot-room s (f .later .session-open .half .inside) in let n = few (a .s .terms) (f .later .session-open .terms .sides) in let l = last-counts (a .s) s (record { head = a .a; residues = a .residues .now }) (length (a .out .now)) f in rw (c .answer .ensures .0, c .answer .ensures .1, c .answer .ensures .2)
+    let h = (rw (c .before .before .before .before .before .before .before .before .before .before .before .before .before .before .side-size .ensures) at (sym (c .before .before .before .before .before .before .before .before .before .before .before .before .check .ensures) ∙ ap checked (c .before .before .before .before .before .before .before .before .before .before .enum-told .given .1))) in
+    let f = last-known (a .s) s (record { head = a .a; residues = a .residues .now }) (length (a .out .now)) h in
+    let i = slot-room s (f .later .session-open .half .inside) in
+    let n = few (a .s .terms) (f .later .session-open .terms .sides) in
+    let l = last-counts (a .s) s (record { head = a .a; residues = a .residues .now }) (length (a .out .now)) f in
+    rw (c .answer .ensures .0, c .answer .ensures .1, c .answer .ensures .2)
     (last-done (a .s) s (record { head = a .a; residues = a .residues .now }) (a .out .now) (write .result) h (n .mk-is) (omega (arith, l .0, n .side-is))
     (rw (slot-part (a .pool .now) (a .size) (a .index)) at (write .ensures .0))
     (slot-written (a .pool .now) _ (a .size) (a .index) (wordsSpent solver (a .s .terms)) i (λ ws e. spent-keeps solver (a .s .terms) ws (omega (arith, f .later .session-open .half .room, e)) ∙ e) (write .ensures .1))

@@ -21,28 +21,45 @@ times-requires-2 : tie.Need-times-requires-2
 times-requires-2 c κs = search needs
 
 add-from : tie.Need-add-from
-add-from c = let p = c .before .before .before .before .before .before .before .pre .0 in let f = few (c .before .before .before .before .before .before .before .args .t) (p .sides) in omega (arith, c .times2 .ensures, f .mp)
+add-from c =
+    let p = c .before .before .before .before .before .before .before .pre .0 in
+    let f = few (c .before .before .before .before .before .before .before .args .t) (p .sides) in
+    omega (arith, c .times2 .ensures, f .mp)
 
 times-requires-3 : tie.Need-times-requires-3
 times-requires-3 c κs = search needs
 
 add-from-2 : tie.Need-add-from-2
-add-from-2 c = let p = c .before .before .before .before .before .before .before .before .pre .0 in let f = few (c .before .before .before .before .before .before .before .before .args .t) (p .sides) in omega (arith, c .before .times2 .ensures, c .times3 .ensures, f .mp)
+add-from-2 c =
+    let p = c .before .before .before .before .before .before .before .before .pre .0 in
+    let f = few (c .before .before .before .before .before .before .before .before .args .t) (p .sides) in
+    omega (arith, c .before .times2 .ensures, c .times3 .ensures, f .mp)
 
 add-from-3 : tie.Need-add-from-3
-add-from-3 c = let p = c .before .before .before .before .before .before .before .before .pre .0 in let f = few (c .before .before .before .before .before .before .before .before .args .t) (p .sides) in omega (arith, c .before .before .before .times .ensures, c .before .times2 .ensures, c .times3 .ensures, f .mp, f .mm)
+add-from-3 c =
+    let p = c .before .before .before .before .before .before .before .before .pre .0 in
+    let f = few (c .before .before .before .before .before .before .before .before .args .t) (p .sides) in
+    omega (arith, c .before .before .before .times .ensures, c .before .times2 .ensures, c .times3 .ensures, f .mp, f .mm)
 
 add-end : tie.Need-add-end
-add-end c = let p = c .before .before .before .before .before .before .before .before .pre .0 in let f = few (c .before .before .before .before .before .before .before .before .args .t) (p .sides) in omega (arith, c .before .before .before .times .ensures, c .before .times2 .ensures, c .times3 .ensures, f .mp, f .mm)
+add-end c =
+    let p = c .before .before .before .before .before .before .before .before .pre .0 in
+    let f = few (c .before .before .before .before .before .before .before .before .args .t) (p .sides) in
+    omega (arith, c .before .before .before .times .ensures, c .before .times2 .ensures, c .times3 .ensures, f .mp, f .mm)
 
 slice-aggregate-write-sum : tie.Need-slice-aggregate-write-sum
 slice-aggregate-write-sum c =
     let a = c .before .before .before .before .before .before .before .before .before .args in
     let h = c .before .before .before .before .before .before .before .before .before .pre in
-    let p = h .0 in let f = few (a .t) (p .sides) in sym (length-take-le _ (a .residues .now) (omega (arith, c .before .before .before .before .times .ensures, h .2)))
+    let p = h .0 in
+    let f = few (a .t) (p .sides) in
+    sym (length-take-le _ (a .residues .now) (omega (arith, c .before .before .before .before .times .ensures, h .2)))
 
 mul-write-sum : tie.Need-mul-write-sum
-mul-write-sum c = let p = c .before .before .before .before .before .before .before .before .before .pre .0 in let f = few (c .before .before .before .before .before .before .before .before .before .args .t) (p .sides) in omega (arith, c .before .before .before .before .times .ensures, c .before .before .times2 .ensures, c .before .times3 .ensures, f .mp, f .mm)
+mul-write-sum c =
+    let p = c .before .before .before .before .before .before .before .before .before .pre .0 in
+    let f = few (c .before .before .before .before .before .before .before .before .before .args .t) (p .sides) in
+    omega (arith, c .before .before .before .before .times .ensures, c .before .before .times2 .ensures, c .before .times3 .ensures, f .mp, f .mm)
 
 sub-write-sum : tie.Need-sub-write-sum
 sub-write-sum c = search needs
@@ -53,7 +70,9 @@ part-write-sum-start c = search needs
 part-write-sum-end : tie.Need-part-write-sum-end
 part-write-sum-end c =
     let a = c .before .before .before .before .before .before .before .before .before .args in
-    let p = c .before .before .before .before .before .before .before .before .before .pre .0 in let f = few (a .t) (p .sides) in omega (arith, solver-size (a .t .m) (a .t .k) (a .t .p), f .kp-is, f .mk-is, p .half, c .before .before .before .before .times .ensures, c .before .before .times2 .ensures, c .before .times3 .ensures)
+    let p = c .before .before .before .before .before .before .before .before .before .pre .0 in
+    let f = few (a .t) (p .sides) in
+    omega (arith, solver-size (a .t .m) (a .t .k) (a .t .p), f .kp-is, f .mk-is, p .half, c .before .before .before .before .times .ensures, c .before .before .times2 .ensures, c .before .times3 .ensures)
 
 slice-aggregate-write-sum-2 : tie.Need-slice-aggregate-write-sum-2
 slice-aggregate-write-sum-2 c = search needs
@@ -64,7 +83,9 @@ write-sum-requires c κs =
     let h = c .before .before .before .before .before .before .before .before .before .before .before .pre in
     let times = c .before .before .before .before .before .before .times in
     let times2 = c .before .before .before .before .times2 in
-    let p = h .0 in let f = few (a .t) (p .sides) in (p .some-q, simp length-take (omega (arith, times .ensures, h .2)), simp (length-take, length-drop) (omega (arith, solver-size (a .t .m) (a .t .k) (a .t .p), f .kp-is, f .mk-is, p .half, times .ensures, times2 .ensures, c .before .before .before .times3 .ensures)), omega (arith, times .ensures, times2 .ensures, c .before .before .before .times3 .ensures, c .before .before .before .before .before .side-size .ensures, f .side-is, f .mp, f .mm, f .few))
+    let p = h .0 in
+    let f = few (a .t) (p .sides) in
+    (p .some-q, simp length-take (omega (arith, times .ensures, h .2)), simp (length-take, length-drop) (omega (arith, solver-size (a .t .m) (a .t .k) (a .t .p), f .kp-is, f .mk-is, p .half, times .ensures, times2 .ensures, c .before .before .before .times3 .ensures)), omega (arith, times .ensures, times2 .ensures, c .before .before .before .times3 .ensures, c .before .before .before .before .before .side-size .ensures, f .side-is, f .mp, f .mm, f .few))
 
 mul-write-sum-2 : tie.Need-mul-write-sum-2
 mul-write-sum-2 c = search needs
@@ -82,7 +103,9 @@ slice-aggregate-write-sum-3 : tie.Need-slice-aggregate-write-sum-3
 slice-aggregate-write-sum-3 c =
     let a = c .before .before .before .before .before .before .before .before .before .before .before .before .before .before .before .args in
     let h = c .before .before .before .before .before .before .before .before .before .before .before .before .before .before .before .pre in
-    let p = h .0 in let f = few (a .t) (p .sides) in sym (length-take-le _ (a .kept .now) (omega (arith, c .before .before .before .before .before .before .before .before .before .before .times .ensures, c .before .before .before .before .before .before .before .before .times2 .ensures, c .before .before .before .before .before .before .before .times3 .ensures, c .before .before .before .before .before .before .before .before .before .side-size .ensures, f .side-is, f .mp, f .mm, f .few, h .3)))
+    let p = h .0 in
+    let f = few (a .t) (p .sides) in
+    sym (length-take-le _ (a .kept .now) (omega (arith, c .before .before .before .before .before .before .before .before .before .before .times .ensures, c .before .before .before .before .before .before .before .before .times2 .ensures, c .before .before .before .before .before .before .before .times3 .ensures, c .before .before .before .before .before .before .before .before .before .side-size .ensures, f .side-is, f .mp, f .mm, f .few, h .3)))
 
 slice-aggregate-write-sum-4 : tie.Need-slice-aggregate-write-sum-4
 slice-aggregate-write-sum-4 c = search needs
@@ -94,7 +117,9 @@ write-sum-requires-2 c κs =
     let times = c .before .before .before .before .before .before .before .before .before .before .before .times in
     let times2 = c .before .before .before .before .before .before .before .before .before .times2 in
     let times3 = c .before .before .before .before .before .before .before .before .times3 in
-    let p = h .0 in let f = few (c .before .before .before .before .before .before .before .before .before .before .before .before .before .before .before .before .args .t) (p .sides) in (p .some-q, simp (length-take, length-drop) (omega (arith, times .ensures, times2 .ensures, times3 .ensures, side-size .ensures, f .side-is, f .mp, f .mm, f .few, h .2)), simp length-take (omega (arith, times .ensures, times2 .ensures, times3 .ensures, side-size .ensures, f .side-is, f .mp, f .mm, f .few, h .3)), omega (arith, times .ensures, times2 .ensures, times3 .ensures, side-size .ensures, f .side-is, f .mp, f .mm, f .few))
+    let p = h .0 in
+    let f = few (c .before .before .before .before .before .before .before .before .before .before .before .before .before .before .before .before .args .t) (p .sides) in
+    (p .some-q, simp (length-take, length-drop) (omega (arith, times .ensures, times2 .ensures, times3 .ensures, side-size .ensures, f .side-is, f .mp, f .mm, f .few, h .2)), simp length-take (omega (arith, times .ensures, times2 .ensures, times3 .ensures, side-size .ensures, f .side-is, f .mp, f .mm, f .few, h .3)), omega (arith, times .ensures, times2 .ensures, times3 .ensures, side-size .ensures, f .side-is, f .mp, f .mm, f .few))
 
 cast-solve : tie.Need-cast-solve
 cast-solve c = search needs
@@ -106,7 +131,11 @@ array-share-prefix-sum c =
     let times = c .before .before .before .before .before .before .before .before .before .before .before .before .before .before .times in
     let times2 = c .before .before .before .before .before .before .before .before .before .before .before .before .times2 in
     let times3 = c .before .before .before .before .before .before .before .before .before .before .before .times3 in
-    let p = c .before .before .before .before .before .before .before .before .before .before .before .before .before .before .before .before .before .before .before .pre .0 in let f = few (a .t) (p .sides) in let w = sum-room (a .t .q) (times .result) _ _ _ (c .before .before .before .before .before .before .before .write-sum .ensures) (omega (arith, times .ensures, times2 .ensures, times3 .ensures, side-size .ensures, f .side-is, f .mp, f .mm, f .few)) in omega (arith, w, times .ensures, times2 .ensures, times3 .ensures, side-size .ensures, f .side-is, f .mp, f .mm, f .few)
+    let p = c .before .before .before .before .before .before .before .before .before .before .before .before .before .before .before .before .before .before .before .pre .0 in
+    let f = few (a .t) (p .sides) in
+    let w = sum-room (a .t .q) (times .result) _ _ _ (c .before .before .before .before .before .before .before .write-sum .ensures)
+    (omega (arith, times .ensures, times2 .ensures, times3 .ensures, side-size .ensures, f .side-is, f .mp, f .mm, f .few)) in
+    omega (arith, w, times .ensures, times2 .ensures, times3 .ensures, side-size .ensures, f .side-is, f .mp, f .mm, f .few)
 
 slice-aggregate-solve : tie.Need-slice-aggregate-solve
 slice-aggregate-solve c =
@@ -115,7 +144,11 @@ slice-aggregate-solve c =
     let times = c .before .before .before .before .before .before .before .before .before .before .before .before .before .before .before .times in
     let times2 = c .before .before .before .before .before .before .before .before .before .before .before .before .before .times2 in
     let times3 = c .before .before .before .before .before .before .before .before .before .before .before .before .times3 in
-    let p = c .before .before .before .before .before .before .before .before .before .before .before .before .before .before .before .before .before .before .before .before .pre .0 in let f = few (a .t) (p .sides) in let w = sum-room (a .t .q) (times .result) _ _ _ (c .before .before .before .before .before .before .before .before .write-sum .ensures) (omega (arith, times .ensures, times2 .ensures, times3 .ensures, side-size .ensures, f .side-is, f .mp, f .mm, f .few)) in sym (length-take-le _ _ (omega (arith, w, times .ensures, times2 .ensures, times3 .ensures, side-size .ensures, f .side-is, f .mp, f .mm, f .few)))
+    let p = c .before .before .before .before .before .before .before .before .before .before .before .before .before .before .before .before .before .before .before .before .pre .0 in
+    let f = few (a .t) (p .sides) in
+    let w = sum-room (a .t .q) (times .result) _ _ _ (c .before .before .before .before .before .before .before .before .write-sum .ensures)
+    (omega (arith, times .ensures, times2 .ensures, times3 .ensures, side-size .ensures, f .side-is, f .mp, f .mm, f .few)) in
+    sym (length-take-le _ _ (omega (arith, w, times .ensures, times2 .ensures, times3 .ensures, side-size .ensures, f .side-is, f .mp, f .mm, f .few)))
 
 array-share-prefix-right : tie.Need-array-share-prefix-right
 array-share-prefix-right c =
@@ -124,7 +157,11 @@ array-share-prefix-right c =
     let times = c .before .before .before .before .before .before .before .before .before .before .before .before .before .before .before .times in
     let times2 = c .before .before .before .before .before .before .before .before .before .before .before .before .before .times2 in
     let times3 = c .before .before .before .before .before .before .before .before .before .before .before .before .times3 in
-    let p = c .before .before .before .before .before .before .before .before .before .before .before .before .before .before .before .before .before .before .before .before .pre .0 in let f = few (a .t) (p .sides) in let v = sum-room (a .t .q) (side-size .result) _ _ _ (c .before .before .before .write-sum2 .ensures) (omega (arith, times .ensures, times2 .ensures, times3 .ensures, side-size .ensures, f .side-is, f .mp, f .mm, f .few)) in omega (arith, v, times .ensures, times2 .ensures, times3 .ensures, side-size .ensures, f .side-is, f .mp, f .mm, f .few)
+    let p = c .before .before .before .before .before .before .before .before .before .before .before .before .before .before .before .before .before .before .before .before .pre .0 in
+    let f = few (a .t) (p .sides) in
+    let v = sum-room (a .t .q) (side-size .result) _ _ _ (c .before .before .before .write-sum2 .ensures)
+    (omega (arith, times .ensures, times2 .ensures, times3 .ensures, side-size .ensures, f .side-is, f .mp, f .mm, f .few)) in
+    omega (arith, v, times .ensures, times2 .ensures, times3 .ensures, side-size .ensures, f .side-is, f .mp, f .mm, f .few)
 
 slice-aggregate-solve-2 : tie.Need-slice-aggregate-solve-2
 slice-aggregate-solve-2 c =
@@ -133,7 +170,11 @@ slice-aggregate-solve-2 c =
     let times = c .before .before .before .before .before .before .before .before .before .before .before .before .before .before .before .before .times in
     let times2 = c .before .before .before .before .before .before .before .before .before .before .before .before .before .before .times2 in
     let times3 = c .before .before .before .before .before .before .before .before .before .before .before .before .before .times3 in
-    let p = c .before .before .before .before .before .before .before .before .before .before .before .before .before .before .before .before .before .before .before .before .before .pre .0 in let f = few (a .t) (p .sides) in let v = sum-room (a .t .q) (side-size .result) _ _ _ (c .before .before .before .before .write-sum2 .ensures) (omega (arith, times .ensures, times2 .ensures, times3 .ensures, side-size .ensures, f .side-is, f .mp, f .mm, f .few)) in sym (length-take-le _ _ (omega (arith, v, times .ensures, times2 .ensures, times3 .ensures, side-size .ensures, f .side-is, f .mp, f .mm, f .few)))
+    let p = c .before .before .before .before .before .before .before .before .before .before .before .before .before .before .before .before .before .before .before .before .before .pre .0 in
+    let f = few (a .t) (p .sides) in
+    let v = sum-room (a .t .q) (side-size .result) _ _ _ (c .before .before .before .before .write-sum2 .ensures)
+    (omega (arith, times .ensures, times2 .ensures, times3 .ensures, side-size .ensures, f .side-is, f .mp, f .mm, f .few)) in
+    sym (length-take-le _ _ (omega (arith, v, times .ensures, times2 .ensures, times3 .ensures, side-size .ensures, f .side-is, f .mp, f .mm, f .few)))
 
 solve-requires : tie.Need-solve-requires
 solve-requires c κs =
@@ -143,10 +184,16 @@ solve-requires c κs =
     let times = c .before .before .before .before .before .before .before .before .before .before .before .before .before .before .before .before .before .times in
     let times2 = c .before .before .before .before .before .before .before .before .before .before .before .before .before .before .before .times2 in
     let times3 = c .before .before .before .before .before .before .before .before .before .before .before .before .before .before .times3 in
-    let p = h .0 in let f = few (a .t) (p .sides) in let u = joint-sum (a .t) (a .slot .now) (a .residues .now) (times .result) _ (c .before .before .before .before .before .before .before .before .before .before .write-sum .ensures) (times .ensures) (ap (λ (n : ℕ). take n (a .residues .now)) (times .ensures))
+    let p = h .0 in
+    let f = few (a .t) (p .sides) in
+    let u = joint-sum (a .t) (a .slot .now) (a .residues .now) (times .result) _
+    (c .before .before .before .before .before .before .before .before .before .before .write-sum .ensures) (times .ensures)
+    (ap (λ (n : ℕ). take n (a .residues .now)) (times .ensures))
     (v-part (a .t) (a .slot .now) (7 + times2 .result + times3 .result + times .result) ((7 + times2 .result + times3 .result + times .result) + times .result) (omega (arith, times .ensures, times2 .ensures, times3 .ensures, f .kp-is, f .mk-is)) (omega (arith, times .ensures, times2 .ensures, times3 .ensures, f .mk-is))) in
-    let v = joint-side (a .t) (a .residues .now) (a .kept .now) (side-size .result) _ (c .before .before .before .before .before .write-sum2 .ensures) (side-size .ensures)
-    (tail-part (times .result) (a .residues .now) ∙ ap (λ (n : ℕ). drop n (a .residues .now)) (times .ensures)) (ap (λ (n : ℕ). take n (a .kept .now)) (side-size .ensures)) in (
+    let v = joint-side (a .t) (a .residues .now) (a .kept .now) (side-size .result) _ (c .before .before .before .before .before .write-sum2 .ensures)
+    (side-size .ensures)
+    (tail-part (times .result) (a .residues .now) ∙ ap (λ (n : ℕ). drop n (a .residues .now)) (times .ensures))
+    (ap (λ (n : ℕ). take n (a .kept .now)) (side-size .ensures)) in (
       h .1,
       p .small-q,
       f .few,
@@ -165,10 +212,16 @@ returns c =
     let times = c .before .before .before .before .before .before .before .before .before .before .before .before .before .before .before .before .before .before .before .before .times in
     let times2 = c .before .before .before .before .before .before .before .before .before .before .before .before .before .before .before .before .before .before .times2 in
     let times3 = c .before .before .before .before .before .before .before .before .before .before .before .before .before .before .before .before .before .times3 in
-    let p = c .before .before .before .before .before .before .before .before .before .before .before .before .before .before .before .before .before .before .before .before .before .before .before .before .before .pre .0 in let f = few (a .t) (p .sides) in let u = joint-sum (a .t) (a .slot .now) (a .residues .now) (times .result) _ (c .before .before .before .before .before .before .before .before .before .before .before .before .before .write-sum .ensures) (times .ensures) (ap (λ (n : ℕ). take n (a .residues .now)) (times .ensures))
+    let p = c .before .before .before .before .before .before .before .before .before .before .before .before .before .before .before .before .before .before .before .before .before .before .before .before .before .pre .0 in
+    let f = few (a .t) (p .sides) in
+    let u = joint-sum (a .t) (a .slot .now) (a .residues .now) (times .result) _
+    (c .before .before .before .before .before .before .before .before .before .before .before .before .before .write-sum .ensures)
+    (times .ensures) (ap (λ (n : ℕ). take n (a .residues .now)) (times .ensures))
     (v-part (a .t) (a .slot .now) (7 + times2 .result + times3 .result + times .result) ((7 + times2 .result + times3 .result + times .result) + times .result) (omega (arith, times .ensures, times2 .ensures, times3 .ensures, f .kp-is, f .mk-is)) (omega (arith, times .ensures, times2 .ensures, times3 .ensures, f .mk-is))) in
-    let v = joint-side (a .t) (a .residues .now) (a .kept .now) (side-size .result) _ (c .before .before .before .before .before .before .before .before .write-sum2 .ensures) (side-size .ensures)
-    (tail-part (times .result) (a .residues .now) ∙ ap (λ (n : ℕ). drop n (a .residues .now)) (times .ensures)) (ap (λ (n : ℕ). take n (a .kept .now)) (side-size .ensures)) in
+    let v = joint-side (a .t) (a .residues .now) (a .kept .now) (side-size .result) _
+    (c .before .before .before .before .before .before .before .before .write-sum2 .ensures) (side-size .ensures)
+    (tail-part (times .result) (a .residues .now) ∙ ap (λ (n : ℕ). drop n (a .residues .now)) (times .ensures))
+    (ap (λ (n : ℕ). take n (a .kept .now)) (side-size .ensures)) in
     (rw u at (c .before .before .solve .ensures .0), rw (u, v) at (c .before .before .solve .ensures .1))
 
 pub write-t-spec : {M : Type 1} → statement M

@@ -22,7 +22,9 @@ slice-aggregate-all-below : tie.Need-slice-aggregate-all-below
 slice-aggregate-all-below c =
     let a = c .before .before .before .before .before .before .args in
     let h = c .before .before .before .before .before .before .pre in
-    let f = few (a .t) (h .0) in let s : c .before .before .side-size .result ≡ a .t .m = c .before .before .side-size .ensures ∙ f .side-is in sym (length-take-le _ _ (omega (arith, s, f .few, h .2)))
+    let f = few (a .t) (h .0) in
+    let s : c .before .before .side-size .result ≡ a .t .m = c .before .before .side-size .ensures ∙ f .side-is in
+    sym (length-take-le _ _ (omega (arith, s, f .few, h .2)))
 
 all-below-requires : tie.Need-all-below-requires
 all-below-requires c κs = search needs
@@ -35,7 +37,9 @@ worst-requires c κs = search needs
 
 returns : tie.Need-returns
 unfolding laterWords keptTests
-returns c = also _ _ (c .worst .ensures) (c .before .before .before .before .check-words .ensures) (rw (c .before .before .all-below .ensures, c .before .before .before .before .before .side-size .ensures) at (c .before .need .ensures))
+returns c =
+    also _ _ (c .worst .ensures) (c .before .before .before .before .check-words .ensures)
+    (rw (c .before .before .all-below .ensures, c .before .before .before .before .before .side-size .ensures) at (c .before .need .ensures))
 
 pub check-held-spec : {M : Type 1} → statement M
 check-held-spec =

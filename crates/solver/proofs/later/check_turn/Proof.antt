@@ -23,7 +23,9 @@ worst-requires-2 c κs = search needs
 
 returns : tie.Need-returns
 unfolding turnTests
-returns c = also (_ ∷ []) _ (c .worst2 .ensures) (c .before .before .before .before .need .ensures) (also (_ ∷ []) _ (c .before .worst .ensures) (c .before .before .before .need2 .ensures) (c .before .before .need3 .ensures))
+returns c =
+    also (_ ∷ []) _ (c .worst2 .ensures) (c .before .before .before .before .need .ensures)
+    (also (_ ∷ []) _ (c .before .worst .ensures) (c .before .before .before .need2 .ensures) (c .before .before .need3 .ensures))
 
 pub check-turn-spec : {M : Type 1} → statement M
 check-turn-spec =

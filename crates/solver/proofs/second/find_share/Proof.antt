@@ -20,10 +20,16 @@ times-requires-2 : tie.Need-times-requires-2
 times-requires-2 c κs = search needs
 
 add-middle : tie.Need-add-middle
-add-middle c = let p = c .before .before .before .before .before .pre .0 in let f = few (c .before .before .before .before .before .args .t) (p .sides) in omega (arith, c .before .times .ensures, c .times2 .ensures, f .mp)
+add-middle c =
+    let p = c .before .before .before .before .before .pre .0 in
+    let f = few (c .before .before .before .before .before .args .t) (p .sides) in
+    omega (arith, c .before .times .ensures, c .times2 .ensures, f .mp)
 
 add-end : tie.Need-add-end
-add-end c = let p = c .before .before .before .before .before .pre .0 in let f = few (c .before .before .before .before .before .args .t) (p .sides) in omega (arith, c .before .times .ensures, c .times2 .ensures, f .mp)
+add-end c =
+    let p = c .before .before .before .before .before .pre .0 in
+    let f = few (c .before .before .before .before .before .args .t) (p .sides) in
+    omega (arith, c .before .times .ensures, c .times2 .ensures, f .mp)
 
 cast-n : tie.Need-cast-n
 cast-n c = search needs
@@ -35,7 +41,9 @@ slice-aggregate-write-share : tie.Need-slice-aggregate-write-share
 slice-aggregate-write-share c =
     let a = c .before .before .before .before .before .before .before .before .args in
     let h = c .before .before .before .before .before .before .before .before .pre in
-    let p = h .0 in let f = few (a .t) (p .sides) in sym (length-take-le _ (a .residues .now) (omega (arith, c .before .before .before .before .times .ensures, h .1)))
+    let p = h .0 in
+    let f = few (a .t) (p .sides) in
+    sym (length-take-le _ (a .residues .now) (omega (arith, c .before .before .before .before .times .ensures, h .1)))
 
 sub-write-share : tie.Need-sub-write-share
 sub-write-share c = search needs
@@ -46,7 +54,9 @@ part-write-share-start c = search needs
 part-write-share-end : tie.Need-part-write-share-end
 part-write-share-end c =
     let a = c .before .before .before .before .before .before .before .before .args in
-    let p = c .before .before .before .before .before .before .before .before .pre .0 in let f = few (a .t) (p .sides) in omega (arith, solver-size (a .t .m) (a .t .k) (a .t .p), f .kp-is, c .before .before .before .before .times .ensures, c .before .before .before .times2 .ensures, p .half)
+    let p = c .before .before .before .before .before .before .before .before .pre .0 in
+    let f = few (a .t) (p .sides) in
+    omega (arith, solver-size (a .t .m) (a .t .k) (a .t .p), f .kp-is, c .before .before .before .before .times .ensures, c .before .before .before .times2 .ensures, p .half)
 
 mul-write-share : tie.Need-mul-write-share
 mul-write-share c = search needs
@@ -72,7 +82,9 @@ part-write-share-start-3 c = search needs
 part-write-share-end-3 : tie.Need-part-write-share-end-3
 part-write-share-end-3 c =
     let a = c .before .before .before .before .before .before .before .before .before .before .args in
-    let p = c .before .before .before .before .before .before .before .before .before .before .pre .0 in let f = few (a .t) (p .sides) in omega (arith, solver-size (a .t .m) (a .t .k) (a .t .p), f .kp-is, c .before .before .before .before .before .before .times .ensures, c .before .before .before .before .before .times2 .ensures, p .half)
+    let p = c .before .before .before .before .before .before .before .before .before .before .pre .0 in
+    let f = few (a .t) (p .sides) in
+    omega (arith, solver-size (a .t .m) (a .t .k) (a .t .p), f .kp-is, c .before .before .before .before .before .before .times .ensures, c .before .before .before .before .before .times2 .ensures, p .half)
 
 write-share-requires : tie.Need-write-share-requires
 write-share-requires c κs =
@@ -88,7 +100,8 @@ write-share-requires c κs =
         few-k = omega (arith, f .few);
         few-y = omega (arith, f .mp);
         full-x = simp length-take (omega (arith, times .ensures, times2 .ensures, h .1));
-        full-y = simp (length-take, length-drop) (omega (arith, times .ensures, times2 .ensures, solver-size (a .t .m) (a .t .k) (a .t .p), f .kp-is, p .half));
+        full-y = simp (length-take, length-drop)
+            (omega (arith, times .ensures, times2 .ensures, solver-size (a .t .m) (a .t .k) (a .t .p), f .kp-is, p .half));
         room = h .2;
       },
       simp (length-take, length-drop) (omega (arith, times .ensures, times2 .ensures, h .1)),
@@ -104,7 +117,9 @@ returns c =
     let a = c .before .before .before .before .before .before .before .before .before .before .before .before .before .before .before .args in
     let times = c .before .before .before .before .before .before .before .before .before .before .before .times in
     let times2 = c .before .before .before .before .before .before .before .before .before .before .times2 in
-    let p = c .before .before .before .before .before .before .before .before .before .before .before .before .before .before .before .pre .0 in let f = few (a .t) (p .sides) in share-found (a .t .q) (a .t .m) (a .t .p) (columns (a .t .m) (a .t .p)) _ _ _ _ (a .out .now) (c .before .before .write-share .ensures)
+    let p = c .before .before .before .before .before .before .before .before .before .before .before .before .before .before .before .pre .0 in
+    let f = few (a .t) (p .sides) in
+    share-found (a .t .q) (a .t .m) (a .t .p) (columns (a .t .m) (a .t .p)) _ _ _ _ (a .out .now) (c .before .before .write-share .ensures)
     (ap (λ (n : ℕ). take n (a .residues .now)) (times .ensures))
     (y0-part (a .t) (a .slot .now) 7 (7 + times2 .result) refl (omega (arith, times2 .ensures, f .kp-is)))
     (tail-part (times .result) (a .residues .now) ∙ ap (λ (n : ℕ). drop n (a .residues .now)) (times .ensures))

@@ -29,13 +29,15 @@ write-cols-requires : tie.Need-write-cols-requires
 unfolding columns sideSize
 write-cols-requires c κs =
     let h = c .before .before .before .before .before .pre in
-    let f = few (c .before .before .before .before .before .args .t) (h .0) in (omega (arith, f .wide), omega (arith, h .1), omega (arith, f .side-is, f .few))
+    let f = few (c .before .before .before .before .before .args .t) (h .0) in
+    (omega (arith, f .wide), omega (arith, h .1), omega (arith, f .side-is, f .few))
 
 returns : tie.Need-returns
 unfolding columns zeros tabulate
 returns c =
     let a = c .before .before .before .before .before .before .before .args in
-    let f = few (a .t) (c .before .before .before .before .before .before .before .pre .0) in kept-column (a .t .m) (a .t .p) (columns (a .t .m) (a .t .p)) (a .share .now) (c .before .write-cols .ensures) refl (f .whole)
+    let f = few (a .t) (c .before .before .before .before .before .before .before .pre .0) in
+    kept-column (a .t .m) (a .t .p) (columns (a .t .m) (a .t .p)) (a .share .now) (c .before .write-cols .ensures) refl (f .whole)
 
 pub last-column-spec : {M : Type 1} → statement M
 last-column-spec =

@@ -36,25 +36,35 @@ unfolding solverSecond solverSecondTests receiving messageSize messageLayout
 returns c =
     let a = c .before .before .before .before .before .before .before .before .before .args in
     let s = slotAt (a .pool .now) (a .size) (a .index) in
-    rw (c .refused .ensures .0, c .refused .ensures .1, c .refused .ensures .2, c .before .enum-told2 .given .1) (sym (refused-leaves (a .s) s [] (a .out .now) [] _ (solverSecondEffect (a .s) s (record { head = a .a; residues = a .residues .now })) (rw (c .before .before .before .before .times .ensures) at (sym (c .before .before .before .check .ensures) ∙ ap checked (c .before .enum-told2 .given .1)))))
+    rw (c .refused .ensures .0, c .refused .ensures .1, c .refused .ensures .2, c .before .enum-told2 .given .1)
+    (sym (refused-leaves (a .s) s [] (a .out .now) [] _ (solverSecondEffect (a .s) s (record { head = a .a; residues = a .residues .now })) (rw (c .before .before .before .before .times .ensures) at (sym (c .before .before .before .check .ensures) ∙ ap checked (c .before .enum-told2 .given .1)))))
 
 mul-at : tie.Need-mul-at
 mul-at c =
     let a = c .before .before .before .before .before .before .before .before .args in
     let s = slotAt (a .pool .now) (a .size) (a .index) in
-    let h = (rw (c .before .before .before .times .ensures) at (sym (c .before .before .check .ensures) ∙ ap checked (c .enum-told .given .1))) in let f = second-known (a .s) s (record { head = a .a; residues = a .residues .now }) (length (a .out .now)) h in let i = slot-room s (f .later .session-open .half .inside) in search needs
+    let h = (rw (c .before .before .before .times .ensures) at (sym (c .before .before .check .ensures) ∙ ap checked (c .enum-told .given .1))) in
+    let f = second-known (a .s) s (record { head = a .a; residues = a .residues .now }) (length (a .out .now)) h in
+    let i = slot-room s (f .later .session-open .half .inside) in
+    search needs
 
 add-end : tie.Need-add-end
 add-end c =
     let a = c .before .before .before .before .before .before .before .before .args in
     let s = slotAt (a .pool .now) (a .size) (a .index) in
-    let h = (rw (c .before .before .before .times .ensures) at (sym (c .before .before .check .ensures) ∙ ap checked (c .enum-told .given .1))) in let f = second-known (a .s) s (record { head = a .a; residues = a .residues .now }) (length (a .out .now)) h in let i = slot-room s (f .later .session-open .half .inside) in search needs
+    let h = (rw (c .before .before .before .times .ensures) at (sym (c .before .before .check .ensures) ∙ ap checked (c .enum-told .given .1))) in
+    let f = second-known (a .s) s (record { head = a .a; residues = a .residues .now }) (length (a .out .now)) h in
+    let i = slot-room s (f .later .session-open .half .inside) in
+    search needs
 
 mul-write : tie.Need-mul-write
 mul-write c =
     let a = c .before .before .before .before .before .before .before .before .args in
     let s = slotAt (a .pool .now) (a .size) (a .index) in
-    let h = (rw (c .before .before .before .times .ensures) at (sym (c .before .before .check .ensures) ∙ ap checked (c .enum-told .given .1))) in let f = second-known (a .s) s (record { head = a .a; residues = a .residues .now }) (length (a .out .now)) h in let i = slot-room s (f .later .session-open .half .inside) in search needs
+    let h = (rw (c .before .before .before .times .ensures) at (sym (c .before .before .check .ensures) ∙ ap checked (c .enum-told .given .1))) in
+    let f = second-known (a .s) s (record { head = a .a; residues = a .residues .now }) (length (a .out .now)) h in
+    let i = slot-room s (f .later .session-open .half .inside) in
+    search needs
 
 sub-write : tie.Need-sub-write
 sub-write c = search needs
@@ -66,13 +76,20 @@ part-write-end : tie.Need-part-write-end
 part-write-end c =
     let a = c .before .before .before .before .before .before .before .before .args in
     let s = slotAt (a .pool .now) (a .size) (a .index) in
-    let h = (rw (c .before .before .before .times .ensures) at (sym (c .before .before .check .ensures) ∙ ap checked (c .enum-told .given .1))) in let f = second-known (a .s) s (record { head = a .a; residues = a .residues .now }) (length (a .out .now)) h in let i = slot-room s (f .later .session-open .half .inside) in search needs
+    let h = (rw (c .before .before .before .times .ensures) at (sym (c .before .before .check .ensures) ∙ ap checked (c .enum-told .given .1))) in
+    let f = second-known (a .s) s (record { head = a .a; residues = a .residues .now }) (length (a .out .now)) h in
+    let i = slot-room s (f .later .session-open .half .inside) in
+    search needs
 
 write-requires : tie.Need-write-requires
 write-requires c κs =
     let a = c .before .before .before .before .before .before .before .before .before .before .args in
     let s = slotAt (a .pool .now) (a .size) (a .index) in
-    let h = (rw (c .before .before .before .before .before .times .ensures) at (sym (c .before .before .before .before .check .ensures) ∙ ap checked (c .before .before .enum-told .given .1))) in let f = second-known (a .s) s (record { head = a .a; residues = a .residues .now }) (length (a .out .now)) h in let i = slot-room s (f .later .session-open .half .inside) in let n = second-counts (a .s) s (record { head = a .a; residues = a .residues .now }) (length (a .out .now)) f in (later-shape 2 (a .s) s (record { head = a .a; residues = a .residues .now }) _ _ _ f (slot-part-length (a .pool .now) (a .size) (a .index) i), n .0, n .1)
+    let h = (rw (c .before .before .before .before .before .times .ensures) at (sym (c .before .before .before .before .check .ensures) ∙ ap checked (c .before .before .enum-told .given .1))) in
+    let f = second-known (a .s) s (record { head = a .a; residues = a .residues .now }) (length (a .out .now)) h in
+    let i = slot-room s (f .later .session-open .half .inside) in
+    let n = second-counts (a .s) s (record { head = a .a; residues = a .residues .now }) (length (a .out .now)) f in
+    (later-shape 2 (a .s) s (record { head = a .a; residues = a .residues .now }) _ _ _ f (slot-part-length (a .pool .now) (a .size) (a .index) i), n .0, n .1)
 
 same-length : tie.Need-same-length
 same-length c = search needs
@@ -81,7 +98,12 @@ returns-2 : tie.Need-returns-2
 returns-2 c =
     let a = c .before .before .before .before .before .before .before .before .before .before .before .before .before .args in
     let s = slotAt (a .pool .now) (a .size) (a .index) in
-    let h = (rw (c .before .before .before .before .before .before .before .before .times .ensures) at (sym (c .before .before .before .before .before .before .before .check .ensures) ∙ ap checked (c .before .before .before .before .before .enum-told .given .1))) in let f = second-known (a .s) s (record { head = a .a; residues = a .residues .now }) (length (a .out .now)) h in let i = slot-room s (f .later .session-open .half .inside) in second-done (a .s) s (record { head = a .a; residues = a .residues .now }) (a .out .now) h (f .later .session-open .half .inside) (few (a .s .terms) (f .later .session-open .terms .sides) .mk-is) (second-counts (a .s) s (record { head = a .a; residues = a .residues .now }) (length (a .out .now)) f .0)
+    let h = (rw (c .before .before .before .before .before .before .before .before .times .ensures) at (sym (c .before .before .before .before .before .before .before .check .ensures) ∙ ap checked (c .before .before .before .before .before .enum-told .given .1))) in
+    let f = second-known (a .s) s (record { head = a .a; residues = a .residues .now }) (length (a .out .now)) h in
+    let i = slot-room s (f .later .session-open .half .inside) in
+    second-done (a .s) s (record { head = a .a; residues = a .residues .now }) (a .out .now) h (f .later .session-open .half .inside)
+    (few (a .s .terms) (f .later .session-open .terms .sides) .mk-is)
+    (second-counts (a .s) s (record { head = a .a; residues = a .residues .now }) (length (a .out .now)) f .0)
     (rw (slot-part (a .pool .now) (a .size) (a .index)) at (c .before .before .write .ensures .0))
     (rw (slot-part (a .pool .now) (a .size) (a .index)) at (c .before .before .write .ensures .1))
 

@@ -18,11 +18,13 @@ is-free-requires-2 c κs = search needs
 
 returns-2 : tie.Need-returns-2
 unfolding inOrder markTests
-returns-2 c = simp (holds (c .before .before .before .is-free .ensures) (c .before .before .if1 .left), fails (c .before .is-free2 .ensures) (c .if2 .taken))
+returns-2 c =
+    simp (holds (c .before .before .before .is-free .ensures) (c .before .before .if1 .left), fails (c .before .is-free2 .ensures) (c .if2 .taken))
 
 returns-3 : tie.Need-returns-3
 unfolding inOrder markTests
-returns-3 c = simp (holds (c .before .before .before .is-free .ensures) (c .before .before .if1 .left), holds (c .before .is-free2 .ensures) (c .if2 .left))
+returns-3 c =
+    simp (holds (c .before .before .before .is-free .ensures) (c .before .before .if1 .left), holds (c .before .is-free2 .ensures) (c .if2 .left))
 
 pub marks-spec : {M : Type 1} → statement M
 marks-spec = tie.close (tie.spec is-free-requires returns is-free-requires-2 returns-2 returns-3)

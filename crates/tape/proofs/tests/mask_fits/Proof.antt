@@ -6,7 +6,7 @@ use lib.ListN.{drop, length-take}
 use borrow.Author.Needs.{needs}
 use Rattle.algebra.specs.Elimination.{regular}
 use Rattle.tape.proofs.Known.{square-few}
-use Rattle.tape.proofs.Systems.{mask-buffer, mask-residues}
+use Rattle.halves.proofs.Systems.{mask-buffer, mask-residues}
 use Rattle.checks.proofs.Written.{tail-part}
 use Rattle.tape.proofs.tests.mask_fits.Statement.{statement}
 use Rattle.tape.proofs.tests.mask_fits.Tie as tie
@@ -36,10 +36,12 @@ draw-requires c κs =
     (h .0 .some-q, rw (tail-part (a .at) (a .words .now), c .before .before .times .ensures) (h .2), omega (arith, c .before .before .times .ensures, square-few (a .n) (h .0 .few-n)))
 
 array-share-prefix-mask : tie.Need-array-share-prefix-mask
-array-share-prefix-mask c = omega (arith, c .before .before .before .before .times .ensures, square-few (c .before .before .before .before .before .before .args .n) (c .before .before .before .before .before .before .pre .0 .few-n))
+array-share-prefix-mask c =
+    omega (arith, c .before .before .before .before .times .ensures, square-few (c .before .before .before .before .before .before .args .n) (c .before .before .before .before .before .before .pre .0 .few-n))
 
 slice-aggregate-has-inverse : tie.Need-slice-aggregate-has-inverse
-slice-aggregate-has-inverse c = simp length-take (omega (arith, c .before .before .before .before .before .times .ensures, square-few (c .before .before .before .before .before .before .before .args .n) (c .before .before .before .before .before .before .before .pre .0 .few-n)))
+slice-aggregate-has-inverse c =
+    simp length-take (omega (arith, c .before .before .before .before .before .times .ensures, square-few (c .before .before .before .before .before .before .before .args .n) (c .before .before .before .before .before .before .before .pre .0 .few-n)))
 
 has-inverse-requires : tie.Need-has-inverse-requires
 has-inverse-requires c κs =
@@ -52,7 +54,8 @@ returns : tie.Need-returns
 returns c =
     let a = c .before .before .before .before .before .before .before .before .args in
     let times = c .before .before .before .before .before .before .times in
-    c .has-inverse .ensures ∙ ap (regular (a .q) (a .n)) (rw (times .ensures) (mask-buffer (a .q) (a .n * a .n) (drop (a .at) (a .words .now)) _ _ (c .before .before .before .before .before .before .before .before .pre .2) (rw (tail-part (a .at) (a .words .now), times .ensures) at (c .before .before .before .draw .ensures .1))))
+    c .has-inverse .ensures ∙ ap (regular (a .q) (a .n))
+    (rw (times .ensures) (mask-buffer (a .q) (a .n * a .n) (drop (a .at) (a .words .now)) _ _ (c .before .before .before .before .before .before .before .before .pre .2) (rw (tail-part (a .at) (a .words .now), times .ensures) at (c .before .before .before .draw .ensures .1))))
 
 pub mask-fits-spec : {M : Type 1} → statement M
 mask-fits-spec =

@@ -24,7 +24,9 @@ returns c = simp (sym (c .before .before .product-shape .ensures), c .enum-told2
 left-size-requires : tie.Need-left-size-requires
 left-size-requires c κs =
     let a = c .before .before .before .args in
-    let s = shape-masks (a .tape) (a .q) (a .m) (a .k) (a .p) (sym (c .before .before .product-shape .ensures) ∙ ap checked (c .enum-told .given .1)) in (s .few-mk, s .few-mp)
+    let s = shape-masks (a .tape) (a .q) (a .m) (a .k) (a .p)
+    (sym (c .before .before .product-shape .ensures) ∙ ap checked (c .enum-told .given .1)) in
+    (s .few-mk, s .few-mp)
 
 check-place-requires : tie.Need-check-place-requires
 check-place-requires c κs = search needs
@@ -37,19 +39,23 @@ enum-told-4 c = search needs
 
 returns-2 : tie.Need-returns-2
 unfolding dealNumbers
-returns-2 c = simp (sym (c .before .before .before .before .before .before .product-shape .ensures) ∙ ap checked (c .before .before .before .before .enum-told .given .1), sym (rw (c .before .before .before .left-size .ensures) at (c .before .before .check-place .ensures)), c .enum-told4 .given .1)
+returns-2 c =
+    simp (sym (c .before .before .before .before .before .before .product-shape .ensures) ∙ ap checked (c .before .before .before .before .enum-told .given .1), sym (rw (c .before .before .before .left-size .ensures) at (c .before .before .check-place .ensures)), c .enum-told4 .given .1)
 
 right-size-requires : tie.Need-right-size-requires
 right-size-requires c κs =
     let a = c .before .before .before .before .before .before .before .args in
-    let s = shape-masks (a .tape) (a .q) (a .m) (a .k) (a .p) (sym (c .before .before .before .before .before .before .product-shape .ensures) ∙ ap checked (c .before .before .before .before .enum-told .given .1)) in (s .few-kp, s .few-mp)
+    let s = shape-masks (a .tape) (a .q) (a .m) (a .k) (a .p)
+    (sym (c .before .before .before .before .before .before .product-shape .ensures) ∙ ap checked (c .before .before .before .before .enum-told .given .1)) in
+    (s .few-kp, s .few-mp)
 
 check-place-requires-2 : tie.Need-check-place-requires-2
 check-place-requires-2 c κs = search needs
 
 returns-3 : tie.Need-returns-3
 unfolding dealNumbers
-returns-3 c = simp (sym (c .before .before .before .before .before .before .before .before .product-shape .ensures) ∙ ap checked (c .before .before .before .before .before .before .enum-told .given .1), sym (rw (c .before .before .before .before .before .left-size .ensures) at (c .before .before .before .before .check-place .ensures)) ∙ ap checked (c .before .before .enum-told3 .given .1), sym (rw (c .before .right-size .ensures) at (c .check-place2 .ensures))) (after-last _)
+returns-3 c =
+    simp (sym (c .before .before .before .before .before .before .before .before .product-shape .ensures) ∙ ap checked (c .before .before .before .before .before .before .enum-told .given .1), sym (rw (c .before .before .before .before .before .left-size .ensures) at (c .before .before .before .before .check-place .ensures)) ∙ ap checked (c .before .before .enum-told3 .given .1), sym (rw (c .before .right-size .ensures) at (c .check-place2 .ensures))) (after-last _)
 
 pub product-numbers-spec : {M : Type 1} → statement M
 product-numbers-spec =

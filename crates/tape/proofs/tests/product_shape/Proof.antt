@@ -19,15 +19,18 @@ sides-fit-requires c κs = search needs
 
 returns-2 : tie.Need-returns-2
 unfolding inOrder shapeTests fieldFits
-returns-2 c = simp (holds (c .before .before .before .modulus-fits .ensures) (c .before .before .if1 .left), fails (c .before .sides-fit .ensures) (c .if2 .taken))
+returns-2 c =
+    simp (holds (c .before .before .before .modulus-fits .ensures) (c .before .before .if1 .left), fails (c .before .sides-fit .ensures) (c .if2 .taken))
 
 returns-3 : tie.Need-returns-3
 unfolding inOrder shapeTests fieldFits
-returns-3 c = simp (holds (c .before .before .before .before .modulus-fits .ensures) (c .before .before .before .if1 .left), holds (c .before .before .sides-fit .ensures) (c .before .if2 .left), lt-leb _ _ (c .if3 .taken))
+returns-3 c =
+    simp (holds (c .before .before .before .before .modulus-fits .ensures) (c .before .before .before .if1 .left), holds (c .before .before .sides-fit .ensures) (c .before .if2 .left), lt-leb _ _ (c .if3 .taken))
 
 returns-4 : tie.Need-returns-4
 unfolding inOrder shapeTests fieldFits
-returns-4 c = simp (holds (c .before .before .before .before .modulus-fits .ensures) (c .before .before .before .if1 .left), holds (c .before .before .sides-fit .ensures) (c .before .if2 .left), le-leb _ _ (c .if3 .left))
+returns-4 c =
+    simp (holds (c .before .before .before .before .modulus-fits .ensures) (c .before .before .before .if1 .left), holds (c .before .before .sides-fit .ensures) (c .before .if2 .left), le-leb _ _ (c .if3 .left))
 
 pub product-shape-spec : {M : Type 1} → statement M
 product-shape-spec =

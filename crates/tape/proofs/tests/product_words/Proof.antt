@@ -37,14 +37,16 @@ returns-2 : tie.Need-returns-2
 unfolding inOrder dealWords drawnTests
 returns-2 c =
     let a = c .before .before .before .before .before .before .before .before .args in
-    let few = dry-few (a .q) _ (a .words .now) (sym (rw (c .before .before .before .masks-size .ensures, product-count (a .tape) (a .q) (a .m) (a .k) (a .p) (a .words .now)) at (c .before .before .read .ensures)) ∙ c .enum-told4 .given .1) in
+    let few = dry-few (a .q) _ (a .words .now)
+    (sym (rw (c .before .before .before .masks-size .ensures, product-count (a .tape) (a .q) (a .m) (a .k) (a .p) (a .words .now)) at (c .before .before .read .ensures)) ∙ c .enum-told4 .given .1) in
     simp (sym (c .before .before .before .before .before .before .marks .ensures) ∙ ap checked (c .before .before .before .before .enum-told .given .1), few)
 
 returns-3 : tie.Need-returns-3
 unfolding inOrder dealWords drawnTests
 returns-3 c =
     let a = c .before .before .before .before .before .before .before .before .args in
-    let many = enough-many (a .q) _ (a .words .now) (sym (rw (c .before .before .before .masks-size .ensures, product-count (a .tape) (a .q) (a .m) (a .k) (a .p) (a .words .now)) at (c .before .before .read .ensures)) ∙ c .enum-told3 .given .1) .0 in
+    let many = enough-many (a .q) _ (a .words .now)
+    (sym (rw (c .before .before .before .masks-size .ensures, product-count (a .tape) (a .q) (a .m) (a .k) (a .p) (a .words .now)) at (c .before .before .read .ensures)) ∙ c .enum-told3 .given .1) .0 in
     simp (sym (c .before .before .before .before .before .before .marks .ensures) ∙ ap checked (c .before .before .before .before .enum-told .given .1), many)
 
 pub product-words-spec : {M : Type 1} → statement M

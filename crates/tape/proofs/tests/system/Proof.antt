@@ -8,7 +8,7 @@ use Rattle.checks.specs.InOrder.{checked}
 use Rattle.protocol.specs.Bounds.{system}
 use Rattle.protocol.specs.Deal.{systemRequest}
 use Rattle.tape.proofs.Sorted.{deal-judged}
-use Rattle.tape.proofs.Words.{slot-status}
+use Rattle.halves.proofs.Words.{slot-status}
 use Rattle.tape.proofs.Known.{numbers-passed, shape-mask, blinder-count}
 use Rattle.tape.proofs.tests.system.Statement.{statement}
 use Rattle.tape.proofs.tests.system.Tie as tie
@@ -30,44 +30,51 @@ returns c =
 mul-at : tie.Need-mul-at
 mul-at c =
     let a = c .before .before .before .before .before .before .args in
-    let s = numbers-passed system (a .tape .0) (a .q) (a .n) (a .n) (a .n + 1) (length (a .first .now)) (length (a .second .now)) (a .size) (a .index) (sym (c .before .before .system-numbers .ensures) ∙ ap checked (c .enum-told .given .1)) in
+    let s = numbers-passed system (a .tape .0) (a .q) (a .n) (a .n) (a .n + 1) (length (a .first .now)) (length (a .second .now)) (a .size) (a .index)
+    (sym (c .before .before .system-numbers .ensures) ∙ ap checked (c .enum-told .given .1)) in
     omega (arith, s .left .inside)
 
 mul-system-words : tie.Need-mul-system-words
 mul-system-words c =
     let a = c .before .before .before .before .before .before .args in
-    let s = numbers-passed system (a .tape .0) (a .q) (a .n) (a .n) (a .n + 1) (length (a .first .now)) (length (a .second .now)) (a .size) (a .index) (sym (c .before .before .system-numbers .ensures) ∙ ap checked (c .enum-told .given .1)) in
+    let s = numbers-passed system (a .tape .0) (a .q) (a .n) (a .n) (a .n + 1) (length (a .first .now)) (length (a .second .now)) (a .size) (a .index)
+    (sym (c .before .before .system-numbers .ensures) ∙ ap checked (c .enum-told .given .1)) in
     search needs
 
 shared-slice-read-system-words : tie.Need-shared-slice-read-system-words
 shared-slice-read-system-words c =
     let a = c .before .before .before .before .before .before .before .args in
-    let s = numbers-passed system (a .tape .0) (a .q) (a .n) (a .n) (a .n + 1) (length (a .first .now)) (length (a .second .now)) (a .size) (a .index) (sym (c .before .before .before .system-numbers .ensures) ∙ ap checked (c .before .enum-told .given .1)) in
+    let s = numbers-passed system (a .tape .0) (a .q) (a .n) (a .n) (a .n + 1) (length (a .first .now)) (length (a .second .now)) (a .size) (a .index)
+    (sym (c .before .before .before .system-numbers .ensures) ∙ ap checked (c .before .enum-told .given .1)) in
     omega (arith, s .left .inside, s .left .room, blinder-count (a .n))
 
 mul-system-words-2 : tie.Need-mul-system-words-2
 mul-system-words-2 c =
     let a = c .before .before .before .before .before .before .before .args in
-    let s = numbers-passed system (a .tape .0) (a .q) (a .n) (a .n) (a .n + 1) (length (a .first .now)) (length (a .second .now)) (a .size) (a .index) (sym (c .before .before .before .system-numbers .ensures) ∙ ap checked (c .before .enum-told .given .1)) in
+    let s = numbers-passed system (a .tape .0) (a .q) (a .n) (a .n) (a .n + 1) (length (a .first .now)) (length (a .second .now)) (a .size) (a .index)
+    (sym (c .before .before .before .system-numbers .ensures) ∙ ap checked (c .before .enum-told .given .1)) in
     search needs
 
 shared-slice-read-system-words-2 : tie.Need-shared-slice-read-system-words-2
 shared-slice-read-system-words-2 c =
     let a = c .before .before .before .before .before .before .before .before .args in
-    let s = numbers-passed system (a .tape .0) (a .q) (a .n) (a .n) (a .n + 1) (length (a .first .now)) (length (a .second .now)) (a .size) (a .index) (sym (c .before .before .before .before .system-numbers .ensures) ∙ ap checked (c .before .before .enum-told .given .1)) in
+    let s = numbers-passed system (a .tape .0) (a .q) (a .n) (a .n) (a .n + 1) (length (a .first .now)) (length (a .second .now)) (a .size) (a .index)
+    (sym (c .before .before .before .before .system-numbers .ensures) ∙ ap checked (c .before .before .enum-told .given .1)) in
     omega (arith, s .right .inside, s .left .room, blinder-count (a .n))
 
 system-words-requires : tie.Need-system-words-requires
 system-words-requires c κs =
     let a = c .before .before .before .before .before .before .before .before .args in
-    let s = numbers-passed system (a .tape .0) (a .q) (a .n) (a .n) (a .n + 1) (length (a .first .now)) (length (a .second .now)) (a .size) (a .index) (sym (c .before .before .before .before .system-numbers .ensures) ∙ ap checked (c .before .before .enum-told .given .1)) in
+    let s = numbers-passed system (a .tape .0) (a .q) (a .n) (a .n) (a .n + 1) (length (a .first .now)) (length (a .second .now)) (a .size) (a .index)
+    (sym (c .before .before .before .before .system-numbers .ensures) ∙ ap checked (c .before .before .enum-told .given .1)) in
     shape-mask _ _ _ (s .shape)
 
 returns-2 : tie.Need-returns-2
 returns-2 c =
     let a = c .before .before .before .before .before .before .before .before .before .args in
     let system-numbers = c .before .before .before .before .before .system-numbers in
-    let s = numbers-passed system (a .tape .0) (a .q) (a .n) (a .n) (a .n + 1) (length (a .first .now)) (length (a .second .now)) (a .size) (a .index) (sym (system-numbers .ensures) ∙ ap checked (c .before .before .before .enum-told .given .1)) in
+    let s = numbers-passed system (a .tape .0) (a .q) (a .n) (a .n) (a .n + 1) (length (a .first .now)) (length (a .second .now)) (a .size) (a .index)
+    (sym (system-numbers .ensures) ∙ ap checked (c .before .before .before .enum-told .given .1)) in
     let some : 0 < a .size = omega (arith, s .left .room, blinder-count (a .n)) in
     rw (deal-judged (a .first .now) (a .second .now) (a .size) (a .index) (systemRequest (a .tape) (a .q) (a .n) (a .words .now)), sym (system-numbers .ensures) ∙ ap checked (c .before .before .before .enum-told .given .1))
     (rw (slot-status (a .first .now) (a .size) (a .index) some, slot-status (a .second .now) (a .size) (a .index) some) at (c .system-words .ensures))

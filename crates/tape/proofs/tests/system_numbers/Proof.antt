@@ -37,19 +37,23 @@ enum-told-4 c = search needs
 
 returns-2 : tie.Need-returns-2
 unfolding dealNumbers
-returns-2 c = simp (sym (c .before .before .before .before .before .before .system-shape .ensures) ∙ ap checked (c .before .before .before .before .enum-told .given .1), sym (rw (c .before .before .before .blinder-size .ensures) at (c .before .before .check-place .ensures)), c .enum-told4 .given .1)
+returns-2 c =
+    simp (sym (c .before .before .before .before .before .before .system-shape .ensures) ∙ ap checked (c .before .before .before .before .enum-told .given .1), sym (rw (c .before .before .before .blinder-size .ensures) at (c .before .before .check-place .ensures)), c .enum-told4 .given .1)
 
 solver-size-requires : tie.Need-solver-size-requires
 solver-size-requires c κs =
     let a = c .before .before .before .before .before .before .before .args in
-    let s = shape-mask (a .tape) (a .q) (a .n) (sym (c .before .before .before .before .before .before .system-shape .ensures) ∙ ap checked (c .before .before .before .before .enum-told .given .1)) in s .few-n
+    let s = shape-mask (a .tape) (a .q) (a .n)
+    (sym (c .before .before .before .before .before .before .system-shape .ensures) ∙ ap checked (c .before .before .before .before .enum-told .given .1)) in
+    s .few-n
 
 check-place-requires-2 : tie.Need-check-place-requires-2
 check-place-requires-2 c κs = search needs
 
 returns-3 : tie.Need-returns-3
 unfolding dealNumbers
-returns-3 c = simp (sym (c .before .before .before .before .before .before .before .before .system-shape .ensures) ∙ ap checked (c .before .before .before .before .before .before .enum-told .given .1), sym (rw (c .before .before .before .before .before .blinder-size .ensures) at (c .before .before .before .before .check-place .ensures)) ∙ ap checked (c .before .before .enum-told3 .given .1), sym (rw (c .before .solver-size .ensures) at (c .check-place2 .ensures))) (after-last _)
+returns-3 c =
+    simp (sym (c .before .before .before .before .before .before .before .before .system-shape .ensures) ∙ ap checked (c .before .before .before .before .before .before .enum-told .given .1), sym (rw (c .before .before .before .before .before .blinder-size .ensures) at (c .before .before .before .before .check-place .ensures)) ∙ ap checked (c .before .before .enum-told3 .given .1), sym (rw (c .before .solver-size .ensures) at (c .check-place2 .ensures))) (after-last _)
 
 pub system-numbers-spec : {M : Type 1} → statement M
 system-numbers-spec =

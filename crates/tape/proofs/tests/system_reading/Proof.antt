@@ -5,7 +5,7 @@ use native.Mathlib.Omega.{arith}
 use borrow.Author.Needs.{needs}
 use Rattle.tape.proofs.Known.{square-few, side-few}
 use Rattle.drawing.proofs.Then.{read-few}
-use Rattle.tape.proofs.Systems.{dry-first, dry-second, enough-both, first-read}
+use Rattle.halves.proofs.Systems.{dry-first, dry-second, enough-both, first-read}
 use Rattle.checks.proofs.Written.{tail-part}
 use Rattle.tape.proofs.tests.system_reading.Statement.{statement}
 use Rattle.tape.proofs.tests.system_reading.Tie as tie
@@ -43,7 +43,8 @@ enum-told c = search needs
 returns : tie.Need-returns
 returns c =
     let a = c .before .before .before .before .before .before .args in
-    dry-first (a .q) (a .n * a .n + (a .n * (a .n + 1) + a .n * (a .n + 1))) (a .n * a .n + (a .n * a .n + a .n * a .n)) (a .words .now) (sym (rw (c .before .before .before .before .times .ensures, c .before .before .before .times2 .ensures) at (c .before .before .read .ensures)) ∙ c .enum-told .given .1)
+    dry-first (a .q) (a .n * a .n + (a .n * (a .n + 1) + a .n * (a .n + 1))) (a .n * a .n + (a .n * a .n + a .n * a .n)) (a .words .now)
+    (sym (rw (c .before .before .before .before .times .ensures, c .before .before .before .times2 .ensures) at (c .before .before .read .ensures)) ∙ c .enum-told .given .1)
 
 add-read-3 : tie.Need-add-read-3
 add-read-3 c =
@@ -60,19 +61,22 @@ add-read-4 c =
 mul-read : tie.Need-mul-read
 mul-read c =
     let a = c .before .before .before .before .before .before .before .args in
-    let at = first-read (a .q) (a .n * a .n + (a .n * (a .n + 1) + a .n * (a .n + 1))) (a .n * a .n + (a .n * a .n + a .n * a .n)) (a .words .now) (sym (rw (c .before .before .before .before .before .times .ensures, c .before .before .before .before .times2 .ensures) at (c .before .before .before .read .ensures)) ∙ c .before .reading .given .1) in
+    let at = first-read (a .q) (a .n * a .n + (a .n * (a .n + 1) + a .n * (a .n + 1))) (a .n * a .n + (a .n * a .n + a .n * a .n)) (a .words .now)
+    (sym (rw (c .before .before .before .before .before .times .ensures, c .before .before .before .before .times2 .ensures) at (c .before .before .before .read .ensures)) ∙ c .before .reading .given .1) in
     omega (arith, at, read-few (a .q) (a .n * a .n + (a .n * (a .n + 1) + a .n * (a .n + 1))) (a .words .now))
 
 sub-read : tie.Need-sub-read
 sub-read c =
     let a = c .before .before .before .before .before .before .before .args in
-    let at = first-read (a .q) (a .n * a .n + (a .n * (a .n + 1) + a .n * (a .n + 1))) (a .n * a .n + (a .n * a .n + a .n * a .n)) (a .words .now) (sym (rw (c .before .before .before .before .before .times .ensures, c .before .before .before .before .times2 .ensures) at (c .before .before .before .read .ensures)) ∙ c .before .reading .given .1) in
+    let at = first-read (a .q) (a .n * a .n + (a .n * (a .n + 1) + a .n * (a .n + 1))) (a .n * a .n + (a .n * a .n + a .n * a .n)) (a .words .now)
+    (sym (rw (c .before .before .before .before .before .times .ensures, c .before .before .before .before .times2 .ensures) at (c .before .before .before .read .ensures)) ∙ c .before .reading .given .1) in
     omega (arith, at, read-few (a .q) (a .n * a .n + (a .n * (a .n + 1) + a .n * (a .n + 1))) (a .words .now))
 
 part-read-start : tie.Need-part-read-start
 part-read-start c =
     let a = c .before .before .before .before .before .before .before .args in
-    let at = first-read (a .q) (a .n * a .n + (a .n * (a .n + 1) + a .n * (a .n + 1))) (a .n * a .n + (a .n * a .n + a .n * a .n)) (a .words .now) (sym (rw (c .before .before .before .before .before .times .ensures, c .before .before .before .before .times2 .ensures) at (c .before .before .before .read .ensures)) ∙ c .before .reading .given .1) in
+    let at = first-read (a .q) (a .n * a .n + (a .n * (a .n + 1) + a .n * (a .n + 1))) (a .n * a .n + (a .n * a .n + a .n * a .n)) (a .words .now)
+    (sym (rw (c .before .before .before .before .before .times .ensures, c .before .before .before .before .times2 .ensures) at (c .before .before .before .read .ensures)) ∙ c .before .reading .given .1) in
     let few = read-few (a .q) (a .n * a .n + (a .n * (a .n + 1) + a .n * (a .n + 1))) (a .words .now) in
     search needs
 
@@ -92,13 +96,15 @@ returns-2 : tie.Need-returns-2
 returns-2 c =
     let a = c .before .before .before .before .before .before .before .before .before .before .before .args in
     let times = c .before .before .before .before .before .before .before .before .before .times in
-    dry-second (a .q) (a .n * a .n + (a .n * (a .n + 1) + a .n * (a .n + 1))) (a .n * a .n + (a .n * a .n + a .n * a .n)) (a .words .now) (sym (rw (times .ensures, c .before .before .before .before .before .before .before .before .times2 .ensures) at (c .before .before .before .before .before .before .before .read .ensures)) ∙ c .before .before .before .before .before .reading .given .1) (sym (rw (tail-part, times .ensures) at (c .before .before .read2 .ensures)) ∙ c .enum-told3 .given .1)
+    dry-second (a .q) (a .n * a .n + (a .n * (a .n + 1) + a .n * (a .n + 1))) (a .n * a .n + (a .n * a .n + a .n * a .n)) (a .words .now)
+    (sym (rw (times .ensures, c .before .before .before .before .before .before .before .before .times2 .ensures) at (c .before .before .before .before .before .before .before .read .ensures)) ∙ c .before .before .before .before .before .reading .given .1) (sym (rw (tail-part, times .ensures) at (c .before .before .read2 .ensures)) ∙ c .enum-told3 .given .1)
 
 returns-3 : tie.Need-returns-3
 returns-3 c =
     let a = c .before .before .before .before .before .before .before .before .before .before .before .args in
     let times = c .before .before .before .before .before .before .before .before .before .times in
-    enough-both (a .q) (a .n * a .n + (a .n * (a .n + 1) + a .n * (a .n + 1))) (a .n * a .n + (a .n * a .n + a .n * a .n)) (a .words .now) (sym (rw (times .ensures, c .before .before .before .before .before .before .before .before .times2 .ensures) at (c .before .before .before .before .before .before .before .read .ensures)) ∙ c .before .before .before .before .before .reading .given .1) (sym (rw (tail-part, times .ensures) at (c .before .before .read2 .ensures)) ∙ c .enum-told2 .given .1)
+    enough-both (a .q) (a .n * a .n + (a .n * (a .n + 1) + a .n * (a .n + 1))) (a .n * a .n + (a .n * a .n + a .n * a .n)) (a .words .now)
+    (sym (rw (times .ensures, c .before .before .before .before .before .before .before .before .times2 .ensures) at (c .before .before .before .before .before .before .before .read .ensures)) ∙ c .before .before .before .before .before .reading .given .1) (sym (rw (tail-part, times .ensures) at (c .before .before .read2 .ensures)) ∙ c .enum-told2 .given .1)
 
 pub system-reading-spec : {M : Type 1} → statement M
 system-reading-spec =

@@ -19,22 +19,26 @@ is-prime-requires c κs = search needs
 
 returns-2 : tie.Need-returns-2
 unfolding inOrder shapeTests fieldFits
-returns-2 c = simp (holds (c .before .before .before .modulus-fits .ensures) (c .before .before .if1 .left), fails (c .before .is-prime .ensures) (c .if2 .taken))
+returns-2 c =
+    simp (holds (c .before .before .before .modulus-fits .ensures) (c .before .before .if1 .left), fails (c .before .is-prime .ensures) (c .if2 .taken))
 
 unknowns-fit-requires : tie.Need-unknowns-fit-requires
 unknowns-fit-requires c κs = search needs
 
 returns-3 : tie.Need-returns-3
 unfolding inOrder shapeTests fieldFits
-returns-3 c = simp (holds (c .before .before .before .before .before .modulus-fits .ensures) (c .before .before .before .before .if1 .left), holds (c .before .before .before .is-prime .ensures) (c .before .before .if2 .left), fails (c .before .unknowns-fit .ensures) (c .if3 .taken))
+returns-3 c =
+    simp (holds (c .before .before .before .before .before .modulus-fits .ensures) (c .before .before .before .before .if1 .left), holds (c .before .before .before .is-prime .ensures) (c .before .before .if2 .left), fails (c .before .unknowns-fit .ensures) (c .if3 .taken))
 
 returns-4 : tie.Need-returns-4
 unfolding inOrder shapeTests fieldFits
-returns-4 c = simp (holds (c .before .before .before .before .before .before .modulus-fits .ensures) (c .before .before .before .before .before .if1 .left), holds (c .before .before .before .before .is-prime .ensures) (c .before .before .before .if2 .left), holds (c .before .before .unknowns-fit .ensures) (c .before .if3 .left), lt-leb _ _ (c .if4 .taken))
+returns-4 c =
+    simp (holds (c .before .before .before .before .before .before .modulus-fits .ensures) (c .before .before .before .before .before .if1 .left), holds (c .before .before .before .before .is-prime .ensures) (c .before .before .before .if2 .left), holds (c .before .before .unknowns-fit .ensures) (c .before .if3 .left), lt-leb _ _ (c .if4 .taken))
 
 returns-5 : tie.Need-returns-5
 unfolding inOrder shapeTests fieldFits
-returns-5 c = simp (holds (c .before .before .before .before .before .before .modulus-fits .ensures) (c .before .before .before .before .before .if1 .left), holds (c .before .before .before .before .is-prime .ensures) (c .before .before .before .if2 .left), holds (c .before .before .unknowns-fit .ensures) (c .before .if3 .left), le-leb _ _ (c .if4 .left))
+returns-5 c =
+    simp (holds (c .before .before .before .before .before .before .modulus-fits .ensures) (c .before .before .before .before .before .if1 .left), holds (c .before .before .before .before .is-prime .ensures) (c .before .before .before .if2 .left), holds (c .before .before .unknowns-fit .ensures) (c .before .if3 .left), le-leb _ _ (c .if4 .left))
 
 pub system-shape-spec : {M : Type 1} → statement M
 system-shape-spec =

@@ -12,7 +12,7 @@ use Rattle.tape.specs.Groups.{drawnTests, dealWords}
 use Rattle.tape.proofs.Known.{system-count}
 use Rattle.drawing.proofs.Then.{next-inside, next-left}
 use Rattle.protocol.specs.Drawing.{residuesOf}
-use Rattle.tape.proofs.Systems.{both-dry, both-many, mask-part}
+use Rattle.halves.proofs.Systems.{both-dry, both-many, mask-part}
 use Rattle.tape.proofs.tests.system_words.Statement.{statement}
 use Rattle.tape.proofs.tests.system_words.Tie as tie
 
@@ -42,22 +42,27 @@ returns-2 : tie.Need-returns-2
 unfolding inOrder dealWords drawnTests
 returns-2 c =
     let a = c .before .before .before .before .before .before .before .args in
-    let few = both-dry (a .q) (a .n * a .n + (a .n * (a .n + 1) + a .n * (a .n + 1))) (a .n * a .n + (a .n * a .n + a .n * a .n)) (a .words .now) (sym (c .before .before .system-reading .ensures) ∙ c .enum-told3 .given .1) in
+    let few = both-dry (a .q) (a .n * a .n + (a .n * (a .n + 1) + a .n * (a .n + 1))) (a .n * a .n + (a .n * a .n + a .n * a .n)) (a .words .now)
+    (sym (c .before .before .system-reading .ensures) ∙ c .enum-told3 .given .1) in
     simp (sym (c .before .before .before .before .before .marks .ensures) ∙ ap checked (c .before .before .before .enum-told .given .1), rw (system-count (a .tape) (a .q) (a .n) (a .words .now)) at few)
 
 mask-fits-requires : tie.Need-mask-fits-requires
 mask-fits-requires c κs =
     let a = c .before .before .before .before .before .before .before .before .args in
-    let both = both-many (a .q) (a .n * a .n + (a .n * (a .n + 1) + a .n * (a .n + 1))) (a .n * a .n + (a .n * a .n + a .n * a .n)) (a .words .now) (sym (c .before .before .before .system-reading .ensures) ∙ c .before .reading .given .1) in
-    let few : (a .n * a .n + (a .n * (a .n + 1) + a .n * (a .n + 1))) + (a .n * a .n + (a .n * a .n + a .n * a .n)) ≤ length (residuesOf (a .q) (a .words .now)) = leb-true _ _ (both .0) in
+    let both = both-many (a .q) (a .n * a .n + (a .n * (a .n + 1) + a .n * (a .n + 1))) (a .n * a .n + (a .n * a .n + a .n * a .n)) (a .words .now)
+    (sym (c .before .before .before .system-reading .ensures) ∙ c .before .reading .given .1) in
+    let few : (a .n * a .n + (a .n * (a .n + 1) + a .n * (a .n + 1))) + (a .n * a .n + (a .n * a .n + a .n * a .n)) ≤ length
+    (residuesOf (a .q) (a .words .now)) = leb-true _ _ (both .0) in
     (c .before .before .before .before .before .before .before .before .pre, next-inside (a .q) (a .n * a .n + (a .n * (a .n + 1) + a .n * (a .n + 1))) (a .words .now) _ (both .1), next-left (a .q) (a .n * a .n + (a .n * (a .n + 1) + a .n * (a .n + 1))) (a .words .now) _ (both .1) (a .n * a .n) (omega (arith, few)))
 
 returns-3 : tie.Need-returns-3
 unfolding inOrder dealWords drawnTests
 returns-3 c =
     let a = c .before .before .before .before .before .before .before .before .before .before .args in
-    let both = both-many (a .q) (a .n * a .n + (a .n * (a .n + 1) + a .n * (a .n + 1))) (a .n * a .n + (a .n * a .n + a .n * a .n)) (a .words .now) (sym (c .before .before .before .before .before .system-reading .ensures) ∙ c .before .before .before .reading .given .1) in
-    let few : (a .n * a .n + (a .n * (a .n + 1) + a .n * (a .n + 1))) + (a .n * a .n + (a .n * a .n + a .n * a .n)) ≤ length (residuesOf (a .q) (a .words .now)) = leb-true _ _ (both .0) in
+    let both = both-many (a .q) (a .n * a .n + (a .n * (a .n + 1) + a .n * (a .n + 1))) (a .n * a .n + (a .n * a .n + a .n * a .n)) (a .words .now)
+    (sym (c .before .before .before .before .before .system-reading .ensures) ∙ c .before .before .before .reading .given .1) in
+    let few : (a .n * a .n + (a .n * (a .n + 1) + a .n * (a .n + 1))) + (a .n * a .n + (a .n * a .n + a .n * a .n)) ≤ length
+    (residuesOf (a .q) (a .words .now)) = leb-true _ _ (both .0) in
     let w = rw (mask-part (a .tape) (a .q) (a .n) (a .words .now) (both .1) (omega (arith, few))) at (fails (c .before .mask-fits .ensures) (c .if1 .taken)) in
     simp (sym (c .before .before .before .before .before .before .before .before .marks .ensures) ∙ ap checked (c .before .before .before .before .before .before .enum-told .given .1), rw (system-count (a .tape) (a .q) (a .n) (a .words .now)) at (both .0), w)
 
@@ -65,8 +70,10 @@ returns-4 : tie.Need-returns-4
 unfolding inOrder dealWords drawnTests
 returns-4 c =
     let a = c .before .before .before .before .before .before .before .before .before .before .args in
-    let both = both-many (a .q) (a .n * a .n + (a .n * (a .n + 1) + a .n * (a .n + 1))) (a .n * a .n + (a .n * a .n + a .n * a .n)) (a .words .now) (sym (c .before .before .before .before .before .system-reading .ensures) ∙ c .before .before .before .reading .given .1) in
-    let few : (a .n * a .n + (a .n * (a .n + 1) + a .n * (a .n + 1))) + (a .n * a .n + (a .n * a .n + a .n * a .n)) ≤ length (residuesOf (a .q) (a .words .now)) = leb-true _ _ (both .0) in
+    let both = both-many (a .q) (a .n * a .n + (a .n * (a .n + 1) + a .n * (a .n + 1))) (a .n * a .n + (a .n * a .n + a .n * a .n)) (a .words .now)
+    (sym (c .before .before .before .before .before .system-reading .ensures) ∙ c .before .before .before .reading .given .1) in
+    let few : (a .n * a .n + (a .n * (a .n + 1) + a .n * (a .n + 1))) + (a .n * a .n + (a .n * a .n + a .n * a .n)) ≤ length
+    (residuesOf (a .q) (a .words .now)) = leb-true _ _ (both .0) in
     let w = rw (mask-part (a .tape) (a .q) (a .n) (a .words .now) (both .1) (omega (arith, few))) at (holds (c .before .mask-fits .ensures) (c .if1 .left)) in
     simp (sym (c .before .before .before .before .before .before .before .before .marks .ensures) ∙ ap checked (c .before .before .before .before .before .before .enum-told .given .1), rw (system-count (a .tape) (a .q) (a .n) (a .words .now)) at (both .0), w)
 
