@@ -10,7 +10,6 @@ use native.Mathlib.Omega.{arith}
 use lib.Dec.{leb}
 use lib.ListN.{length}
 use borrow.Author.Tests.{leb-true}
-use native.Mathlib.Nat.{mul-le-mul}
 use Rattle.algebra.specs.Count.{both}
 use Rattle.algebra.proofs.Count.{and-left, and-right}
 use Rattle.protocol.specs.declared.TapeId.{TapeId}
@@ -123,21 +122,3 @@ pub system-count : (tape : TapeId) (q n : ℕ) (words : List ℕ)
     → n * n + (n * (n + 1) + n * (n + 1)) + (n * n + (n * n + n * n)) ≡ drawSize (systemRequest tape q n words)
 unfolding drawSize
 system-count tape q n words = omega arith
-
-pub square-few : (n : ℕ) → n ≤ 16 → n * n ≤ 256
-square-few n h = mul-le-mul {n₁ = n} {m₁ = n} {n₂ = 16} {m₂ = 16} h h
-
-pub side-few : (n : ℕ) → n ≤ 16 → n * (n + 1) ≤ 272
-side-few n h = mul-le-mul {n₁ = n} {m₁ = n + 1} {n₂ = 16} {m₂ = 17} h (omega arith)
-
--- the sides of a system's masks
-pub system-masks : (q n : ℕ) → Mask q n → Masks q n n (n + 1)
-system-masks q n h = record {
-  some-q = h .some-q;
-  small-q = h .small-q;
-  some-p = omega arith;
-  few-k = omega (arith, h .few-n);
-  few-mk = omega (arith, square-few n (h .few-n));
-  few-kp = omega (arith, side-few n (h .few-n));
-  few-mp = omega (arith, side-few n (h .few-n));
-}

@@ -6,7 +6,7 @@ use lib.ListN.{length, drop, length-drop}
 use borrow.Author.Needs.{needs}
 use Rattle.drawing.proofs.Then.{read-few, next-inside, next-left, next-read, residues-after}
 use Rattle.protocol.specs.Drawing.{residuesOf}
-use Rattle.tape.proofs.Known.{system-masks}
+use Rattle.halves.proofs.Few.{system-masks}
 use Rattle.halves.proofs.Systems.{system-first, system-second}
 use Rattle.checks.proofs.Written.{tail-part}
 use Rattle.halves.proofs.system.Statement.{statement}

@@ -2,7 +2,7 @@
 use native.Mathlib.Omega.{arith}
 use borrow.Author.Needs.{needs}
 use lib.ListN.{length-take, length-drop}
-use Rattle.tape.proofs.Known.{square-few}
+use Rattle.halves.proofs.Few.{square-few}
 use Rattle.halves.proofs.Systems.{v-written}
 use Rattle.halves.proofs.write_v.Statement.{statement}
 use Rattle.halves.proofs.write_v.Tie as tie

@@ -1,7 +1,8 @@
 -- `tape::tests/blinder_size` meets its contract: the counts of its four matrices. Assumes nothing.
 use native.Mathlib.Omega.{arith}
 use borrow.Author.Needs.{needs}
-use Rattle.tape.proofs.Known.{square-few, side-few, blinder-count}
+use Rattle.halves.proofs.Few.{square-few, side-few}
+use Rattle.tape.proofs.Known.{blinder-count}
 use Rattle.tape.proofs.tests.blinder_size.Statement.{statement}
 use Rattle.tape.proofs.tests.blinder_size.Tie as tie
 

@@ -5,7 +5,7 @@ use native.Mathlib.Omega.{arith}
 use lib.ListN.{drop, length-take}
 use borrow.Author.Needs.{needs}
 use Rattle.algebra.specs.Elimination.{regular}
-use Rattle.tape.proofs.Known.{square-few}
+use Rattle.halves.proofs.Few.{square-few}
 use Rattle.halves.proofs.Systems.{mask-buffer, mask-residues}
 use Rattle.checks.proofs.Written.{tail-part}
 use Rattle.tape.proofs.tests.mask_fits.Statement.{statement}

@@ -1,7 +1,8 @@
 -- `tape::tests/solver_size` meets its contract: the counts of its four matrices. Assumes nothing.
 use native.Mathlib.Omega.{arith}
 use borrow.Author.Needs.{needs}
-use Rattle.tape.proofs.Known.{square-few, side-few, solver-count}
+use Rattle.halves.proofs.Few.{square-few, side-few}
+use Rattle.tape.proofs.Known.{solver-count}
 use Rattle.tape.proofs.tests.solver_size.Statement.{statement}
 use Rattle.tape.proofs.tests.solver_size.Tie as tie
 

@@ -3,7 +3,7 @@ use mathlib.Core.Path.{sym, _∙_}
 use Prim.Native.Nat.{_+_, _*_}
 use native.Mathlib.Omega.{arith}
 use borrow.Author.Needs.{needs}
-use Rattle.tape.proofs.Known.{square-few, side-few}
+use Rattle.halves.proofs.Few.{square-few, side-few}
 use Rattle.drawing.proofs.Then.{read-few}
 use Rattle.halves.proofs.Systems.{dry-first, dry-second, enough-both, first-read}
 use Rattle.checks.proofs.Written.{tail-part}
