@@ -1,6 +1,6 @@
 // Two functions timed beside each other. Each turn of `ours` and `other` with the same number must return the same value.
 //   heading(title)                              a table's head
-//   row(name, ours, other, turns, bound)        one line: nanoseconds a turn, medians over the rounds, and their ratio
+//   row(name, ours, other, turns, bound)        one line: nanoseconds a turn, medians over the rounds, and the median of the rounds' ratios
 //   point(series, size, f, turns)               one point of the plot of time against size
 //   random32()                                  seeded numbers, the same in every run
 // The two take turns in each round, and the other begins in every second one; the clock is the thread's CPU time.
@@ -49,7 +49,7 @@ static void heading(const char *title) {
 
 // A bound of 0 is none.
 static void row(const char *name, work ours, work other, uint32_t turns, double bound) {
-    static double mine[ROUNDS], theirs[ROUNDS];
+    static double mine[ROUNDS], theirs[ROUNDS], ratios[ROUNDS];
     for (int r = -1; r < ROUNDS; r++) {
         double first, second;
         uint64_t a = r & 1 ? run(other, turns, &first) : run(ours, turns, &first);
@@ -61,10 +61,11 @@ static void row(const char *name, work ours, work other, uint32_t turns, double 
         if (r < 0) continue; // a round to warm up
         mine[r] = r & 1 ? second : first;
         theirs[r] = r & 1 ? first : second;
+        ratios[r] = mine[r] / theirs[r];
     }
-    double m = median(mine), t = median(theirs);
-    printf("%-44s | %10.1f | %10.1f | %6.3f |", name, m, t, m / t);
-    if (bound > 0) printf(" %.2f%s", bound, m / t > bound ? "  ABOVE" : "");
+    double ratio = median(ratios);
+    printf("%-44s | %10.1f | %10.1f | %6.3f |", name, median(mine), median(theirs), ratio);
+    if (bound > 0) printf(" %.2f%s", bound, ratio > bound ? "  ABOVE" : "");
     printf("\n");
     fflush(stdout);
 }
