@@ -1,7 +1,7 @@
 // Two functions timed beside each other. Each turn of `ours` and `other` with the same number must return the same value.
 //   heading(title)                              a table's head
 //   row(name, ours, other, turns, bound)        one line: nanoseconds a turn, medians over the rounds, and the median of the rounds' ratios
-//   point(series, size, f, turns)               one point of the plot of time against size
+//   point(series, size, f, turns)               one point of the plot of time against size: the least of the rounds
 //   random32()                                  seeded numbers, the same in every run
 // The two take turns in each round, and the other begins in every second one; the clock is the thread's CPU time.
 #include <stdint.h>
@@ -78,6 +78,7 @@ static inline void point(const char *series, unsigned size, work f, uint32_t tur
     if (!file) return;
     run(f, turns, times); // a round to warm up
     for (int r = 0; r < ROUNDS; r++) run(f, turns, times + r);
-    fprintf(file, "%s %u %.1f\n", series, size, median(times));
+    median(times); // sorts them
+    fprintf(file, "%s %u %.1f\n", series, size, times[0]);
     fclose(file);
 }
