@@ -16,7 +16,7 @@ use Rattle.algebra.specs.System.{dealV}
 use Rattle.algebra.proofs.Lists.{sub-residues, add-residues}
 use Rattle.algebra.proofs.Parts.{Fits, none, _then_}
 use Rattle.protocol.specs.Judge.{done}
-use Rattle.protocol.specs.Bounds.{Sort, product, system, fieldFits, sidesFit}
+use Rattle.protocol.specs.Bounds.{largestModulus, Sort, product, system, fieldFits, sidesFit}
 use Rattle.protocol.specs.Tape.{Slot, isSlot, slotWords, poolWith, statusOf, READY, blinder, layout, tapeSize}
 use Rattle.protocol.specs.Deal.{Request, firstRole, secondRole, firstHalf, secondHalf, drawLayout, drawnParts, dealtB, dealtV, isFree, maskFits, dealtOver, Dealt, dealtEffect, deal}
 use Rattle.protocol.proofs.Tests.{system-sides}
@@ -33,8 +33,10 @@ opposite-is second second f = absurd (f refl)
 -- what the tests of an accepted dealing say
 pub record Fine (size : Party → ℕ) (start : Party → List ℕ) (d : Dealing) : Type 0 where
   pub big : 1 < d .request .q
+  pub small : d .request .q ≤ largestModulus
   pub field : fieldFits (d .request .sort) (d .request .q) ≡ true
   pub sides : sidesFit (d .request .sort) (d .request .m) (d .request .k) (d .request .p) ≡ true
+  pub tape : 1 ≤ d .request .tape .0
   pub room : (w : Party) → tapeSize (halfRole w d) (d .request .m) (d .request .k) (d .request .p) ≤ size w
   pub fits : (w : Party) → Fits (d .request .q) (layout (halfRole w d) (d .request .m) (d .request .k) (d .request .p)) (half w d)
   pub inside : (w : Party) → isSlot (slotOf size (d .on .pools) w (d .index)) ≡ true
@@ -99,6 +101,8 @@ module _ (size : Party → ℕ) (start : Party → List ℕ) (d : Dealing) (x : 
   unfolding halfRole half
   dealt-fine sizes = record {
     big = facts .big;
+    small = facts .small;
+    tape = facts .tape;
     field = facts .field;
     sides = facts .sides;
     room = λ w. subst (λ (n : ℕ). tapeSize (halfRole w d) (r .m) (r .k) (r .p) ≤ n) (stated w) (room-by w (party-eq (d .holder) w));

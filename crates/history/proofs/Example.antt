@@ -1,15 +1,15 @@
 -- A list of calls in which every kind of call is both accepted and refused, computed: its premises hold, so the claim speaks of such lists. It has 01's system,
 -- the same with a singular sum, 01's product, dropped sessions, places that are dealt again, and one session number for all. Assumes nothing.
-use mathlib.Core.Path.{_≡_, refl, sym, ap, _∙_, subst}
+use mathlib.Core.Path.{_≡_, refl, sym, ap, ap₂, _∙_, subst, subst₂}
 use mathlib.Core.Logic.{_≢_, _⊎_, inl, inr}
 use mathlib.Core.Bool.{Bool, true, false, cond}
 use mathlib.Core.List.{List, [], _∷_, _++_}
-use mathlib.Core.Option.{Option}
+use mathlib.Core.Option.{Option, some, none}
 use Prim.Native.Nat.{ℕ, zero, suc, _≤_, _<_}
 use native.Mathlib.Omega.{arith}
 use native.Mathlib.Decide.{ℕ-discrete}
 use lib.Dec.{eqb, ltb}
-use lib.ListN.{length}
+use lib.ListN.{length, take}
 use borrow.Author.Tests.{ltb-true, eq-eqb}
 use Rattle.algebra.specs.Matrix.{sumTo, tabulate, zeros, addMod, subMod, matAdd, matSub, dotTo, dot, matMul}
 use Rattle.algebra.specs.Count.{both, parts, join, eqList, sumLists, count}
@@ -21,6 +21,8 @@ use Rattle.algebra.specs.Product.{dealB, sendY, sendX, sendR, rightShare}
 use Rattle.algebra.specs.System.{dealV, solverShare, sendF, sendW, sendC, sumMatrix}
 use Rattle.algebra.specs.Words.{over, writtenAt}
 use Rattle.protocol.specs.declared.Terms.{Terms}
+use Rattle.protocol.specs.declared.Answer.the-variants.{Accepted, Refused}
+use Rattle.protocol.specs.declared.Refusal.the-variants.{Singular}
 use Rattle.protocol.specs.Judge.{Judged, refused, done, given, clear, judgeBy, judge}
 use Rattle.protocol.specs.Drawing.{isKept, residueOf, residuesOf, drawn, wordsRead, drawTests}
 use Rattle.protocol.specs.Bounds.{within, columns, allBelow, fieldFits, sidesFit, shapeTests, termsTests, inputTests, roomTests}
@@ -34,11 +36,13 @@ use Rattle.protocol.specs.Drop.{dropRight, dropSolver, dropBlinder}
 use Rattle.protocol.specs.View.{View, facing, kindsSent, Finished}
 use Rattle.protocol.specs.Completion.{said, completions, Counted, solutionFor, answerSeen}
 use Rattle.history.specs.Ends.{Session, absent, isBegun, dueIn, roleIn, right-first, left-only, solver-first, blinder-first, right-last, solver-second, solver-last, blinder-second, blinder-last, right-drop, solver-drop, blinder-drop, begins, goes-on, runFirst, runLater, runStep}
-use Rattle.history.specs.Log.{Party, first, second, opposite, Call, dealing, stepping, Dealing, Entry, dealt, did, World, slotOf, advanceDealing, advanceStep, advance, run, halfRole, holds, here, WasDealt, numberOf, Distinct, Premises}
+use Rattle.history.specs.Log.{Party, first, second, opposite, Call, dealing, stepping, Dealing, Did, Entry, dealt, did, World, slotOf, advanceDealing, advanceStep, advance, run, halfRole, holds, here, WasDealt, numberOf, Distinct, Premises}
 use Rattle.history.specs.Contents.{half}
 use Rattle.history.specs.Seen.{view, as-answered}
 use Rattle.history.specs.Claim.{Demand3}
+use Rattle.history.specs.Right.{newest, result, Paired, Arrived, AddTo, sumOf, OnlySolution, Demand2}
 use Rattle.history.proofs.Demand.{demand-3}
+use Rattle.history.proofs.Rightness.{demand-2}
 use Rattle.history.proofs.Facts.{set-other, same-dealing}
 
 -- three slots of 13 words, and one word more
@@ -380,3 +384,74 @@ counted-once = (
   of-this-list .secret 4 (ended .5) (view (end .log) 4) as-answered .finished-product (ap sortOf (ended .6)) (finished-by (view (end .log) 4) right 1 (ended .6) (ended .7) refl)
       ((3 ∷ 5 ∷ []) ∷ []) right-counts,
 )
+
+-- ---- demand 2, for the same list
+
+pub right-here : Demand2 sizes end
+right-here = demand-2 sizes start lent three-slots calls premises
+
+-- what two sessions of the list are: their roles, their tape's number, and the messages a to the one and b to the other, as they were sent and received
+abbrev Ends-here : Role → (n n′ tape : ℕ) (a sent′ b sent : List (List ℕ)) → Type 0
+Ends-here r n n′ i a sent′ b sent =
+    (isBegun (end .state .sessions n) ≡ true)
+    × (isBegun (end .state .sessions n′) ≡ true)
+    × (view (end .log) n .role ≡ r)
+    × (view (end .log) n′ .role ≡ facing r)
+    × (view (end .log) n .terms .tape .0 ≡ i)
+    × (view (end .log) n′ .terms .tape .0 ≡ i)
+    × (view (end .log) n .received ≡ a)
+    × (view (end .log) n′ .sent ≡ sent′)
+    × (view (end .log) n′ .received ≡ b)
+    × (view (end .log) n .sent ≡ sent)
+
+paired : (r : Role) (n n′ i : ℕ) (a sent′ b sent : List (List ℕ)) → Ends-here r n n′ i a sent′ b sent → Paired end r n n′
+paired r n n′ i a sent′ b sent h = record { begun = h .0; other-begun = h .1; role-is = h .2; other-role = h .3; same-tape = h .4 ∙ sym (h .5) }
+
+arrived : (r : Role) (n n′ i : ℕ) (a b : List (List ℕ)) → Ends-here r n n′ i a a b b → length a ≡ length (kindsSent (facing r)) → length b ≡ length (kindsSent (facing (facing r)))
+    → Arrived (view (end .log) n) (view (end .log) n′)
+arrived r n n′ i a b h la lb = record {
+  finished = finished-by (view (end .log) n) r (length a) (h .2) (ap length (h .6)) la;
+  other-finished = finished-by (view (end .log) n′) (facing r) (length b) (h .3) (ap length (h .8)) lb;
+  there = h .6 ∙ sym (h .7);
+  back = h .8 ∙ sym (h .9);
+}
+
+-- 01's product: left is session 5 and right session 4. 01's system: the blinder is session 3 and the solver session 2. The system with a singular sum: the
+-- blinder is session 1 and the solver session 0
+product-met : Ends-here left 5 4 4 ((3 ∷ 3 ∷ []) ∷ []) ((3 ∷ 3 ∷ []) ∷ []) ((4 ∷ 2 ∷ 3 ∷ []) ∷ []) ((4 ∷ 2 ∷ 3 ∷ []) ∷ [])
+unfolding sumTo tabulate zeros addMod subMod matAdd matSub dotTo dot matMul both parts join cols beside noDivisor isPrime inverseBy inverse swapAt swapRows scaleRow clearColumn pivotFrom pivot step eliminateFrom eliminate regular solution dealB sendY sendX sendR rightShare dealV solverShare sendF sendW sendC sumMatrix over writtenAt given clear judgeBy judge isKept residueOf residuesOf drawn wordsRead drawTests within columns allBelow fieldFits sidesFit shapeTests termsTests inputTests roomTests isSlot slotWords poolWith headerWords bodySize tapeSize statusOf withStatus spent body matrices wordsInUse wordsSpent slotTests halfTests tapeTests bodyTests drawSize drawnParts dealtB dealtV isFree dealTests dealtOver dealtEffect deal kindSort messageLayout messageSize messageParts messageTests dueTests firstTests isOpen openTests laterTests rightFirstEffect rightFirstTests rightFirst leftEffect leftTests leftStep rightLastEffect rightLastTests rightLast padded sideSize keptS keptM keptY scratchSize keptTests blinderTests solverTests coinsOf scratchParts regularTests jointSum solverFirstEffect solverFirstTests solverFirst blinderFirstEffect blinderFirstTests blinderFirst solverSecondEffect solverSecondTests solverSecond blinderSecondEffect blinderSecondTests blinderSecond solverLastEffect solverLastTests solverLast blinderLastEffect blinderLastTests blinderLast dropRight dropSolver dropBlinder said runFirst runLater here halfRole half ℕ-discrete
+product-met = (refl, refl, refl, refl, refl, refl, refl, refl, refl, refl)
+
+system-met : Ends-here blinder 3 2 7 ((3 ∷ 1 ∷ []) ∷ (4 ∷ []) ∷ (1 ∷ []) ∷ []) ((3 ∷ 1 ∷ []) ∷ (4 ∷ []) ∷ (1 ∷ []) ∷ []) ((3 ∷ 0 ∷ 2 ∷ []) ∷ (1 ∷ 4 ∷ []) ∷ []) ((3 ∷ 0 ∷ 2 ∷ []) ∷ (1 ∷ 4 ∷ []) ∷ [])
+unfolding sumTo tabulate zeros addMod subMod matAdd matSub dotTo dot matMul both parts join cols beside noDivisor isPrime inverseBy inverse swapAt swapRows scaleRow clearColumn pivotFrom pivot step eliminateFrom eliminate regular solution dealB sendY sendX sendR rightShare dealV solverShare sendF sendW sendC sumMatrix over writtenAt given clear judgeBy judge isKept residueOf residuesOf drawn wordsRead drawTests within columns allBelow fieldFits sidesFit shapeTests termsTests inputTests roomTests isSlot slotWords poolWith headerWords bodySize tapeSize statusOf withStatus spent body matrices wordsInUse wordsSpent slotTests halfTests tapeTests bodyTests drawSize drawnParts dealtB dealtV isFree dealTests dealtOver dealtEffect deal kindSort messageLayout messageSize messageParts messageTests dueTests firstTests isOpen openTests laterTests rightFirstEffect rightFirstTests rightFirst leftEffect leftTests leftStep rightLastEffect rightLastTests rightLast padded sideSize keptS keptM keptY scratchSize keptTests blinderTests solverTests coinsOf scratchParts regularTests jointSum solverFirstEffect solverFirstTests solverFirst blinderFirstEffect blinderFirstTests blinderFirst solverSecondEffect solverSecondTests solverSecond blinderSecondEffect blinderSecondTests blinderSecond solverLastEffect solverLastTests solverLast blinderLastEffect blinderLastTests blinderLast dropRight dropSolver dropBlinder said runFirst runLater here halfRole half ℕ-discrete
+system-met = (refl, refl, refl, refl, refl, refl, refl, refl, refl, refl)
+
+singular-met : Ends-here blinder 1 0 5 ((3 ∷ 1 ∷ []) ∷ (4 ∷ []) ∷ []) ((3 ∷ 1 ∷ []) ∷ (4 ∷ []) ∷ []) ((3 ∷ 0 ∷ 2 ∷ []) ∷ []) ((3 ∷ 0 ∷ 2 ∷ []) ∷ (3 ∷ 4 ∷ []) ∷ [])
+unfolding sumTo tabulate zeros addMod subMod matAdd matSub dotTo dot matMul both parts join cols beside noDivisor isPrime inverseBy inverse swapAt swapRows scaleRow clearColumn pivotFrom pivot step eliminateFrom eliminate regular solution dealB sendY sendX sendR rightShare dealV solverShare sendF sendW sendC sumMatrix over writtenAt given clear judgeBy judge isKept residueOf residuesOf drawn wordsRead drawTests within columns allBelow fieldFits sidesFit shapeTests termsTests inputTests roomTests isSlot slotWords poolWith headerWords bodySize tapeSize statusOf withStatus spent body matrices wordsInUse wordsSpent slotTests halfTests tapeTests bodyTests drawSize drawnParts dealtB dealtV isFree dealTests dealtOver dealtEffect deal kindSort messageLayout messageSize messageParts messageTests dueTests firstTests isOpen openTests laterTests rightFirstEffect rightFirstTests rightFirst leftEffect leftTests leftStep rightLastEffect rightLastTests rightLast padded sideSize keptS keptM keptY scratchSize keptTests blinderTests solverTests coinsOf scratchParts regularTests jointSum solverFirstEffect solverFirstTests solverFirst blinderFirstEffect blinderFirstTests blinderFirst solverSecondEffect solverSecondTests solverSecond blinderSecondEffect blinderSecondTests blinderSecond solverLastEffect solverLastTests solverLast blinderLastEffect blinderLastTests blinderLast dropRight dropSolver dropBlinder said runFirst runLater here halfRole half ℕ-discrete
+singular-met = (refl, refl, refl, refl, refl, refl, refl, refl, refl, refl)
+
+gave : (result (end .log) 5 ≡ 5 ∷ []) × (result (end .log) 4 ≡ 3 ∷ []) × (result (end .log) 3 ≡ 3 ∷ [])
+unfolding sumTo tabulate zeros addMod subMod matAdd matSub dotTo dot matMul both parts join cols beside noDivisor isPrime inverseBy inverse swapAt swapRows scaleRow clearColumn pivotFrom pivot step eliminateFrom eliminate regular solution dealB sendY sendX sendR rightShare dealV solverShare sendF sendW sendC sumMatrix over writtenAt given clear judgeBy judge isKept residueOf residuesOf drawn wordsRead drawTests within columns allBelow fieldFits sidesFit shapeTests termsTests inputTests roomTests isSlot slotWords poolWith headerWords bodySize tapeSize statusOf withStatus spent body matrices wordsInUse wordsSpent slotTests halfTests tapeTests bodyTests drawSize drawnParts dealtB dealtV isFree dealTests dealtOver dealtEffect deal kindSort messageLayout messageSize messageParts messageTests dueTests firstTests isOpen openTests laterTests rightFirstEffect rightFirstTests rightFirst leftEffect leftTests leftStep rightLastEffect rightLastTests rightLast padded sideSize keptS keptM keptY scratchSize keptTests blinderTests solverTests coinsOf scratchParts regularTests jointSum solverFirstEffect solverFirstTests solverFirst blinderFirstEffect blinderFirstTests blinderFirst solverSecondEffect solverSecondTests solverSecond blinderSecondEffect blinderSecondTests blinderSecond solverLastEffect solverLastTests solverLast blinderLastEffect blinderLastTests blinderLast dropRight dropSolver dropBlinder said runFirst runLater here halfRole half ℕ-discrete
+gave = (refl, refl, refl)
+
+-- so the shares 5 and 3 add to the product, and z 3 is the only solution
+pub product-here : AddTo (view (end .log) 5) (view (end .log) 4) (5 ∷ []) (3 ∷ [])
+product-here = subst₂ (AddTo (view (end .log) 5) (view (end .log) 4)) (gave .0) (gave .1) (right-here .product 5 4 (paired left 5 4 4 _ _ _ _ product-met) (arrived left 5 4 4 _ _ product-met refl refl))
+
+pub system-here : OnlySolution (view (end .log) 3) (view (end .log) 2) (3 ∷ [])
+system-here = subst (OnlySolution (view (end .log) 3) (view (end .log) 2)) (gave .2) (right-here .system 3 2 (paired blinder 3 2 7 _ _ _ _ system-met) (arrived blinder 3 2 7 _ _ system-met refl refl))
+
+-- and the singular sum was answered by 10: the solver's last step was handed message 4 as it was sent
+singular-here : (e : Did) (a : Message) (room : ℕ) → newest (end .log) 0 ≡ some e → e .step ≡ goes-on (solver-last a room) → a .residues ≡ 3 ∷ 4 ∷ []
+    → e .effect .answer ≡ cond (hasInverse (view (end .log) 1 .terms .q) (view (end .log) 1 .terms .m) (sumOf (view (end .log) 1) (view (end .log) 0))) (Accepted 0) (Refused Singular)
+singular-here e a room n s m =
+    right-here .singular 1 0 (paired blinder 1 0 5 _ _ _ _ singular-met) e a room n s (ap (take 2) (singular-met .6) ∙ sym (ap (take 2) (singular-met .7)))
+    (ap₂ (λ (z : List (List ℕ)) (m : List ℕ). take 1 z ++ (m ∷ [])) (singular-met .8) m ∙ sym (singular-met .9))
+
+answer-of : Option Did → ℕ
+answer-of none = 0
+answer-of (some e) = answerNumber (e .effect .answer)
+
+singular-answer : answer-of (newest (end .log) 0) ≡ 10
+unfolding sumTo tabulate zeros addMod subMod matAdd matSub dotTo dot matMul both parts join cols beside noDivisor isPrime inverseBy inverse swapAt swapRows scaleRow clearColumn pivotFrom pivot step eliminateFrom eliminate regular solution dealB sendY sendX sendR rightShare dealV solverShare sendF sendW sendC sumMatrix over writtenAt given clear judgeBy judge isKept residueOf residuesOf drawn wordsRead drawTests within columns allBelow fieldFits sidesFit shapeTests termsTests inputTests roomTests isSlot slotWords poolWith headerWords bodySize tapeSize statusOf withStatus spent body matrices wordsInUse wordsSpent slotTests halfTests tapeTests bodyTests drawSize drawnParts dealtB dealtV isFree dealTests dealtOver dealtEffect deal kindSort messageLayout messageSize messageParts messageTests dueTests firstTests isOpen openTests laterTests rightFirstEffect rightFirstTests rightFirst leftEffect leftTests leftStep rightLastEffect rightLastTests rightLast padded sideSize keptS keptM keptY scratchSize keptTests blinderTests solverTests coinsOf scratchParts regularTests jointSum solverFirstEffect solverFirstTests solverFirst blinderFirstEffect blinderFirstTests blinderFirst solverSecondEffect solverSecondTests solverSecond blinderSecondEffect blinderSecondTests blinderSecond solverLastEffect solverLastTests solverLast blinderLastEffect blinderLastTests blinderLast dropRight dropSolver dropBlinder said runFirst runLater here halfRole half ℕ-discrete answer-of
+singular-answer = refl

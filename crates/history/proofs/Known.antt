@@ -24,7 +24,7 @@ use Rattle.protocol.specs.Tape.{Slot, slotWords, Role, left, right, blinder, so
 use Rattle.protocol.specs.Message.{Message, messageSize}
 use Rattle.protocol.specs.Step.{Effect}
 use Rattle.protocol.specs.Product.{rightFirstEffect, leftEffect}
-use Rattle.protocol.specs.System.{coinsOf, scratchSize, scratchParts, solverFirstEffect, blinderFirstEffect}
+use Rattle.protocol.specs.System.{padded, coinsOf, scratchSize, scratchParts, solverFirstEffect, blinderFirstEffect}
 use Rattle.protocol.specs.View.{View, facing, coinLayout, kindsSent}
 use Rattle.protocol.specs.Completion.{messagesOf, blinderMessages, coinsFit, Taken}
 use Rattle.protocol.proofs.Residues.{residues-drawn}
@@ -119,6 +119,7 @@ pub data BlinderStage (t : Terms) (half : List (List ℕ)) (mm y coins : List �
   b-first : (a : List ℕ) → Residues (t .q) (messageSize 1 t) a → got ≡ a ∷ [] → z ≡ blinderOne t half mm y coins a .session → BlinderStage t half mm y coins z got
   -- it has sent all that it will, whatever it gets
   b-second : (a b b2 b4 : List ℕ) → Residues (t .q) (messageSize 1 t) a → Residues (t .q) (messageSize 3 t) b → got ≡ a ∷ b ∷ [] → z .due ≡ 5
+      → (z .mm ≡ padded 256 mm) × (z .y ≡ padded 16 y)
       → ((got : List (List ℕ)) → blinderMessages t (halfSlot blinder t half) (mm ∷ y ∷ []) (a ∷ b ∷ got) (wordsFor (t .q) coins) ≡ b2 ∷ b4 ∷ [])
       → BlinderStage t half mm y coins z got
   b-over : z .due ≡ 0 → BlinderStage t half mm y coins z got

@@ -210,9 +210,9 @@ blinder-second-stage z v s u m room seen o e c (b-first a ra p q) =
       y = y;
       input-is = seen .input-is;
       began = g;
-      stage = b-second a (m .residues) _ _ ra rm got refl two;
+      stage = b-second a (m .residues) _ _ ra rm got refl (ap (λ (z : BlinderSession). z .mm) q, ap (λ (z : BlinderSession). z .y) q) two;
     }
-blinder-second-stage z v s u m room seen o e c (b-second a b b2 b4 ra rb p d two) = absurd (omega (arith, o .later .due-is, d))
+blinder-second-stage z v s u m room seen o e c (b-second a b b2 b4 ra rb p d kept two) = absurd (omega (arith, o .later .due-is, d))
 blinder-second-stage z v s u m room seen o e c (b-over d) = absurd (omega (arith, o .later .due-is, d))
 
 blinder-second-seen : (m : Message) (room : ℕ) (x : Session) (v : View) (s : Slot) (u : List ℕ) (f : Effect Session) → SeenBy x v → runLater (blinder-second m room) x s u ≡ done f
@@ -233,7 +233,7 @@ blinder-last-stage : (z : BlinderSession) (v : View) (m : Message) (seen : Blind
     → BlinderStage (z .terms) (v .half) (seen .mm) (seen .y) (v .coins) z (v .received) → Known blinder (z .terms) (viewWith v (v .sent) (v .received ++ (m .residues ∷ [])))
 unfolding blinderFirstEffect
 blinder-last-stage z v m seen w f (b-first a ra p q) = absurd (omega (arith, w, ap (λ (z : BlinderSession). z .due) q))
-blinder-last-stage z v m seen w f (b-second a b b2 b4 ra rb p d two) =
+blinder-last-stage z v m seen w f (b-second a b b2 b4 ra rb p d kept two) =
     let k = seen .known in
     let all = blinder-sent k (seen .input-is) p ∙ two [] in
     known-with k (v .sent) (a ∷ b ∷ m .residues ∷ []) refl (ap (λ (z : List (List ℕ)). z ++ (m .residues ∷ [])) p)

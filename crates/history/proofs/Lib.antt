@@ -1,4 +1,4 @@
--- Demand 3's proof, in reading order.
+-- The proofs of demands 3 and 2, in reading order.
 -- Words             words written over a list and into a slot; a tape's words
 -- Steps             what an accepted step or drop needs and leaves: all that the bookkeeping knows of steps
 -- Facts             of any log
@@ -13,6 +13,10 @@
 -- Views             the same for every session of the list
 -- Stands            so every view that stands for a session is secret
 -- Demand            demand 3
+-- Results, Shared   what a session's last step gave; two sessions that are the ends of one tape
+-- Sent, Progress    what steps sent; an end that keeps to the rules is answered
+-- Stood             an end's own half and coins complete the other's view
+-- Rightness         demand 2
 -- Example           a list in which every kind of call is accepted and refused
 pub mod Words
 pub mod Steps
@@ -29,4 +33,10 @@ pub mod KnownOn
 pub mod Views
 pub mod Stands
 pub mod Demand
+pub mod Results
+pub mod Shared
+pub mod Sent
+pub mod Progress
+pub mod Stood
+pub mod Rightness
 pub mod Example

@@ -1,10 +1,11 @@
 -- Every session's view, after every list of calls, is one of its stages.
 --   Views, views
+--   along-views   the induction over calls, with the views at hand
 -- Assumes nothing.
 use mathlib.Core.Path.{_≡_, refl, sym, ap, ap₂, _∙_, subst, subst₂}
 use mathlib.Core.Logic.{_≢_}
 use mathlib.Core.Bool.{true}
-use mathlib.Core.List.{List, _∷_}
+use mathlib.Core.List.{List, [], _∷_}
 use mathlib.Core.Option.{Option, some, none}
 use Prim.Native.Nat.{ℕ, _<_}
 use native.Mathlib.Omega.{arith}
@@ -23,6 +24,7 @@ use Rattle.protocol.specs.Deal.{Dealt}
 use Rattle.protocol.specs.System.{scratchParts, scratchLayout}
 use Rattle.history.specs.Ends.{Session, absent, leftEnd, rightEnd, solverEnd, blinderEnd, dueIn, termsIn, roleIn, First, right-first, left-only, solver-first, blinder-first, Later, Step, begins, goes-on, roleFirst, roleOf, runStep, runFirst, runLater}
 use Rattle.history.specs.Log.{choose, Party, State, Call, Dealing, Did, Entry, dealt, did, afterDealing, run, holds, here, place, lentTo, OwnScratchBy, Premises}
+use Rattle.history.specs.Log.{fresh as fresh-state}
 use Rattle.history.specs.Contents.{half, tenantAfter, tenant, coinsIn, termsBy, scratchWords}
 use Rattle.protocol.specs.View.{View}
 use Rattle.history.specs.Seen.{viewFirst, viewLater, halfAt, viewAfter, view}
@@ -59,7 +61,7 @@ view-first {P} h l e k v {t} {f} q p =
     go (yes _) = refl
     go (no n) = absurd (n p)
 
-view-later : {P : Type 0} (h : Dec P) (l : List Entry) (e : Did) (k : Step) (v : View) {f : Later} → k ≡ goes-on f → P → viewAfter h l e k v ≡ viewLater v f (e .effect)
+pub view-later : {P : Type 0} (h : Dec P) (l : List Entry) (e : Did) (k : Step) (v : View) {f : Later} → k ≡ goes-on f → P → viewAfter h l e k v ≡ viewLater v f (e .effect)
 view-later {P} h l e k v {f} q p = subst (λ (k : Step). viewAfter h l e k v ≡ viewLater v f (e .effect)) (sym q) (go h)
   where
     go : (h : Dec P) → viewAfter h l e (goes-on f) v ≡ viewLater v f (e .effect)
@@ -110,13 +112,13 @@ agrees-fits x w d g a = rw (a .role-is, a .q-is, a .m-is, a .k-is, a .p-is) (g .
 
 module _ (size : Party → ℕ) (start : Party → List ℕ) (lent : ℕ → List ℕ) where
   module _ (l : List Entry) (e : Did) (v : Inv size start (e .on) l) (p : Premises size (did e ∷ l)) (mv : Move size start l e) (o : Lent lent (e .on) l) (vs : Views (e .on) l) where
-    abbrev here-view : View
+    abbrev pub here-view : View
     here-view = view (did e ∷ l) (e .name)
 
-    abbrev decided : Dec (e .name ≡ e .name)
+    abbrev pub decided : Dec (e .name ≡ e .name)
     decided = ℕ-discrete (e .name) (e .name)
 
-    view-other : (n : ℕ) → n ≢ e .name → view (did e ∷ l) n ≡ view l n
+    pub view-other : (n : ℕ) → n ≢ e .name → view (did e ∷ l) n ≡ view l n
     view-other n h = view-else (ℕ-discrete (e .name) n) l e (e .step) (view l n) (λ q. h (sym q))
 
     -- the half, fitting the terms of the session after the step
@@ -129,13 +131,13 @@ module _ (size : Party → ℕ) (start : Party → List ℕ) (lent : ℕ → Lis
       half-here : halfAt (e .party) (place l (e .party) (e .index)) ≡ half (e .party) (mv .dealing)
       half-here = ap (halfAt (e .party)) (mv .stands)
 
-      new-view : here-view ≡ viewFirst t k (half (e .party) (mv .dealing)) (e .effect)
+      pub new-view : here-view ≡ viewFirst t k (half (e .party) (mv .dealing)) (e .effect)
       new-view = view-first decided l e (e .step) (view l (e .name)) s refl ∙ ap (λ (ls : List (List ℕ)). viewFirst t k ls (e .effect)) half-here
 
       fit-first : Fits (t .q) (layout (roleFirst k) (t .m) (t .k) (t .p)) (half (e .party) (mv .dealing))
       fit-first = subst₂ (λ (r : Role) (t : Terms). Fits (t .q) (layout r (t .m) (t .k) (t .p)) (half (e .party) (mv .dealing))) (g .role-is) (g .terms-are) fit
 
-      mats : matrices (roleFirst k) t (slotWords (slotBy size start e)) ≡ half (e .party) (mv .dealing)
+      pub mats : matrices (roleFirst k) t (slotWords (slotBy size start e)) ≡ half (e .party) (mv .dealing)
       mats = ap (matrices (roleFirst k) t) (ready-before size start l e v (p .0) mv u) ∙ tape-matrices (roleFirst k) t _ (mv .dealing) (half (e .party) (mv .dealing)) _ fit-first
 
       mask : roleFirst k ≡ blinder → regular (t .q) (t .m) (part 2 (half (e .party) (mv .dealing))) ≡ true
@@ -143,7 +145,7 @@ module _ (size : Party → ℕ) (start : Party → List ℕ) (lent : ℕ → Lis
           let fine = v .fine (mv .dealing) (place-known l (e .party) (e .index) (mv .stands) .0) in
           rw (← g .terms-are, mv .agrees .q-is, mv .agrees .m-is) (fine .mask (e .party) (sym (mv .agrees .role-is) ∙ g .role-is ∙ r))
 
-      acts : runFirst t k (slotBy size start e) (e .on .scratches (e .scratch)) ≡ done (e .effect)
+      pub acts : runFirst t k (slotBy size start e) (e .on .scratches (e .scratch)) ≡ done (e .effect)
       acts = subst (λ (k : Step). runStep k (e .on .sessions (e .name)) (slotBy size start e) (e .on .scratches (e .scratch)) ≡ done (e .effect)) s (mv .acted)
 
       first-tied : (b : ℕ) (x : Did) → tenant (did e ∷ l) b ≡ some x → view (did e ∷ l) (x .name) .coins ≡ coinsIn (x .step)
@@ -162,13 +164,13 @@ module _ (size : Party → ℕ) (start : Party → List ℕ) (lent : ℕ → Lis
           subst₂ SeenBy (sym (set-same (e .name) (e .effect .session) (e .on .sessions))) (sym new-view)
           (first-seen t k (slotBy size start e) (e .on .scratches (e .scratch)) (e .effect) (half (e .party) (mv .dealing)) acts mats mask)
 
-      first-half : here-view .half ≡ half (e .party) (mv .dealing)
+      pub first-half : here-view .half ≡ half (e .party) (mv .dealing)
       first-half = ap (λ (z : View). z .half) new-view
 
     -- ---- a later step
 
     module _ (k : Later) (s : e .step ≡ goes-on k) (u : mv .server ≡ some (e .name)) (g : Continues k (e .on .sessions (e .name)) (slotBy size start e) (e .effect)) where
-      abbrev x₀ : Session
+      abbrev pub x₀ : Session
       x₀ = e .on .sessions (e .name)
 
       stood : place l (e .party) (e .index) ≡ holds (mv .dealing) (some (e .name))
@@ -177,14 +179,14 @@ module _ (size : Party → ℕ) (start : Party → List ℕ) (lent : ℕ → Lis
       was-half : view l (e .name) .half ≡ half (e .party) (mv .dealing)
       was-half = vs .halves (e .party) (e .index) (mv .dealing) (e .name) stood
 
-      mats-later : matrices (roleIn x₀) (termsIn x₀) (slotWords (slotBy size start e)) ≡ view l (e .name) .half
+      pub mats-later : matrices (roleIn x₀) (termsIn x₀) (slotWords (slotBy size start e)) ≡ view l (e .name) .half
       mats-later =
           ap (matrices (roleIn x₀) (termsIn x₀)) (used-before size start l e v (p .0) mv u (g .session-open .is-open))
           ∙ tape-matrices (roleIn x₀) (termsIn x₀) _ (mv .dealing) (half (e .party) (mv .dealing)) _ (subst₂ (λ (r : Role) (t : Terms). Fits (t .q) (layout r (t .m) (t .k) (t .p)) (half (e .party) (mv .dealing))) (g .role-is) (g .terms-are) fit)
           ∙ sym was-half
 
       -- P and U0 stand in the blinder's scratch
-      coins-stand : roleIn x₀ ≡ blinder → scratchParts (termsIn x₀) (e .on .scratches (e .scratch)) ≡ scratchParts (termsIn x₀) (view l (e .name) .coins)
+      pub coins-stand : roleIn x₀ ≡ blinder → scratchParts (termsIn x₀) (e .on .scratches (e .scratch)) ≡ scratchParts (termsIn x₀) (view l (e .name) .coins)
       unfolding scratchParts
       coins-stand r =
           let x = o .keeps-it (e .name) (g .session-open .is-open) r in
@@ -200,7 +202,7 @@ module _ (size : Party → ℕ) (start : Party → List ℕ) (lent : ℕ → Lis
           ∙ parts-over (scratchLayout (termsIn x₀)) (x .0 .on .scratches (e .scratch)) (subst (Residues (termsIn x₀ .q) (total (scratchLayout (termsIn x₀)))) coins (blinder-coins-fit x₀ (view l (e .name)) (vs .seen (e .name)) r))
           ∙ ap (scratchParts (termsIn x₀)) (sym coins)
 
-      later-acts : runLater k x₀ (slotBy size start e) (e .on .scratches (e .scratch)) ≡ done (e .effect)
+      pub later-acts : runLater k x₀ (slotBy size start e) (e .on .scratches (e .scratch)) ≡ done (e .effect)
       later-acts = subst (λ (k : Step). runStep k x₀ (slotBy size start e) (e .on .scratches (e .scratch)) ≡ done (e .effect)) s (mv .acted)
 
       later-seen-here : SeenBy (stateAfter size start e .sessions (e .name)) here-view
@@ -215,12 +217,12 @@ module _ (size : Party → ℕ) (start : Party → List ℕ) (lent : ℕ → Lis
           go (this q t′ f s′ r) = absurd (let z : _≡_ {A = Step} (begins t′ f) (goes-on k) = sym s′ ∙ s in let y : _≡_ {A = ℕ} 0 1 = cc in omega arith)
           go (before q) = later-half (ℕ-discrete (e .name) (x .name)) l e (e .step) (view l (x .name)) s .1 ∙ vs .tied b x q
 
-      later-half-here : here-view .half ≡ half (e .party) (mv .dealing)
+      pub later-half-here : here-view .half ≡ half (e .party) (mv .dealing)
       later-half-here = later-half decided l e (e .step) (view l (e .name)) s .0 ∙ was-half
 
     -- ---- both
 
-    move-views : Views (stateAfter size start e) (did e ∷ l)
+    pub move-views : Views (stateAfter size start e) (did e ∷ l)
     move-views = record { tied = tied-by (mv .way); halves = halves-now; seen = seen-now }
       where
         tied-by : Way size start e (mv .server) → (b : ℕ) (x : Did) → tenant (did e ∷ l) b ≡ some x → view (did e ∷ l) (x .name) .coins ≡ coinsIn (x .step)
@@ -256,7 +258,7 @@ module _ (size : Party → ℕ) (start : Party → List ℕ) (lent : ℕ → Lis
             go (yes q) = subst (λ (n : ℕ). SeenBy (stateAfter size start e .sessions n) (view (did e ∷ l) n)) (sym q) (seen-by (mv .way))
             go (no h) = subst₂ SeenBy (sym (set-other (e .name) (e .effect .session) (e .on .sessions) n h)) (sym (view-other n h)) (vs .seen n)
 
-  deal-views : (l : List Entry) (d : Dealing) (x : Dealt) → Views (d .on) l → Views (afterDealing (d .holder) x (d .on)) (dealt d ∷ l)
+  pub deal-views : (l : List Entry) (d : Dealing) (x : Dealt) → Views (d .on) l → Views (afterDealing (d .holder) x (d .on)) (dealt d ∷ l)
   deal-views l d x vs = record { tied = vs .tied; halves = halves-now; seen = vs .seen }
     where
       halves-now : (w : Party) (i : ℕ) (d′ : Dealing) (n : ℕ) → place (dealt d ∷ l) w i ≡ holds d′ (some n) → view l n .half ≡ half w d′
@@ -266,18 +268,31 @@ module _ (size : Party → ℕ) (start : Party → List ℕ) (lent : ℕ → Lis
           go (yes _) g = none≢ (same-server g)
           go (no _) g = vs .halves w i d′ n g
 
+  pub deal-lent : (l : List Entry) (d : Dealing) (x : Dealt) → Lent lent (d .on) l → Lent lent (afterDealing (d .holder) x (d .on)) (dealt d ∷ l)
+  deal-lent l d x o = record {
+    shown = o .shown;
+    is-tenant = λ b e i. let k = o .is-tenant b e i in record { lent-is = k .lent-is; is-begun = k .is-begun; role-is = k .role-is; terms-are = k .terms-are; coins-are = k .coins-are };
+    keeps-it = o .keeps-it;
+  }
+
+  pub views-start : Lent lent (fresh-state start lent) [] × Views (fresh-state start lent) []
+  views-start = (
+    record { shown = λ b. refl; is-tenant = λ b e h. none≢ h; keeps-it = λ n d r. absurd (omega arith) },
+    record { tied = λ b x h. none≢ h; halves = λ w i d n h. absurd (let z : _≡_ {A = ℕ} 0 1 = cc in omega arith); seen = λ n. tt },
+  )
+
+  -- what every dealing and every move keeps, where the scratches and the views stand as they should, holds after every list
+  module _ (empty : Empty size start) (P : State → List Entry → Type 0) (base : P (fresh-state start lent) [])
+      (deal-step : (l : List Entry) (d : Dealing) (x : Dealt) → P (d .on) l → P (afterDealing (d .holder) x (d .on)) (dealt d ∷ l))
+      (move-step : (l : List Entry) (e : Did) → Inv size start (e .on) l → Premises size (did e ∷ l) → Move size start l e → Lent lent (e .on) l → Views (e .on) l → P (e .on) l
+      → P (stateAfter size start e) (did e ∷ l)) where
+    pub along-views : (cs : List Call) → Premises size (run size start lent cs .log) → P (run size start lent cs .state) (run size start lent cs .log)
+    along-views cs p =
+        along size start empty lent (λ st l. (Lent lent st l × Views st l) × P st l) (views-start, base)
+        (λ l d x v q h o. ((deal-lent l d x (o .0 .0), deal-views l d x (o .0 .1)), deal-step l d x (o .1)))
+        (λ l e v q mv o. ((move-lent size start lent l e q mv (o .0 .0), move-views l e v q mv (o .0 .0) (o .0 .1)), move-step l e v q mv (o .0 .0) (o .0 .1) (o .1))) cs p .1 .1
+
   pub views : Empty size start → (cs : List Call) → Premises size (run size start lent cs .log) → Views (run size start lent cs .state) (run size start lent cs .log)
   views empty cs p =
-      along size start empty lent (λ st l. Lent lent st l × Views st l) (
-        record { shown = λ b. refl; is-tenant = λ b e h. none≢ h; keeps-it = λ n d r. absurd (omega arith) },
-        record { tied = λ b x h. none≢ h; halves = λ w i d n h. absurd (let z : _≡_ {A = ℕ} 0 1 = cc in omega arith); seen = λ n. tt },
-      )
-      (λ l d x v q h o. (deal-lent l d x (o .0), deal-views l d x (o .1)))
+      along size start empty lent (λ st l. Lent lent st l × Views st l) views-start (λ l d x v q h o. (deal-lent l d x (o .0), deal-views l d x (o .1)))
       (λ l e v q mv o. (move-lent size start lent l e q mv (o .0), move-views l e v q mv (o .0) (o .1))) cs p .1 .1
-    where
-      deal-lent : (l : List Entry) (d : Dealing) (x : Dealt) → Lent lent (d .on) l → Lent lent (afterDealing (d .holder) x (d .on)) (dealt d ∷ l)
-      deal-lent l d x o = record {
-        shown = o .shown;
-        is-tenant = λ b e i. let k = o .is-tenant b e i in record { lent-is = k .lent-is; is-begun = k .is-begun; role-is = k .role-is; terms-are = k .terms-are; coins-are = k .coins-are };
-        keeps-it = o .keeps-it;
-      }

@@ -1,11 +1,13 @@
--- Demand 3, in reading order.
+-- Demands 3 and 2, in reading order.
 -- Ends      sessions and steps of all four ends as one type
 -- Log       calls, what they leave, the log, places, and 01's premises
 -- Contents  what slots and scratches hold
 -- Seen      what the end of each session has seen
 -- Claim     demand 3
+-- Right     demand 2, for the same lists
 pub mod Ends
 pub mod Log
 pub mod Contents
 pub mod Seen
 pub mod Claim
+pub mod Right

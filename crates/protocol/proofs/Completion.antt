@@ -114,7 +114,7 @@ not-product : {A : Type 0} → system ≡ product → A
 not-product e = absurd (let z : _≡_ {A = ℕ} 0 1 = cc in omega arith)
 
 -- a system's terms are those of its unknowns
-terms-are : (t : Terms) → TermsFit system t → systemTerms (t .session) (t .tape) (t .q) (t .m) ≡ t
+pub terms-are : (t : Terms) → TermsFit system t → systemTerms (t .session) (t .tape) (t .q) (t .m) ≡ t
 unfolding sidesFit
 terms-are t a =
     let sides = and-right _ _ (a .sides) in
