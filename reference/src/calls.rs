@@ -170,7 +170,7 @@ fn leave<S: Record>((reply, s): (Reply, S), out: &mut [u32], session: &mut [u32]
     report(&reply, shown)
 }
 
-/// A first step, which is handed its terms and the room for its message.
+/// A first step, which is handed its terms and the room for its message. A refused one leaves the session's words as they were.
 fn begin<S: Record>(
     terms: &[u32],
     out: &mut [u32],
@@ -181,7 +181,11 @@ fn begin<S: Record>(
     if terms.len() < TERMS || session.len() < S::WORDS || shown.len() < REPORT {
         return SHORT;
     }
-    leave(step(Terms::of(terms), out.len()), out, session, shown)
+    let (reply, s) = step(Terms::of(terms), out.len());
+    if reply.number != 0 {
+        return report(&reply, shown);
+    }
+    leave((reply, s), out, session, shown)
 }
 
 /// A later step or a drop, which is handed its session.

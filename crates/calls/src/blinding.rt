@@ -3,6 +3,9 @@ use crate::words;
 use blinder_first::blinder_first;
 use blinder_later::blinder_last;
 use blinder_second::blinder_second;
+use protocol::Answer;
+ghost use mathlib.Core.Path.{_≡_};
+ghost use mathlib.Core.Logic.{_≢_};
 
 #[no_mangle]
 pub extern "C" fn call_blinder_first(
@@ -19,7 +22,9 @@ pub extern "C" fn call_blinder_first(
     out: &mut [u32],
     session: &mut [u32],
     report: &mut [u32],
-) -> u32 {
+) -> u32
+    ensures { λ r. ⌜ (r ≢ 0 → now (session .exit) ≡ now (session .entry)) ⌝ }
+{
     if terms.len() < 6 {
         return 99;
     }
@@ -50,9 +55,12 @@ pub extern "C" fn call_blinder_first(
     let a = done.answer;
     let s = done.session;
     let h = done.head;
-    words::put_blinder(s, session);
     words::put_report(a, h, report);
-    words::answered(a)
+    let Answer::Accepted(_) = a else {
+        return words::answered(a);
+    };
+    words::put_blinder(s, session);
+    0
 }
 
 #[no_mangle]

@@ -1,5 +1,5 @@
-// One call of the engine on numbers and slices of words alone: for programs that replay calls, and for a host that compares them with
-// another implementation.
+// One call of the engine on numbers and slices of words alone: for programs that replay calls, and for a harness that compares them with
+// another implementation. None of these is for hosts.
 //   words       terms, heads, sessions and answers as words
 //   dealing     call_deal_product, call_deal_system
 //   products    call_right_first, call_left_step, call_right_last
@@ -7,8 +7,9 @@
 //   blinding    call_blinder_first, call_blinder_second, call_blinder_last
 //   drops       call_right_drop, call_solver_drop, call_blinder_drop
 //   lines       call_parse, call_read, call_write, call_numbers
-// A call answers 0, or the number of its refusal, or 99 where a slice that stands for a record is too short; 99 changes nothing. Its report
-// has eight words: how many words were read, and the head of the message that is sent.
+// A call answers 0, or the number of its refusal, or 99 where a slice that stands for a record is too short; 99 changes nothing, and a
+// refusal nothing but the report, save the singular sum. The report has eight words: how many words were read, and the head of the message
+// that is sent.
 mod blinding;
 mod dealing;
 mod drops;

@@ -3,6 +3,9 @@ use crate::words;
 use product::left_step;
 use product::right_first;
 use product::right_last;
+use protocol::Answer;
+ghost use mathlib.Core.Path.{_≡_};
+ghost use mathlib.Core.Logic.{_≢_};
 
 #[no_mangle]
 pub extern "C" fn call_right_first(
@@ -14,7 +17,9 @@ pub extern "C" fn call_right_first(
     out: &mut [u32],
     session: &mut [u32],
     report: &mut [u32],
-) -> u32 {
+) -> u32
+    ensures { λ r. ⌜ (r ≢ 0 → now (session .exit) ≡ now (session .entry)) ⌝ }
+{
     if terms.len() < 6 {
         return 99;
     }
@@ -28,9 +33,12 @@ pub extern "C" fn call_right_first(
     let a = done.answer;
     let s = done.session;
     let h = done.head;
-    words::put_right(s, session);
     words::put_report(a, h, report);
-    words::answered(a)
+    let Answer::Accepted(_) = a else {
+        return words::answered(a);
+    };
+    words::put_right(s, session);
+    0
 }
 
 #[no_mangle]

@@ -1,8 +1,11 @@
 // The solver's steps.
 use crate::words;
+use protocol::Answer;
 use solver::solver_first;
 use solver::solver_last;
 use solver::solver_second;
+ghost use mathlib.Core.Path.{_≡_};
+ghost use mathlib.Core.Logic.{_≢_};
 
 #[no_mangle]
 pub extern "C" fn call_solver_first(
@@ -15,7 +18,9 @@ pub extern "C" fn call_solver_first(
     out: &mut [u32],
     session: &mut [u32],
     report: &mut [u32],
-) -> u32 {
+) -> u32
+    ensures { λ r. ⌜ (r ≢ 0 → now (session .exit) ≡ now (session .entry)) ⌝ }
+{
     if terms.len() < 6 {
         return 99;
     }
@@ -29,9 +34,12 @@ pub extern "C" fn call_solver_first(
     let a = done.answer;
     let s = done.session;
     let h = done.head;
-    words::put_solver(s, session);
     words::put_report(a, h, report);
-    words::answered(a)
+    let Answer::Accepted(_) = a else {
+        return words::answered(a);
+    };
+    words::put_solver(s, session);
+    0
 }
 
 #[no_mangle]
