@@ -1,6 +1,7 @@
 -- The names of sessions: those below the number of accepted first steps have a session that was begun, the others none. It holds of every list of calls,
 -- whatever its hosts do; so a first step always finds its session absent.
---   unbegun, begun-below, begun-named
+--   unbegun                   from that number on, no session
+--   begun-below, begun-named  below it a session that was begun, and only there
 -- Assumes nothing.
 use mathlib.Core.Path.{_≡_, refl, sym, ap, _∙_, subst}
 use mathlib.Core.Logic.{_≢_}
@@ -54,10 +55,12 @@ module _ (size : Party → ℕ) (start : Party → List ℕ) (lent : ℕ → Lis
           by-result : (x : Outcome Session) → runStep (begins t k) (o .state .sessions m) (slotOf size (o .state .pools) w i) (o .state .scratches b) ≡ x
               → Goal (advanceStep size w i b m (begins t k) o x)
           by-result (refused r) e = v
-          by-result (done f) e = record {
-            beyond = λ n h. set-other m (f .session) (o .state .sessions) n (λ q. omega (arith, h, q)) ∙ v .beyond n (omega (arith, h));
-            below = λ n h. begun-set (o .state .sessions) m (f .session) (begins-sound t k (slotOf size (o .state .pools) w i) (o .state .scratches b) f e .is-begun) n (λ a. v .below n (omega (arith, h, a)));
-          }
+          by-result (done f) e =
+              let g = begins-sound t k (slotOf size (o .state .pools) w i) (o .state .scratches b) f e in
+              record {
+                beyond = λ n h. set-other m (f .session) (o .state .sessions) n (λ q. omega (arith, h, q)) ∙ v .beyond n (omega (arith, h));
+                below = λ n h. begun-set (o .state .sessions) m (f .session) (g .is-begun) n (λ a. v .below n (omega (arith, h, a)));
+              }
       go (continuing w i b m k) v = by-result (runStep (goes-on k) (o .state .sessions m) (slotOf size (o .state .pools) w i) (o .state .scratches b)) refl
         where
           by-result : (x : Outcome Session) → runStep (goes-on k) (o .state .sessions m) (slotOf size (o .state .pools) w i) (o .state .scratches b) ≡ x
