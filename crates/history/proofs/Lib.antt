@@ -19,6 +19,7 @@
 -- Stood             an end's own half and coins complete the other's view
 -- Rightness         demand 2
 -- Example           a list in which every kind of call is accepted and refused
+-- Interleaved       two products and a system interleaved: every field of demand 2 is met
 pub mod Words
 pub mod Steps
 pub mod Facts
@@ -42,3 +43,4 @@ pub mod Dealable
 pub mod Stood
 pub mod Rightness
 pub mod Example
+pub mod Interleaved
