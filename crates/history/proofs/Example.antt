@@ -35,7 +35,7 @@ use Rattle.protocol.specs.System.{padded, sideSize, keptS, keptM, keptY, scratc
 use Rattle.protocol.specs.Drop.{dropRight, dropSolver, dropBlinder}
 use Rattle.protocol.specs.View.{View, facing, kindsSent, Finished}
 use Rattle.protocol.specs.Completion.{said, completions, Counted, solutionFor, answerSeen}
-use Rattle.history.specs.Ends.{Session, absent, isBegun, dueIn, roleIn, right-first, left-only, solver-first, blinder-first, right-last, solver-second, solver-last, blinder-second, blinder-last, right-drop, solver-drop, blinder-drop, begins, goes-on, runFirst, runLater, runStep}
+use Rattle.history.specs.Ends.{Session, absent, isBegun, dueIn, roleIn, right-first, left-only, solver-first, blinder-first, right-last, solver-second, solver-last, blinder-second, blinder-last, right-drop, solver-drop, blinder-drop, Step, begins, goes-on, runFirst, runLater, runStep}
 use Rattle.history.specs.Log.{Party, first, second, opposite, Call, dealing, stepping, Dealing, Did, Entry, dealt, did, World, slotOf, advanceDealing, advanceStep, advance, run, halfRole, holds, here, WasDealt, numberOf, Distinct, Premises}
 use Rattle.history.specs.Contents.{half}
 use Rattle.history.specs.Seen.{view, as-answered}
@@ -43,7 +43,7 @@ use Rattle.history.specs.Claim.{Demand3}
 use Rattle.history.specs.Right.{newest, result, Paired, Arrived, AddTo, sumOf, OnlySolution, Demand2}
 use Rattle.history.proofs.Demand.{demand-3}
 use Rattle.history.proofs.Rightness.{demand-2}
-use Rattle.history.proofs.Facts.{set-other, same-dealing}
+use Rattle.history.proofs.Facts.{set-other, same-dealing, none≢}
 
 -- three slots of 13 words, and one word more
 abbrev pub sizes : Party → ℕ
@@ -442,16 +442,29 @@ pub system-here : OnlySolution (view (end .log) 3) (view (end .log) 2) (3 ∷ []
 system-here = subst (OnlySolution (view (end .log) 3) (view (end .log) 2)) (gave .2) (right-here .system 3 2 (paired end blinder 3 2 7 _ _ _ _ system-met) (arrived end blinder 3 2 7 _ _ system-met refl refl))
 
 -- and the singular sum was answered by 10: the solver's last step was handed message 4 as it was sent
-singular-here : (e : Did) (a : Message) (room : ℕ) → newest (end .log) 0 ≡ some e → e .step ≡ goes-on (solver-last a room) → a .residues ≡ 3 ∷ 4 ∷ []
-    → e .effect .answer ≡ cond (hasInverse (view (end .log) 1 .terms .q) (view (end .log) 1 .terms .m) (sumOf (view (end .log) 1) (view (end .log) 0))) (Accepted 0) (Refused Singular)
-singular-here e a room n s m =
-    right-here .singular 1 0 (paired end blinder 1 0 5 _ _ _ _ singular-met) e a room n s (ap (take 2) (singular-met .6) ∙ sym (ap (take 2) (singular-met .7)))
-    (ap₂ (λ (z : List (List ℕ)) (m : List ℕ). take 1 z ++ (m ∷ [])) (singular-met .8) m ∙ sym (singular-met .9))
+abbrev stepIn : Option Did → Option Step
+stepIn none = none
+stepIn (some e) = some (e .step)
 
-answer-of : Option Did → ℕ
-answer-of none = 0
-answer-of (some e) = answerNumber (e .effect .answer)
+singular-step : (stepIn (newest (end .log) 0) ≡ some (goes-on (solver-last (msg 4 (system-terms 5) (3 ∷ 4 ∷ [])) 1)))
+    × (hasInverse (view (end .log) 1 .terms .q) (view (end .log) 1 .terms .m) (sumOf (view (end .log) 1) (view (end .log) 0)) ≡ false)
+unfolding sumTo tabulate zeros addMod subMod matAdd matSub dotTo dot matMul both parts join cols beside noDivisor isPrime inverseBy inverse swapAt swapRows scaleRow clearColumn pivotFrom pivot step eliminateFrom eliminate regular solution dealB sendY sendX sendR rightShare dealV solverShare sendF sendW sendC sumMatrix over writtenAt given clear judgeBy judge isKept residueOf residuesOf drawn wordsRead drawTests within columns allBelow fieldFits sidesFit shapeTests termsTests inputTests roomTests isSlot slotWords poolWith headerWords bodySize tapeSize statusOf withStatus spent body matrices wordsInUse wordsSpent slotTests halfTests tapeTests bodyTests drawSize drawnParts dealtB dealtV isFree dealTests dealtOver dealtEffect deal kindSort messageLayout messageSize messageParts messageTests dueTests firstTests isOpen openTests laterTests rightFirstEffect rightFirstTests rightFirst leftEffect leftTests leftStep rightLastEffect rightLastTests rightLast padded sideSize keptS keptM keptY scratchSize keptTests blinderTests solverTests coinsOf scratchParts regularTests jointSum solverFirstEffect solverFirstTests solverFirst blinderFirstEffect blinderFirstTests blinderFirst solverSecondEffect solverSecondTests solverSecond blinderSecondEffect blinderSecondTests blinderSecond solverLastEffect solverLastTests solverLast blinderLastEffect blinderLastTests blinderLast dropRight dropSolver dropBlinder said runFirst runLater here halfRole half ℕ-discrete sumLists count eqList idMat areInverse hasInverse
+singular-step = (refl, refl)
 
-singular-answer : answer-of (newest (end .log) 0) ≡ 10
-unfolding sumTo tabulate zeros addMod subMod matAdd matSub dotTo dot matMul both parts join cols beside noDivisor isPrime inverseBy inverse swapAt swapRows scaleRow clearColumn pivotFrom pivot step eliminateFrom eliminate regular solution dealB sendY sendX sendR rightShare dealV solverShare sendF sendW sendC sumMatrix over writtenAt given clear judgeBy judge isKept residueOf residuesOf drawn wordsRead drawTests within columns allBelow fieldFits sidesFit shapeTests termsTests inputTests roomTests isSlot slotWords poolWith headerWords bodySize tapeSize statusOf withStatus spent body matrices wordsInUse wordsSpent slotTests halfTests tapeTests bodyTests drawSize drawnParts dealtB dealtV isFree dealTests dealtOver dealtEffect deal kindSort messageLayout messageSize messageParts messageTests dueTests firstTests isOpen openTests laterTests rightFirstEffect rightFirstTests rightFirst leftEffect leftTests leftStep rightLastEffect rightLastTests rightLast padded sideSize keptS keptM keptY scratchSize keptTests blinderTests solverTests coinsOf scratchParts regularTests jointSum solverFirstEffect solverFirstTests solverFirst blinderFirstEffect blinderFirstTests blinderFirst solverSecondEffect solverSecondTests solverSecond blinderSecondEffect blinderSecondTests blinderSecond solverLastEffect solverLastTests solverLast blinderLastEffect blinderLastTests blinderLast dropRight dropSolver dropBlinder said runFirst runLater here halfRole half ℕ-discrete answer-of
-singular-answer = refl
+pub singular-here : (e : Did) × (newest (end .log) 0 ≡ some e) × (e .effect .answer ≡ Refused Singular)
+singular-here = go (newest (end .log) 0) refl (singular-step .0)
+  where
+    same : {k k′ : Step} → some k ≡ some k′ → k ≡ k′
+    same h = cc
+
+    go : (x : Option Did) → newest (end .log) 0 ≡ x → stepIn x ≡ some (goes-on (solver-last (msg 4 (system-terms 5) (3 ∷ 4 ∷ [])) 1))
+        → (e : Did) × (newest (end .log) 0 ≡ some e) × (e .effect .answer ≡ Refused Singular)
+    go none q h = none≢ h
+    go (some e) q h = (
+      e,
+      q,
+      right-here .singular 1 0 (paired end blinder 1 0 5 _ _ _ _ singular-met) e (msg 4 (system-terms 5) (3 ∷ 4 ∷ [])) 1 q (same h)
+          (ap (take 2) (singular-met .6) ∙ sym (ap (take 2) (singular-met .7)))
+          (ap (λ (z : List (List ℕ)). take 1 z ++ ((3 ∷ 4 ∷ []) ∷ [])) (singular-met .8) ∙ sym (singular-met .9))
+          ∙ ap (λ (b : Bool). cond b (Accepted 0) (Refused Singular)) (singular-step .1),
+    )

@@ -1,19 +1,16 @@
 -- Two products and a system interleaved, a drop, and slots dealt again, computed: the premises of demand 2 hold of the list, and each of its fields is met by a part
 -- of it. Assumes nothing.
 use mathlib.Core.Path.{_≡_, refl, sym, ap, ap₂, _∙_, subst, subst₂}
-
-use mathlib.Core.Bool.{Bool, true, false, cond}
+use mathlib.Core.Bool.{true}
 use mathlib.Core.List.{List, [], _∷_, _++_}
 use mathlib.Core.Option.{Option, some, none}
-use Prim.Native.Nat.{ℕ, zero, suc, _≤_, _<_}
+use mathlib.Core.Logic.{inl, inr}
+use Prim.Native.Nat.{ℕ, zero, suc, _≤_}
 use native.Mathlib.Omega.{arith}
 use native.Mathlib.Decide.{ℕ-discrete}
-use lib.Dec.{eqb, ltb}
 use lib.ListN.{length, take}
-use borrow.Author.Tests.{ltb-true, eq-eqb}
 use Rattle.algebra.specs.Matrix.{sumTo, tabulate, zeros, addMod, subMod, matAdd, matSub, dotTo, dot, matMul}
-use Rattle.algebra.specs.Count.{both, parts, join, eqList, sumLists, count}
-use Rattle.algebra.specs.Inverse.{idMat, areInverse, hasInverse}
+use Rattle.algebra.specs.Count.{both, parts, join, part}
 use Rattle.algebra.specs.Columns.{cols, beside}
 use Rattle.algebra.specs.Prime.{noDivisor, isPrime}
 use Rattle.algebra.specs.Elimination.{inverseBy, inverse, swapAt, swapRows, scaleRow, clearColumn, pivotFrom, pivot, step, eliminateFrom, eliminate, regular, solution}
@@ -21,45 +18,30 @@ use Rattle.algebra.specs.Product.{dealB, sendY, sendX, sendR, rightShare}
 use Rattle.algebra.specs.System.{dealV, solverShare, sendF, sendW, sendC, sumMatrix}
 use Rattle.algebra.specs.Words.{over, writtenAt}
 use Rattle.protocol.specs.declared.Terms.{Terms}
-use Rattle.protocol.specs.declared.Answer.the-variants.{Accepted, Refused}
-use Rattle.protocol.specs.declared.Refusal.the-variants.{Singular}
 use Rattle.protocol.specs.Judge.{Judged, refused, done, given, clear, judgeBy, judge}
 use Rattle.protocol.specs.Drawing.{isKept, residueOf, residuesOf, drawn, wordsRead, drawTests}
-use Rattle.protocol.specs.Bounds.{within, columns, allBelow, fieldFits, sidesFit, shapeTests, termsTests, inputTests, roomTests}
-use Rattle.protocol.specs.Tape.{isSlot, slotWords, poolWith, headerWords, bodySize, tapeSize, statusOf, withStatus, spent, body, matrices, wordsInUse, wordsSpent, slotTests, halfTests, tapeTests, bodyTests, Role, sortOf, left, right, blinder, solver}
-use Rattle.protocol.specs.Deal.{Request, Dealt, productRequest, systemRequest, drawSize, drawnParts, dealtB, dealtV, isFree, dealTests, dealtOver, dealtEffect, deal, dealAnswer}
+use Rattle.protocol.specs.Bounds.{within, columns, allBelow, fieldFits, sidesFit, shapeTests, termsTests, inputTests, roomTests, system}
+use Rattle.protocol.specs.Tape.{isSlot, slotWords, poolWith, headerWords, bodySize, tapeSize, statusOf, withStatus, spent, body, matrices, wordsInUse, wordsSpent, slotTests, halfTests, tapeTests, bodyTests, Role, left, right, blinder, solver}
+use Rattle.protocol.specs.Deal.{Request, Dealt, productRequest, drawSize, drawnParts, dealtB, dealtV, isFree, dealTests, dealtOver, dealtEffect, deal, maskFits}
 use Rattle.protocol.specs.Message.{Message, kindSort, messageLayout, messageSize, messageParts, messageTests, dueTests}
-use Rattle.protocol.specs.Step.{Outcome, answerNumber, answerAfter, firstTests, isOpen, openTests, laterTests}
+use Rattle.protocol.specs.Step.{Outcome, firstTests, isOpen, openTests, laterTests}
 use Rattle.protocol.specs.Product.{rightFirstEffect, rightFirstTests, rightFirst, leftEffect, leftTests, leftStep, rightLastEffect, rightLastTests, rightLast}
 use Rattle.protocol.specs.System.{padded, sideSize, keptS, keptM, keptY, scratchSize, keptTests, blinderTests, solverTests, coinsOf, scratchParts, regularTests, jointSum, solverFirstEffect, solverFirstTests, solverFirst, blinderFirstEffect, blinderFirstTests, blinderFirst, solverSecondEffect, solverSecondTests, solverSecond, blinderSecondEffect, blinderSecondTests, blinderSecond, solverLastEffect, solverLastTests, solverLast, blinderLastEffect, blinderLastTests, blinderLast}
 use Rattle.protocol.specs.Drop.{dropRight, dropSolver, dropBlinder}
-use Rattle.protocol.specs.View.{View, facing, kindsSent, Finished}
-use Rattle.protocol.specs.Completion.{said, completions, Counted, solutionFor, answerSeen}
-use Rattle.history.specs.Ends.{Session, absent, isBegun, dueIn, roleIn, right-first, left-only, solver-first, blinder-first, right-last, solver-second, solver-last, blinder-second, blinder-last, right-drop, solver-drop, blinder-drop, begins, goes-on, runFirst, runLater, runStep}
-use Rattle.history.specs.Log.{Party, first, second, opposite, Call, dealing, stepping, Dealing, Did, Entry, dealt, did, World, slotOf, advanceDealing, advanceStep, advance, run, halfRole, holds, here, WasDealt, numberOf, Distinct, Premises}
+use Rattle.protocol.specs.View.{View, facing}
+use Rattle.protocol.specs.Completion.{said, Taken}
+use Rattle.history.specs.Ends.{Session, dueIn, right-first, left-only, solver-first, blinder-first, right-last, solver-second, solver-last, blinder-second, blinder-last, solver-drop, begins, goes-on, runFirst, runLater, runStep, First, Later}
+use Rattle.history.specs.Log.{Party, first, second, opposite, Call, dealing, stepping, Dealing, Did, Entry, dealt, did, World, slotOf, advanceDealing, advanceStep, advance, run, halfRole, holds, here, Premises, choose, party-eq, roleBy, Place, untouched, place, WasDone, lentTo}
 use Rattle.history.specs.Contents.{half}
-use Rattle.history.specs.Seen.{view, as-answered}
-use Rattle.history.specs.Claim.{Demand3}
-use Rattle.history.specs.Right.{newest, result, Paired, Arrived, AddTo, sumOf, OnlySolution, Demand2}
-use Rattle.history.proofs.Demand.{demand-3}
+use Rattle.history.specs.Seen.{view}
+use Rattle.history.specs.Right.{newest, result, Paired, AddTo, OnlySolution, Demand2, DealtNow, HasServed, TakenNow, TermsOf, SentTo, FairLater, SoFar, Stood}
 use Rattle.history.proofs.Rightness.{demand-2}
-use Rattle.history.proofs.Facts.{set-other, same-dealing}
-use Rattle.history.specs.Ends.{First, Later, Step}
-use Rattle.history.proofs.Example.{sizes, start, lent, product-terms, system-terms, msg, a-product, a-system, answers, distinct, own, other-role, named-below, unnamed, NoBlinder, no-session, three-slots, finished-by}
-use mathlib.Core.Logic.{inl, inr}
-use Rattle.algebra.specs.Count.{part}
-use Rattle.protocol.specs.Completion.{Taken}
-use Rattle.history.specs.Log.{choose, party-eq, roleBy, Place, untouched, place, WasDone}
-use Rattle.history.specs.Right.{DealtNow, HasServed, TakenNow, TermsOf, SentTo, FairLater, SoFar, Stood}
-use Rattle.history.specs.Log.{lentTo}
-use Rattle.protocol.specs.Bounds.{system}
-use Rattle.protocol.specs.Deal.{maskFits}
 use Rattle.history.proofs.Facts.{none≢}
-use Rattle.history.proofs.Example.{Ends-here, paired, arrived}
+use Rattle.history.proofs.Example.{sizes, start, lent, product-terms, system-terms, msg, a-product, a-system, answers, distinct, own, other-role, unnamed, NoBlinder, no-session, three-slots, Ends-here, paired, arrived}
 
 -- ---- the list
 
--- a third product: q 10, X of two rows, Y of two columns
+-- the second product: q 10, X of two rows, Y of two columns
 abbrev ten-terms : (tape : ℕ) → Terms
 ten-terms i = record { session = record { 0 = 9 }; tape = record { 0 = i }; q = 10; m = 2; k = 1; p = 2 }
 
