@@ -16,9 +16,11 @@
 -- Demand            demand 3
 -- Results, Shared   what a session's last step gave; two sessions that are the ends of one tape
 -- Sent, Progress    what steps sent; an end that keeps to the rules is answered
+-- Dealable          a dealing that keeps to the rules is accepted
 -- Stood             an end's own half and coins complete the other's view
 -- Rightness         demand 2
 -- Example           a list in which every kind of call is accepted and refused
+-- Interleaved       two products and a system interleaved: every field of demand 2 is met
 pub mod Words
 pub mod Steps
 pub mod Facts
@@ -39,6 +41,8 @@ pub mod Results
 pub mod Shared
 pub mod Sent
 pub mod Progress
+pub mod Dealable
 pub mod Stood
 pub mod Rightness
 pub mod Example
+pub mod Interleaved
