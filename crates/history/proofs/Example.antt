@@ -76,7 +76,7 @@ a-product i = productRequest (record { 0 = i }) 7 1 2 1 (1 ∷ 4 ∷ 6 ∷ 3 ∷
 abbrev pub a-system : (tape : ℕ) → Request
 a-system i = systemRequest (record { 0 = i }) 5 1 (1 ∷ 4 ∷ 2 ∷ 0 ∷ 3 ∷ 3 ∷ 2 ∷ 1 ∷ [])
 
--- Each part of the list comes before those that follow it in time, newest first in each.
+-- Each part of the list comes before those that follow it in time, newest first in each. Sessions have their names from 0 up, as their first steps are accepted.
 -- A system whose sum is singular: its solver is session 0 of the first party, its blinder session 1 of the second, on scratch 3
 abbrev opening : List Call
 opening =
