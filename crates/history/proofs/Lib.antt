@@ -3,8 +3,9 @@
 -- Steps             what an accepted step or drop needs and leaves: all that the bookkeeping knows of steps
 -- Facts             of any log
 -- Dealt             what an accepted dealing needs and leaves
+-- Named             the names of the sessions that were begun: of every list, without a premise
 -- Kept              the invariant, kept by every accepted call
--- Along             the only induction over calls: what dealings and moves keep holds after every list
+-- Along             the induction over calls under the premises: what dealings and moves keep holds after every list
 -- Once              each step of a session was accepted once at most
 -- Served            each half served one session at most
 -- Lent              the scratches
@@ -15,13 +16,16 @@
 -- Demand            demand 3
 -- Results, Shared   what a session's last step gave; two sessions that are the ends of one tape
 -- Sent, Progress    what steps sent; an end that keeps to the rules is answered
+-- Dealable          a dealing that keeps to the rules is accepted
 -- Stood             an end's own half and coins complete the other's view
 -- Rightness         demand 2
 -- Example           a list in which every kind of call is accepted and refused
+-- Interleaved       two products and a system interleaved: every field of demand 2 is met
 pub mod Words
 pub mod Steps
 pub mod Facts
 pub mod Dealt
+pub mod Named
 pub mod Kept
 pub mod Along
 pub mod Once
@@ -37,6 +41,8 @@ pub mod Results
 pub mod Shared
 pub mod Sent
 pub mod Progress
+pub mod Dealable
 pub mod Stood
 pub mod Rightness
 pub mod Example
+pub mod Interleaved
