@@ -3,13 +3,12 @@
 --   short-holding      a dealing from too few words leaves halves of residues, too
 --   lines-cover        the tests on what the lines say cover every test of the four calls
 --   calls-cover        and the other way round: none of them is without a call that makes it
---   rehearsal-lowest   so both lists give the same lowest number
+--   rehearsal-lowest, refused-lowest   so both lists give the same lowest number
 -- Assumes nothing.
 use mathlib.Core.Path.{_≡_, refl, sym, _∙_, subst}
 use mathlib.Core.Bool.{Bool, true, false, false≢true}
 use mathlib.Core.List.{List, [], _∷_, _++_}
 use Prim.Native.Nat.{ℕ, suc, _+_, _*_, _≤_, _<_}
-use native.Mathlib.Nat.{le-max-left, le-max-right}
 use native.Mathlib.Omega.{arith}
 use lib.ListN.{length, take, drop, length-append, length-take}
 use borrow.Author.Tests.{eq-eqb, le-leb, leb-true}
@@ -22,24 +21,25 @@ use Rattle.algebra.proofs.Parts.{none, _then_}
 use Rattle.protocol.specs.declared.Terms.{Terms}
 use Rattle.protocol.specs.declared.Head.{Head}
 use Rattle.protocol.specs.declared.RightSession.{RightSession}
+use Rattle.protocol.specs.declared.Refusal.{Refusal}
 use Rattle.protocol.specs.declared.Refusal.the-variants.{Form, Modulus, Mark, Singular}
-use Rattle.protocol.specs.Judge.{Test, needs, given, clear, judge}
+use Rattle.protocol.specs.Judge.{Test, needs, given, clear, refused, judge}
 use Rattle.protocol.specs.Drawing.{drawn, drawTests}
 use Rattle.protocol.specs.Bounds.{largestModulus, within, allBelow, product, shapeTests, termsTests, inputTests, roomTests}
 use Rattle.protocol.specs.Tape.{Slot, slotAt, isSlot, slotWords, headerWords, READY, IN-USE, Role, left, right, sortOf, bodySize, tapeSize, statusOf, body, matrices, slotTests, halfTests, tapeTests, bodyTests}
-use Rattle.protocol.specs.Deal.{Dealt, drawSize, drawnParts, dealtB, isFree, dealTests, dealtOver, dealtEffect}
+use Rattle.protocol.specs.Deal.{drawSize, drawnParts, dealtB, isFree, dealTests, dealtOver, dealtEffect}
 use Rattle.protocol.specs.Message.{Message, kindSort, messageLayout, messageSize, messageTests, dueTests}
 use Rattle.protocol.specs.Step.{Effect, isOpen, firstTests, openTests, laterTests}
 use Rattle.protocol.specs.Product.{rightFirstEffect, rightFirstTests, leftEffect, leftTests, rightLastTests}
-use Rattle.protocol.specs.Rehearsal.{Input, request, rehearsalTests, slotSize, callTests}
-use Rattle.protocol.proofs.Judge.{Pass, _next_, nothing, Covers, clear-append, covers-self, covers-pass, covers-rest, _too_, covers-split, covers-given, same-lowest, bad-modulus}
+use Rattle.protocol.specs.Rehearsal.{Input, request, rehearsalTests, slotSize, leftSlot, rightSlot, callTests}
+use Rattle.protocol.proofs.Judge.{Pass, _next_, nothing, Covers, clear-append, covers-self, covers-pass, covers-rest, _too_, covers-split, covers-given, same-lowest, bad-modulus, Lowest, lowest}
 use Rattle.protocol.proofs.Residues.{residues-below, below-append, below-take, below-drop, drawn-below}
 use Rattle.protocol.proofs.Slots.{written}
 use Rattle.protocol.proofs.Tests.{HalfFits, half-slot, half-room, half-tape, body-fits, fits-body, open-due, MessageFits, message-due, input-tests, room-tests}
 use Rattle.protocol.proofs.Halves.{tapeWords, Holding, header-fits, half-fits, matrices-fit, fits-holding, holding-used}
 use Rattle.protocol.proofs.Messages.{own-message}
 use Rattle.protocol.proofs.Dealing.{requestFor, dealt-inside, dealt-words}
-use Rattle.protocol.proofs.RehearsalRight.{empty-slot, empty-free, some-words}
+use Rattle.protocol.proofs.RehearsalRight.{empty-slot, empty-free, some-words, left-room, right-room}
 
 -- ---- of these tests only the terms can fail
 
@@ -132,12 +132,6 @@ module _ (i : Input) (h0 : 0 < i .terms .q) where
     short-holding = fits-holding half (body-fits role READY t s half (below next nothing))
 
   -- the two halves of the run
-  left-room : tapeSize left (t .m) (t .k) (t .p) ≤ size
-  left-room = le-max-left _ _
-
-  right-room : tapeSize right (t .m) (t .k) (t .p) ≤ size
-  right-room = le-max-right _ _
-
   abbrev ds : List (List ℕ)
   ds = drawnParts (requestFor product t (i .dealerWords))
 
@@ -149,22 +143,19 @@ module _ (i : Input) (h0 : 0 < i .terms .q) where
       let b1 = below-drop q (t .m * t .k) _ b in
       (short-take q (t .m * t .k) _ b, short-take q (t .k * t .p) _ b1, short-take q (t .m * t .p) _ (below-drop q (t .k * t .p) _ b1))
 
-  abbrev dealt : Dealt
-  dealt = dealtEffect (zeros size) (zeros size) size 0 (request i)
-
   abbrev a : Slot
-  a = slotAt (dealt .first) size 0
+  a = leftSlot i
 
   abbrev b : Slot
-  b = slotAt (dealt .second) size 0
+  b = rightSlot i
 
   left-holding : Holding left READY t (matrices left t (slotWords a)) a
   unfolding dealtEffect request bodySize
-  left-holding = short-holding left (part 0 ds ∷ part 2 ds ∷ []) left-room (short-join (drawn-short .0) (drawn-short .2))
+  left-holding = short-holding left (part 0 ds ∷ part 2 ds ∷ []) (left-room t) (short-join (drawn-short .0) (drawn-short .2))
 
   right-holding : Holding right READY t (matrices right t (slotWords b)) b
   unfolding dealtEffect request bodySize dealtB dealB
-  right-holding = short-holding right (part 1 ds ∷ _ ∷ []) right-room (short-join (drawn-short .1) (residues-short (sub-residues h0 _ _ _)))
+  right-holding = short-holding right (part 1 ds ∷ _ ∷ []) (right-room t) (short-join (drawn-short .1) (residues-short (sub-residues h0 _ _ _)))
 
   -- ---- each call's tests, of which only those on what the lines say can fail
 
@@ -192,8 +183,8 @@ module _ (i : Input) (h0 : 0 < i .terms .q) where
     deal-covers in-draw =
         let shape : Covers ts (shapeTests product (t .tape .0) (t .q) (t .m) (t .k) (t .p)) = covers-rest in-terms in
         let slot : Pass (slotTests empty) = inside next nothing in
-        let first : Pass (halfTests left (t .m) (t .k) (t .p) empty) = le-leb (tapeSize left (t .m) (t .k) (t .p)) size left-room next nothing in
-        let second : Pass (halfTests right (t .m) (t .k) (t .p) empty) = le-leb (tapeSize right (t .m) (t .k) (t .p)) size right-room next nothing in
+        let first : Pass (halfTests left (t .m) (t .k) (t .p) empty) = le-leb (tapeSize left (t .m) (t .k) (t .p)) size (left-room t) next nothing in
+        let second : Pass (halfTests right (t .m) (t .k) (t .p) empty) = le-leb (tapeSize right (t .m) (t .k) (t .p)) size (right-room t) next nothing in
         let free = empty-free size (some-words t) in
         let marks : Pass (needs Mark (isFree (statusOf (slotWords empty))) ∷ needs Mark (isFree (statusOf (slotWords empty))) ∷ needs Singular true ∷ [])
         = free next free next refl next nothing in
@@ -275,3 +266,7 @@ module _ (i : Input) where
           let m = lines-modulus w in
           bad-modulus (rehearsalTests i) e lines-form m
           ∙ sym (bad-modulus (callTests i) e calls-form (is-false _ (λ h. false≢true (sym m ∙ calls-cover i covers-self .clears Modulus h))))
+
+  -- a number that it refuses by applies to a call of the run, and no lower one does
+  pub refused-lowest : {A : Type 0} (e : A) (r : Refusal) → judge (rehearsalTests i) e ≡ refused r → Lowest r (callTests i)
+  refused-lowest e r h = lowest (callTests i) e r (sym (rehearsal-lowest e) ∙ h)
