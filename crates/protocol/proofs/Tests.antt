@@ -1,7 +1,7 @@
 -- What the groups of tests say that calls share: each group as a record of facts, with both directions.
 --   Decides                     of a judged call: it is accepted exactly where these facts hold, and has then this effect
 --   TermsFit, terms-tests       a session's numbers; ProductSides, SystemSides: its sides
---   HalfFits, half-tests        a slot that holds an end's half of a session's tape
+--   HalfFits, half-slot .. fits-body   a slot that holds an end's half of a session's tape
 --   FirstFits, OpenFits, LaterFits   what all first steps, all open sessions and all later steps need
 --   MessageFits                 a message of the kind that is due, of the session
 --   input-tests, room-tests, draw-tests   a slice of residues, room to write, enough words
@@ -199,15 +199,15 @@ module _ (role : Role) (status : ℕ) (t : Terms) (s : Slot) where
         p-is = eqb-true _ _ (here (rest c5));
       }
 
-  half-slot : HalfFits role status t s → Pass (slotTests s)
+  pub half-slot : HalfFits role status t s → Pass (slotTests s)
   unfolding slotTests
   half-slot f = f .inside next nothing
 
-  half-room : HalfFits role status t s → Pass (halfTests role (t .m) (t .k) (t .p) s)
+  pub half-room : HalfFits role status t s → Pass (halfTests role (t .m) (t .k) (t .p) s)
   unfolding halfTests
   half-room f = le-leb _ _ (f .room) next nothing
 
-  half-tape : HalfFits role status t s → Pass (tapeTests role status t (slotWords s))
+  pub half-tape : HalfFits role status t s → Pass (tapeTests role status t (slotWords s))
   unfolding tapeTests
   half-tape f =
       eq-eqb _ _ (f .status-is)
@@ -220,14 +220,14 @@ module _ (role : Role) (status : ℕ) (t : Terms) (s : Slot) where
       next nothing
 
   -- its matrices are residues
-  body-fits : HalfFits role status t s → Pass (bodyTests role t (slotWords s)) → Fits (t .q) (layout role (t .m) (t .k) (t .p)) (matrices role t (slotWords s))
+  pub body-fits : HalfFits role status t s → Pass (bodyTests role t (slotWords s)) → Fits (t .q) (layout role (t .m) (t .k) (t .p)) (matrices role t (slotWords s))
   unfolding bodyTests body matrices tapeSize bodySize
   body-fits f a =
       let n = total (layout role (t .m) (t .k) (t .p)) in
       let long : n ≤ length (drop headerSize (slotWords s)) = omega (arith, f .room, slot-length s (f .inside), length-drop headerSize (slotWords s)) in
       fits-parts (layout role (t .m) (t .k) (t .p)) (below-residues (length-take-le n (drop headerSize (slotWords s)) long) (here a))
 
-  fits-body : HalfFits role status t s → Fits (t .q) (layout role (t .m) (t .k) (t .p)) (matrices role t (slotWords s)) → Pass (bodyTests role t (slotWords s))
+  pub fits-body : HalfFits role status t s → Fits (t .q) (layout role (t .m) (t .k) (t .p)) (matrices role t (slotWords s)) → Pass (bodyTests role t (slotWords s))
   unfolding bodyTests body matrices tapeSize bodySize
   fits-body f g =
       let n = total (layout role (t .m) (t .k) (t .p)) in

@@ -5,7 +5,7 @@
 -- Assumes nothing.
 use mathlib.Core.Path.{_≡_, sym, ap, ap₂, _∙_}
 use mathlib.Core.List.{List, [], _++_, append-nil}
-use Prim.Native.Nat.{ℕ, _+_, _*_, _≤_, _<_, max}
+use Prim.Native.Nat.{ℕ, _+_, _*_, _≤_, _<_}
 use native.Mathlib.Omega.{arith}
 use lib.ListN.{length, getD, take, drop, replicate, length-replicate, getD-replicate}
 use lib.Seq.{getD-take, length-take-le, drop-length, ext-getD}
@@ -19,15 +19,15 @@ use Rattle.protocol.specs.declared.Answer.{Answer}
 use Rattle.protocol.specs.declared.RightSession.{RightSession}
 use Rattle.protocol.specs.Judge.{done}
 use Rattle.protocol.specs.Drawing.{drawn}
-use Rattle.protocol.specs.Tape.{Slot, slotAt, poolWith, tapeSize, left, right}
-use Rattle.protocol.specs.Deal.{Dealt, dealtEffect, deal, productRequest}
+use Rattle.protocol.specs.Tape.{Slot, slotAt, poolWith}
+use Rattle.protocol.specs.Deal.{deal, productRequest}
 use Rattle.protocol.specs.Message.{Message, messageLayout, messageSize}
 use Rattle.protocol.specs.Product.{noRight, rightFirst, rightFirstEffect, leftStep, leftEffect, rightLast, rightLastEffect}
-use Rattle.protocol.specs.Rehearsal.{Input, Run, request, rehearsalTests, steps, run}
+use Rattle.protocol.specs.Rehearsal.{Input, Run, request, rehearsalTests, slotSize, run, dealtRun, leftSlot, rightSlot}
 use Rattle.protocol.proofs.Judge.{passed}
 use Rattle.protocol.proofs.StepTests.{left-step, right-last}
 use Rattle.protocol.proofs.ProductRight.{ProductCalls, ProductRight, one, two, three}
-use Rattle.protocol.proofs.RehearsalRight.{RehearsalFits, rehearsal-tests, rehearsal-dealt, rehearsal-steps}
+use Rattle.protocol.proofs.RehearsalRight.{RehearsalFits, rehearsal-tests, runCalls, rehearsal-dealt, rehearsal-steps, rehearsal-run}
 use Rattle.checks.specs.InOrder.{judged}
 use Rattle.checks.proofs.Sides.{Sides, sides}
 use Rattle.session.specs.Leaves.{Leaves, leaves}
@@ -35,7 +35,7 @@ use Rattle.halves.specs.Dealt.{Pools, pools}
 use Rattle.protocol.specs.Message.{messageWith}
 use Rattle.rehearse_lines.specs.Prints.{runOf}
 use Rattle.rehearse.specs.Order.{inputOf}
-use Rattle.rehearse.specs.Rooms.{slotSize, Rooms}
+use Rattle.rehearse.specs.Rooms.{Rooms}
 
 -- ---- slices that are written whole, and an empty pool of one slot
 
@@ -98,37 +98,19 @@ module _ (t : Terms) (x y d l : List ℕ) (ok : judged (rehearsalTests (inputOf 
       (omega (arith, bounds .few-kp), omega (arith, bounds .few-mk, bounds .few-mp), omega (arith, r .left-share, bounds .few-mp), omega (arith, r .right-share, bounds .few-mp))
 
   abbrev size : ℕ
-  size = max (tapeSize left (t .m) (t .k) (t .p)) (tapeSize right (t .m) (t .k) (t .p))
-
-  abbrev effect : Dealt
-  effect = dealtEffect (zeros size) (zeros size) size 0 (request i)
-
-  dealt : deal (zeros size) (zeros size) size 0 (request i) ≡ done effect
-  dealt = rehearsal-dealt i fits
+  size = slotSize t
 
   abbrev calls : ProductCalls
-  calls = record {
-    x = x;
-    y = y;
-    words = l;
-    room1 = messageSize 1 t;
-    room2 = messageSize 2 t;
-    leftRoom = t .m * t .p;
-    rightRoom = t .m * t .p;
-  }
+  calls = runCalls i
 
   abbrev a : Slot
-  a = slotAt (effect .first) size 0
+  a = leftSlot i
 
   abbrev b : Slot
-  b = slotAt (effect .second) size 0
+  b = rightSlot i
 
   held : ProductRight t a b calls
   held = rehearsal-steps i fits
-
-  run-is : run i ≡ record { one = one t a b calls .sent; two = two t a b calls .sent; leftShare = two t a b calls .result; rightShare = three t a b calls .result }
-  unfolding run steps
-  run-is = rw (dealt, held .step1, held .step2, held .step3)
 
   -- the messages and the shares have their sizes
   size-one : length (one t a b calls .sent .residues) ≡ messageSize 1 t
@@ -151,14 +133,14 @@ module _ (t : Terms) (x y d l : List ℕ) (ok : judged (rehearsalTests (inputOf 
   module _ (n : ℕ) (a0 b0 a1 b1 : List ℕ) (r0 : Answer) (en : n ≡ size) (ea : a0 ≡ zeros size) (eb : b0 ≡ zeros size)
       (e0 : _≡_ {A = Pools} (record { answer = r0; first = a1; second = b1 })
       (pools a0 b0 (deal a0 b0 n 0 (productRequest (t .tape) (t .q) (t .m) (t .k) (t .p) d)))) where
-    dealt-pools : pools a0 b0 (deal a0 b0 n 0 (productRequest (t .tape) (t .q) (t .m) (t .k) (t .p) d)) ≡ pools (zeros size) (zeros size) (done effect)
+    dealt-pools : pools a0 b0 (deal a0 b0 n 0 (productRequest (t .tape) (t .q) (t .m) (t .k) (t .p) d)) ≡ pools (zeros size) (zeros size) (done (dealtRun i))
     unfolding request
-    dealt-pools = rw (ea, eb, en, dealt)
+    dealt-pools = rw (ea, eb, en, rehearsal-dealt i fits)
 
-    first-is : a1 ≡ effect .first
+    first-is : a1 ≡ dealtRun i .first
     first-is = ap (λ (p : Pools). p .first) (e0 ∙ dealt-pools)
 
-    second-is : b1 ≡ effect .second
+    second-is : b1 ≡ dealtRun i .second
     second-is = ap (λ (p : Pools). p .second) (e0 ∙ dealt-pools)
 
     -- ---- step 1
@@ -210,4 +192,4 @@ module _ (t : Terms) (x y d l : List ℕ) (ok : judged (rehearsalTests (inputOf 
           share-3 = ap (λ (p : Leaves RightSession). p .result) (e3 ∙ left-3) ∙ over-all (three t a b calls .result) v0 (size-right ∙ sym ev)
 
           pub run-made : runOf h1 y1 h2 x1 u v ≡ run i
-          run-made = same-run sent-1 sent-2 share-2 share-3 ∙ sym run-is
+          run-made = same-run sent-1 sent-2 share-2 share-3 ∙ sym (rehearsal-run i fits)

@@ -1,13 +1,8 @@
 -- The lengths of the slices that the run's calls are lent. Assumes nothing.
 use mathlib.Core.Path.{_≡_}
-use Prim.Native.Nat.{ℕ, _*_, max}
+use Prim.Native.Nat.{ℕ, _*_}
 use Rattle.protocol.specs.declared.Terms.{Terms}
-use Rattle.protocol.specs.Tape.{left, right, tapeSize}
 use Rattle.protocol.specs.Message.{messageSize}
-
--- a slot has room for either half
-unfoldable pub slotSize : Terms → ℕ
-slotSize t = max (tapeSize left (t .m) (t .k) (t .p)) (tapeSize right (t .m) (t .k) (t .p))
 
 -- the messages' and the shares'
 pub record Rooms (t : Terms) (y1 x1r1 u v : ℕ) : Type 0 where

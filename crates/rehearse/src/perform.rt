@@ -12,11 +12,11 @@ ghost use Prim.Native.Nat.{_*_, _≤_};
 ghost use lib.ListN.{length};
 ghost use Rattle.algebra.specs.Matrix.{zeros};
 ghost use Rattle.protocol.specs.Judge.{done};
-ghost use Rattle.protocol.specs.Rehearsal.{rehearsalTests, run};
+ghost use Rattle.protocol.specs.Rehearsal.{rehearsalTests, slotSize, run};
 ghost use Rattle.checks.specs.InOrder.{judged};
 ghost use Rattle.rehearse_lines.specs.Prints.{MOST, runOf};
 ghost use Rattle.rehearse.specs.Order.{inputOf, Prints};
-ghost use Rattle.rehearse.specs.Rooms.{slotSize, Rooms};
+ghost use Rattle.rehearse.specs.Rooms.{Rooms};
 
 // The heads of the two messages.
 pub struct Heads {

@@ -22,8 +22,9 @@ use Rattle.protocol.specs.Judge.{refused, needs, clear, judge, judgeBy, Test}
 use Rattle.protocol.specs.Bounds.{within}
 use Rattle.protocol.specs.Line.{decimal, endByte, line, numbers, numbersOf}
 use Rattle.protocol.specs.declared.Numeral.the-variants.{Empty}
-use Rattle.protocol.specs.Rehearsal.{Input, firstLine, lineAt, termsFrom, rehearsalTests, run, printed, rehearse}
+use Rattle.protocol.specs.Rehearsal.{Input, firstLine, lineAt, termsFrom, rehearsalTests, run, callTests, printed, rehearse}
 use Rattle.protocol.proofs.Judge.{accepts, accepted-first}
+use Rattle.protocol.proofs.RehearsalLowest.{rehearsal-lowest}
 use Rattle.protocol.proofs.LineRoundTrip.{line-was-written}
 use Rattle.protocol.proofs.DecimalLaws.{length-positive}
 use Rattle.decimal.specs.Reading.{Stored, Tallied}
@@ -161,18 +162,18 @@ module _ (s : List ℕ) where
     abbrev input : Input
     input = record { terms = termsFrom f; x = x; y = y; dealerWords = d; leftWords = l }
 
-    whole : rehearse s ≡ printed (judge (needs Form (eqb (length f) 6) ∷ rehearsalTests input) (run input))
+    whole : rehearse s ≡ printed (judge (needs Form (eqb (length f) 6) ∷ callTests input) (run input))
     unfolding rehearse
     whole = rw (a, b, c, g, k)
 
     six : length f ≡ 6 → rehearse s ≡ printed (judge (rehearsalTests input) (run input))
-    six h = whole ∙ ap printed (form-passed (rehearsalTests input) (run input) (eq-eqb (length f) 6 h))
+    six h = whole ∙ ap printed (form-passed (callTests input) (run input) (eq-eqb (length f) 6 h) ∙ sym (rehearsal-lowest input (run input)))
 
     not-six : (length f ≡ 6 → ⊥) → all
     not-six h =
         whole
-        ∙ ap (λ (z : Bool). printed (judge (needs Form z ∷ rehearsalTests input) (run input))) (ne-eqb (length f) 6 h)
-        ∙ ap printed (form-fails (rehearsalTests input) (run input))
+        ∙ ap (λ (z : Bool). printed (judge (needs Form z ∷ callTests input) (run input))) (ne-eqb (length f) 6 h)
+        ∙ ap printed (form-fails (callTests input) (run input))
 
   -- from what each line was read into
   pub said : (f₀ f x₀ x y₀ y d₀ d l₀ l : List ℕ) (tf tx ty td tl : Tally) → length f₀ ≡ 6

@@ -5,7 +5,7 @@ use Prim.Native.Nat.{ℕ, _+_, _*_, _-_, _/_, _%_, _≤_, _<_}
 use native.Mathlib.Omega.{arith}
 use lib.ListN.{length, getD, set, take, drop}
 use borrow.Author.Needs.{needs}
-use Rattle.rehearse.specs.Rooms.{slotSize}
+use Rattle.protocol.specs.Rehearsal.{slotSize}
 use Rattle.protocol.specs.Tape.{tapeSize, bodySize}
 use Rattle.rehearse.proofs.perform.slot_size.Statement.{statement}
 use Rattle.rehearse.proofs.perform.slot_size.Tie as tie
