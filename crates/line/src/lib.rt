@@ -1,6 +1,6 @@
 // Message lines: kind, session, tape, q, m, k, p, then the residues.
-// What a host may call with any bytes and numbers; a refusal changes nothing that was lent:
-//   parse  a line's form alone: 1, and 4 where the residues have no room
+// Entries for hosts, which take any bytes and numbers; a refusal changes nothing that was lent:
+//   parse  a line's form alone: 1; where the residues have no room, the lowest of 1 to 4 that applies to the message by itself
 //   read   all that a message shows by itself: 1, 2, 3, 4 and 8, the lowest that applies
 //   write  a message's line, judged as it is when read
 use checks::Check;
@@ -22,7 +22,7 @@ ghost use Rattle.checks.specs.InOrder.{checked, verdict};
 ghost use Rattle.protocol.specs.Message.{messageWith};
 ghost use Rattle.decimal.specs.Writing.{headNumbers};
 ghost use Rattle.line.specs.Entries.{receivedOf, residuesAfter, receivedBy, writtenOf, bytesAfter, writtenBy};
-ghost use Rattle.line.specs.Order.{parseOrder, restTests, inSize};
+ghost use Rattle.line.specs.Order.{shortOrder, parseOrder, restTests, inSize};
 
 // What a line is read as: a message's head and how many residues were stored, or why none.
 pub enum Received {
@@ -91,15 +91,26 @@ fn refused(c: Check) -> Received
     }
 }
 
-// The form of a message with `count` residues, and their room.
-fn check_form(kind: u32, count: usize, room: usize) -> Check
-    ensures { λ r. ⌜ checked r ≡ verdict (parseOrder kind count room) ⌝ }
+// A message whose residues have no room: the lowest refusal that applies to it by itself, and 4 where none lower does.
+fn check_short(h: Head, count: usize) -> Check
+    ensures { λ r. ⌜ checked r ≡ verdict (shortOrder h count) ⌝ }
 {
-    if !message::kind_known(kind) {
-        return Check::Refused(Refusal::Form);
-    }
+    let head = message::check_head(h, count);
+    let Check::Passed = head else {
+        return head;
+    };
+    Check::Refused(Refusal::Size)
+}
+
+// The form of a message with `count` residues, and their room.
+fn check_form(h: Head, count: usize, room: usize) -> Check
+    ensures { λ r. ⌜ checked r ≡ verdict (parseOrder h count room) ⌝ }
+{
     if room < count {
-        return Check::Refused(Refusal::Size);
+        return check_short(h, count);
+    }
+    if !message::kind_known(h.kind) {
+        return Check::Refused(Refusal::Form);
     }
     Check::Passed
 }
@@ -146,7 +157,7 @@ pub fn parse(s: &[u8], out: &mut [u32]) -> Received
     }
     let head = head_of(&words);
     let count = n - 7;
-    let check = check_form(head.kind, count, out.len());
+    let check = check_form(head, count, out.len());
     let Check::Passed = check else {
         return refused(check);
     };

@@ -3,7 +3,7 @@ use mathlib.Core.Path.{_≡_, refl, sym, ap, _∙_, ap₂}
 use mathlib.Core.List.{List}
 use Prim.Native.Nat.{ℕ, _≤_}
 use native.Mathlib.Omega.{arith}
-use lib.ListN.{length, getD, drop, replicate}
+use lib.ListN.{length, drop, replicate}
 use borrow.Author.Needs.{needs}
 use Rattle.checks.specs.InOrder.{checked, verdict}
 use Rattle.decimal.proofs.Entry.{told, told-wrong}
@@ -83,10 +83,9 @@ returns-3 c =
     let few = if1 .left in
     let hd : head-of .result ≡ messageFrom xs .head = head-of .ensures ∙ loaded-head (numbersOf s) _ _ t few in
     let cn = loaded-count (numbersOf s) _ _ t few in
-    let kd : head-of .result .kind ≡ getD xs 0 0 = ap (λ (h : Head). h .kind) hd in
     let v : checked (c .before .before .before .check-form .result) ≡ verdict
-    (parseOrder (getD xs 0 0) (length (drop 7 xs)) room) = c .before .before .before .check-form .ensures ∙ ap₂
-    (λ (k n : ℕ). verdict (parseOrder k n room)) kd (sym cn) in
+    (parseOrder (messageFrom xs .head) (length (drop 7 xs)) room) = c .before .before .before .check-form .ensures ∙ ap₂
+    (λ (h : Head) (n : ℕ). verdict (parseOrder h n room)) hd (sym cn) in
     rw (parse-refused room s xs (t .reads) seven _ (sym v ∙ ap checked (c .before .enum-told3 .given .1)))
     (c .refused .ensures ∙ ap receivedBy (c .before .enum-told3 .given .1), refl)
 
@@ -110,10 +109,9 @@ store-requires c κs =
     let few = if1 .left in
     let hd : head-of .result ≡ messageFrom xs .head = head-of .ensures ∙ loaded-head (numbersOf s) _ _ t few in
     let cn = loaded-count (numbersOf s) _ _ t few in
-    let kd : head-of .result .kind ≡ getD xs 0 0 = ap (λ (h : Head). h .kind) hd in
-    let v : checked (check-form .result) ≡ verdict (parseOrder (getD xs 0 0) (length (drop 7 xs)) room) = check-form .ensures ∙ ap₂
-    (λ (k n : ℕ). verdict (parseOrder k n room)) kd (sym cn) in
-    let p = parse-passed (getD xs 0 0) (length (drop 7 xs)) room (sym v ∙ ap checked (c .before .before .enum-told2 .given .1)) in
+    let v : checked (check-form .result) ≡ verdict (parseOrder (messageFrom xs .head) (length (drop 7 xs)) room) = check-form .ensures ∙ ap₂
+    (λ (h : Head) (n : ℕ). verdict (parseOrder h n room)) hd (sym cn) in
+    let p = parse-passed (messageFrom xs .head) (length (drop 7 xs)) room (sym v ∙ ap checked (c .before .before .enum-told2 .given .1)) in
     (search needs, omega (arith, p, cn))
 
 same-length : tie.Need-same-length
@@ -136,9 +134,8 @@ returns-4 c =
     let few = if1 .left in
     let hd : head-of .result ≡ messageFrom xs .head = head-of .ensures ∙ loaded-head (numbersOf s) _ _ t few in
     let cn = loaded-count (numbersOf s) _ _ t few in
-    let kd : head-of .result .kind ≡ getD xs 0 0 = ap (λ (h : Head). h .kind) hd in
-    let v : checked (check-form .result) ≡ verdict (parseOrder (getD xs 0 0) (length (drop 7 xs)) room) = check-form .ensures ∙ ap₂
-    (λ (k n : ℕ). verdict (parseOrder k n room)) kd (sym cn) in
+    let v : checked (check-form .result) ≡ verdict (parseOrder (messageFrom xs .head) (length (drop 7 xs)) room) = check-form .ensures ∙ ap₂
+    (λ (h : Head) (n : ℕ). verdict (parseOrder h n room)) hd (sym cn) in
     let d = sym v ∙ ap checked (c .before .before .before .before .before .enum-told2 .given .1) in
     rw (parse-done room s xs (t .reads) seven d)
     (ap₂ received.Message hd (sym cn), c .before .before .store .ensures xs (t .reads) cn (loaded-residues (numbersOf s) _ _ t few))
