@@ -17,11 +17,12 @@ ghost use Prim.Native.Nat.{ℕ, _+_, _≤_};
 ghost use lib.ListN.{length, take, drop};
 ghost use Rattle.algebra.specs.Words.{over};
 ghost use Rattle.protocol.specs.Message.{Message};
+ghost use Rattle.protocol.specs.Judge.{replyOf};
 ghost use Rattle.protocol.specs.Line.{numbersOf, messageFrom, messageLine, parseInto, readInto, writeInto, mostSent};
 ghost use Rattle.checks.specs.InOrder.{checked, verdict};
 ghost use Rattle.protocol.specs.Message.{messageWith};
 ghost use Rattle.decimal.specs.Writing.{headNumbers};
-ghost use Rattle.line.specs.Entries.{receivedOf, residuesAfter, receivedBy, writtenOf, bytesAfter, writtenBy};
+ghost use Rattle.line.specs.Entries.{receivedReply, noArrival, arrivedOf, residuesAfter, receivedBy, writtenReply, bytesOf, bytesAfter, writtenBy};
 ghost use Rattle.line.specs.Order.{shortOrder, parseOrder, restTests, inSize};
 
 // What a line is read as: a message's head and how many residues were stored, or why none.
@@ -144,7 +145,7 @@ fn check_read(h: Head, count: usize, words: &[u32], room: usize) -> Check
 
 // Reads a message's form. The residues go into `out`.
 pub fn parse(s: &[u8], out: &mut [u32]) -> Received
-    ensures answered { λ r. ⌜ r ≡ receivedOf (parseInto (length (now (out .entry))) (now (s .entry))) ⌝ }
+    ensures answered { λ r. ⌜ receivedReply r ≡ replyOf noArrival (arrivedOf (parseInto (length (now (out .entry))) (now (s .entry)))) ⌝ }
     ensures contents { λ _. ⌜ now (out .exit) ≡ residuesAfter (parseInto (length (now (out .entry))) (now (s .entry))) (now (out .entry)) ⌝ }
 {
     let mut words = [0u32; 3079];
@@ -167,7 +168,7 @@ pub fn parse(s: &[u8], out: &mut [u32]) -> Received
 
 // Reads a message. The residues go into `out`.
 pub fn read(s: &[u8], out: &mut [u32]) -> Received
-    ensures answered { λ r. ⌜ r ≡ receivedOf (readInto (length (now (out .entry))) (now (s .entry))) ⌝ }
+    ensures answered { λ r. ⌜ receivedReply r ≡ replyOf noArrival (arrivedOf (readInto (length (now (out .entry))) (now (s .entry)))) ⌝ }
     ensures contents { λ _. ⌜ now (out .exit) ≡ residuesAfter (readInto (length (now (out .entry))) (now (s .entry))) (now (out .entry)) ⌝ }
 {
     let mut words = [0u32; 3079];
@@ -243,7 +244,7 @@ fn unwritten(c: Check) -> Written
 
 // Writes a message's line into `out`.
 pub fn write(h: Head, residues: &[u32], out: &mut [u8]) -> Written
-    ensures answered { λ r. ⌜ r ≡ writtenOf (writeInto (length (now (out .entry))) (messageWith h (now (residues .entry)))) ⌝ }
+    ensures answered { λ r. ⌜ writtenReply r ≡ replyOf 0 (bytesOf (writeInto (length (now (out .entry))) (messageWith h (now (residues .entry))))) ⌝ }
     ensures contents { λ _. ⌜ now (out .exit) ≡ bytesAfter (writeInto (length (now (out .entry))) (messageWith h (now (residues .entry)))) (now (out .entry)) ⌝ }
 {
     let check = check_write(h, residues, out.len());

@@ -6,11 +6,11 @@ use native.Mathlib.Omega.{arith}
 use lib.ListN.{length, drop, replicate}
 use borrow.Author.Needs.{needs}
 use Rattle.checks.specs.InOrder.{checked, verdict}
-use Rattle.decimal.proofs.Entry.{told, told-wrong}
+use Rattle.decimal.proofs.Entry.{tallied, told, told-wrong}
 use Rattle.line.proofs.Loaded.{loaded-head, loaded-count, loaded-residues}
 use Rattle.protocol.specs.Line.{numbersOf, messageFrom}
 use Rattle.protocol.specs.declared.Head.{Head}
-use Rattle.line.specs.Entries.{receivedBy}
+use Rattle.line.specs.Entries.{receivedBy, receivedReply}
 use Rattle.line.specs.declared.Received.the-variants as received
 use Rattle.line.proofs.Judged.{parse-none, parse-few, parse-refused, parse-done, parse-passed}
 use Rattle.line.specs.Order.{parseOrder}
@@ -36,7 +36,7 @@ returns c =
     let s = a .s .now in
     let out = a .out .now in
     let room = length out in
-    rw (parse-none room s (told-wrong (numbersOf s) (replicate 3079 0) (c .before .before .before .load .last .1 .0) (c .before .before .before .load .result) (c .before .before .before .load .ensures) (c .enum-told .given .1))) (refl, refl)
+    rw (parse-none room s (told-wrong (numbersOf s) (replicate 3079 0) (c .before .before .before .load .last .1 .0) (c .before .before .before .load .result) (tallied 0 s _ _ _ (c .before .before .before .load .ensures .0) (c .before .before .before .load .ensures .1)) (c .enum-told .given .1))) (refl, refl)
 
 returns-2 : tie.Need-returns-2
 returns-2 c =
@@ -45,7 +45,7 @@ returns-2 c =
     let s = a .s .now in
     let out = a .out .now in
     let room = length out in
-    let t = told (numbersOf s) (replicate 3079 0) (load .last .1 .0) (load .result) _ (load .ensures) (c .before .before .loaded .given .1) in
+    let t = told (numbersOf s) (replicate 3079 0) (load .last .1 .0) (load .result) _ (tallied 0 s _ _ _ (load .ensures .0) (load .ensures .1)) (c .before .before .loaded .given .1) in
     let xs = t .values in
     rw (parse-few room s xs (t .reads) (omega (arith, t .count, c .if1 .taken))) (refl, refl)
 
@@ -76,7 +76,7 @@ returns-3 c =
     let s = a .s .now in
     let out = a .out .now in
     let room = length out in
-    let t = told (numbersOf s) (replicate 3079 0) (load .last .1 .0) (load .result) _ (load .ensures)
+    let t = told (numbersOf s) (replicate 3079 0) (load .last .1 .0) (load .result) _ (tallied 0 s _ _ _ (load .ensures .0) (load .ensures .1))
     (c .before .before .before .before .before .before .before .before .loaded .given .1) in
     let xs = t .values in
     let seven : 7 ≤ length xs = omega (arith, t .count, if1 .left) in
@@ -87,7 +87,7 @@ returns-3 c =
     (parseOrder (messageFrom xs .head) (length (drop 7 xs)) room) = c .before .before .before .check-form .ensures ∙ ap₂
     (λ (h : Head) (n : ℕ). verdict (parseOrder h n room)) hd (sym cn) in
     rw (parse-refused room s xs (t .reads) seven _ (sym v ∙ ap checked (c .before .enum-told3 .given .1)))
-    (c .refused .ensures ∙ ap receivedBy (c .before .enum-told3 .given .1), refl)
+    (ap receivedReply (c .refused .ensures ∙ ap receivedBy (c .before .enum-told3 .given .1)), refl)
 
 slice-aggregate-store : tie.Need-slice-aggregate-store
 slice-aggregate-store c = search needs
@@ -102,7 +102,7 @@ store-requires c κs =
     let s = a .s .now in
     let out = a .out .now in
     let room = length out in
-    let t = told (numbersOf s) (replicate 3079 0) (load .last .1 .0) (load .result) _ (load .ensures)
+    let t = told (numbersOf s) (replicate 3079 0) (load .last .1 .0) (load .result) _ (tallied 0 s _ _ _ (load .ensures .0) (load .ensures .1))
     (c .before .before .before .before .before .before .before .before .before .loaded .given .1) in
     let xs = t .values in
     let seven : 7 ≤ length xs = omega (arith, t .count, if1 .left) in
@@ -127,7 +127,7 @@ returns-4 c =
     let s = a .s .now in
     let out = a .out .now in
     let room = length out in
-    let t = told (numbersOf s) (replicate 3079 0) (load .last .1 .0) (load .result) _ (load .ensures)
+    let t = told (numbersOf s) (replicate 3079 0) (load .last .1 .0) (load .result) _ (tallied 0 s _ _ _ (load .ensures .0) (load .ensures .1))
     (c .before .before .before .before .before .before .before .before .before .before .before .before .loaded .given .1) in
     let xs = t .values in
     let seven : 7 ≤ length xs = omega (arith, t .count, if1 .left) in
@@ -138,7 +138,7 @@ returns-4 c =
     (λ (h : Head) (n : ℕ). verdict (parseOrder h n room)) hd (sym cn) in
     let d = sym v ∙ ap checked (c .before .before .before .before .before .enum-told2 .given .1) in
     rw (parse-done room s xs (t .reads) seven d)
-    (ap₂ received.Message hd (sym cn), c .before .before .store .ensures xs (t .reads) cn (loaded-residues (numbersOf s) _ _ t few))
+    (ap₂ (λ (h : Head) (n : ℕ). receivedReply (received.Message h n)) hd (sym cn), c .before .before .store .ensures xs (t .reads) cn (loaded-residues (numbersOf s) _ _ t few))
 
 pub parse-spec : {M : Type 1} → statement M
 parse-spec =

@@ -8,7 +8,7 @@ use borrow.Author.Needs.{needs}
 use Rattle.rehearse_lines.proofs.Split.{first-fits, line-part}
 use Rattle.protocol.specs.Rehearsal.{lineAt}
 use Rattle.protocol.specs.Line.{numbersOf}
-use Rattle.decimal.proofs.Entry.{tallied-as}
+use Rattle.decimal.proofs.Entry.{tallied, tallied-as}
 use Rattle.rehearse_lines.proofs.input.load_line.Statement.{statement}
 use Rattle.rehearse_lines.proofs.input.load_line.Tie as tie
 
@@ -41,7 +41,7 @@ returns c =
     let line-start = c .before .before .before .before .before .before .line-start in
     tallied-as 0 _ _ (a .out .now) (c .before .before .load .last .1 .0) (c .before .before .load .result)
     (ap numbersOf (sym (line-part (a .s .now) (a .n) (line-start .result) (line-end .result) (line-start .ensures .1) (line-end .ensures))))
-    (c .before .before .load .ensures)
+    (tallied 0 _ _ _ _ (c .before .before .load .ensures .0) (c .before .before .load .ensures .1))
 
 pub load-line-spec : {M : Type 1} → statement M
 load-line-spec =
