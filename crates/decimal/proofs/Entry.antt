@@ -1,7 +1,7 @@
 -- What loads and the entry `numbers` answer and leave.
 --   unread-length, unread-end, before-whole   what `load_behind` answers and leaves, by the line's length and its last byte
 --   tallied, told, stored-behind              the same as the words of a line's numbers
---   into-none, into-short, into-done          the entry `numbers`
+--   into-none, into-short, into-done          the entry `numbers`; count-same: what it tells determines its answer
 -- Assumes nothing.
 use Prim.Native.Nat.{ℕ, _+_, _-_, _≤_, _<_}
 use mathlib.Core.Path.{_≡_, refl, sym, ap, subst, _∙_}
@@ -19,15 +19,17 @@ use Rattle.algebra.specs.Count.{both}
 use Rattle.algebra.specs.Words.{over}
 use Rattle.algebra.proofs.Tests.{and-left}
 use Rattle.protocol.specs.declared.Refusal.the-variants.{Form, Size}
-use Rattle.protocol.specs.Judge.{refused, done, clear, judgeBy, judge}
+use Rattle.protocol.specs.Judge.{refused, done, clear, judgeBy, judge, Reply}
 use Rattle.protocol.specs.Bounds.{within, roomTests}
 use Rattle.protocol.specs.declared.Numeral.{Numeral}
 use Rattle.protocol.specs.declared.Numeral.the-variants.{Empty, Value, Wrong}
 use Rattle.protocol.specs.Line.{withByte, endByte, prepend, endNumber, numbers, numbersOf, numbersInto}
-use Rattle.protocol.proofs.Judge.{accepts}
+use Rattle.protocol.proofs.Judge.{accepts, same-refusal, some-number}
 use Rattle.decimal.specs.declared.Tally.{Tally}
 use Rattle.decimal.specs.declared.Tally.the-variants as tally
-use Rattle.decimal.specs.Reading.{Spelled, withNumber, endSpelled, spell, numbersIn, numbersBefore, tallyOf, tallyIn, Ended, Stored, TalliedBehind, Tallied}
+use Rattle.decimal.specs.declared.Count.{Count}
+use Rattle.decimal.specs.declared.Count.the-variants as count
+use Rattle.decimal.specs.Reading.{Spelled, withNumber, endSpelled, spell, numbersIn, numbersBefore, countReply, tallyOf, tallyIn, Ended, Stored, TalliedBehind, Tallied}
 use Rattle.decimal.proofs.Bytes.{needs-end, whole, whole-none}
 
 -- words stored from the start on stand over what was there
@@ -149,3 +151,10 @@ into-short room s xs e h = rw (e, lt-leb (length xs) room h)
 pub into-done : (room : ℕ) (s xs : List ℕ) → numbersOf s ≡ some xs → length xs ≤ room → numbersInto room s ≡ done xs
 unfolding numbersInto roomTests
 into-done room s xs e h = rw e (accepts _ xs (le-leb (length xs) room h, tt))
+
+-- what the answer tells determines it
+pub count-same : (r s : Count) → countReply r ≡ countReply s → r ≡ s
+count-same (count.Words n) (count.Words m) e = ap count.Words (ap (λ (x : Reply ℕ). x .values) e)
+count-same (count.Words n) (count.Refused s) e = absurd (omega (arith, some-number s, ap (λ (x : Reply ℕ). x .number) e))
+count-same (count.Refused r) (count.Words m) e = absurd (omega (arith, some-number r, ap (λ (x : Reply ℕ). x .number) e))
+count-same (count.Refused r) (count.Refused s) e = ap count.Refused (same-refusal r s (ap (λ (x : Reply ℕ). x .number) e))

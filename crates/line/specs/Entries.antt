@@ -2,7 +2,7 @@
 --   receivedReply, arrivedOf, residuesAfter   of a line that is parsed or read
 --   writtenReply, bytesOf, bytesAfter         of a message that is written
 -- Assumes nothing.
-use mathlib.Core.List.{List, [], _∷_}
+use mathlib.Core.List.{List}
 use Prim.Native.Nat.{ℕ}
 use lib.ListN.{length}
 use Rattle.algebra.specs.Words.{over}

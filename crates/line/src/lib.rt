@@ -96,9 +96,9 @@ fn refused(c: Check) -> Received
 fn check_short(h: Head, count: usize) -> Check
     ensures { λ r. ⌜ checked r ≡ verdict (shortOrder h count) ⌝ }
 {
-    let head = message::check_head(h, count);
-    let Check::Passed = head else {
-        return head;
+    let own = message::check_head(h, count);
+    let Check::Passed = own else {
+        return own;
     };
     Check::Refused(Refusal::Size)
 }

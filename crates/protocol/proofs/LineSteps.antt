@@ -4,7 +4,7 @@
 --   on-lines              one step whose tests contain the message's own: what was accepted was written, and the lowest number of both is given
 --   parse-and-step        the seven steps that take a message
 -- Assumes nothing.
-use mathlib.Core.Path.{_≡_, refl, sym, ap, subst, _∙_}
+use mathlib.Core.Path.{_≡_, refl, sym, ap, _∙_}
 use mathlib.Core.Bool.{Bool, true, false, cond, false≢true}
 use mathlib.Core.List.{List, [], _∷_, _++_}
 use mathlib.Core.Option.{Option, some, none}
@@ -13,26 +13,25 @@ use native.Mathlib.Omega.{arith}
 use native.Mathlib.Decide.{decLt}
 use lib.Dec.{leb, ltb, eqb}
 use lib.ListN.{length, getD, drop}
-use borrow.Author.Tests.{le-leb, lt-leb, leb-true, lt-ltb, le-ltb}
+use borrow.Author.Tests.{le-leb, lt-leb, lt-ltb, le-ltb}
 use Rattle.algebra.specs.Count.{both}
 use Rattle.algebra.proofs.Tests.{and-left, and-right, and-both}
 use Rattle.protocol.specs.declared.Terms.{Terms}
-use Rattle.protocol.specs.declared.RightSession.{RightSession}
 use Rattle.protocol.specs.declared.SolverSession.{SolverSession}
 use Rattle.protocol.specs.declared.BlinderSession.{BlinderSession}
 use Rattle.protocol.specs.declared.Refusal.{Refusal}
 use Rattle.protocol.specs.declared.Refusal.the-variants.{Form, Modulus, Composite, Size, Turn, Mark, Stranger, Residue, Dry, Singular}
 use Rattle.protocol.specs.Judge.{refusalNumber, refusals, Test, needs, given, clear, Judged, refused, done, judgeBy, judge}
-use Rattle.protocol.specs.Bounds.{product, system, largestModulus, within, fieldFits, shapeTests, termsTests, inputTests, roomTests}
+use Rattle.protocol.specs.Bounds.{product, system, within, shapeTests, termsTests, inputTests, roomTests}
 use Rattle.protocol.specs.Drawing.{drawTests}
-use Rattle.protocol.specs.Tape.{Slot, slotTests, halfTests, tapeTests, bodyTests, Role, sortOf, left, right, blinder, solver}
-use Rattle.protocol.specs.Message.{Message, kindSort, messageTests, dueTests}
+use Rattle.protocol.specs.Tape.{Slot, slotTests, halfTests, tapeTests, bodyTests, Role, sortOf, left, right, blinder}
+use Rattle.protocol.specs.Message.{Message, messageTests, dueTests}
 use Rattle.protocol.specs.Step.{isOpen, firstTests, openTests, laterTests}
-use Rattle.protocol.specs.Product.{leftTests, leftEffect, leftStep, rightLastTests, rightLastEffect, rightLast}
-use Rattle.protocol.specs.System.{regularTests, keptTests, blinderTests, solverTests, blinderFirstTests, blinderFirstEffect, blinderFirst, solverSecondTests, solverSecondEffect, solverSecond, blinderSecondTests, blinderSecondEffect, blinderSecond, solverLastTests, solverLastEffect, solverLast, blinderLastTests, blinderLastEffect, blinderLast}
+use Rattle.protocol.specs.Product.{leftTests, leftStep, rightLastTests, rightLast}
+use Rattle.protocol.specs.System.{regularTests, keptTests, blinderTests, solverTests, blinderFirstTests, blinderFirst, solverSecondTests, solverSecond, blinderSecondTests, blinderSecond, solverLastTests, solverLast, blinderLastTests, blinderLast}
 use Rattle.protocol.specs.Line.{numbersOf, messageFrom, messageLine, parseMessage, parseTests, parsedFrom, parseInto, readTests, readWith, readInto, writeTests, writeInto}
-use Rattle.protocol.specs.LineStep.{andThen, Holds, jointFrom, jointly, ModulusFits, OnLines, ShortRoom, PARSE-AND-STEP}
-use Rattle.protocol.proofs.Judge.{All, all-append, all-split, accepts, passed, refused≢done, all-clear, clear-all, clear-append, same-judge, Lowest, lowest, refused-first}
+use Rattle.protocol.specs.LineStep.{andThen, jointFrom, jointly, ModulusFits, OnLines, ShortRoom, PARSE-AND-STEP}
+use Rattle.protocol.proofs.Judge.{All, all-append, accepts, passed, refused≢done, all-clear, clear-all, clear-append, same-judge, Lowest, lowest, refused-first}
 use Rattle.protocol.proofs.LineRoundTrip.{message-was-written}
 
 -- ---- tests

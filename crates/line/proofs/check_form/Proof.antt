@@ -1,5 +1,4 @@
 -- `line::check_form` meets its contract: by the room, and then by the kind. Assumes nothing.
-use mathlib.Core.Path.{_∙_}
 use borrow.Author.Needs.{needs}
 use borrow.Author.Tests.{le-ltb, lt-ltb}
 use Rattle.checks.specs.InOrder.{inOrder}

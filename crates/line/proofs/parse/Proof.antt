@@ -1,6 +1,5 @@
 -- `line::parse` meets its contract: the line is loaded, its form checked, and only then stored. Assumes nothing.
 use mathlib.Core.Path.{_≡_, refl, sym, ap, _∙_, ap₂}
-use mathlib.Core.List.{List}
 use Prim.Native.Nat.{ℕ, _≤_}
 use native.Mathlib.Omega.{arith}
 use lib.ListN.{length, drop, replicate}
@@ -14,7 +13,6 @@ use Rattle.line.specs.Entries.{receivedBy, receivedReply}
 use Rattle.line.specs.declared.Received.the-variants as received
 use Rattle.line.proofs.Judged.{parse-none, parse-few, parse-refused, parse-done, parse-passed}
 use Rattle.line.specs.Order.{parseOrder}
-use Rattle.algebra.specs.Words.{over}
 use Rattle.line.proofs.parse.Statement.{statement}
 use Rattle.line.proofs.parse.Tie as tie
 

@@ -1,5 +1,5 @@
 -- `line::store` meets its contract: the residues come from the words that were loaded, or from the line itself. Assumes nothing.
-use mathlib.Core.Path.{_≡_, ap, _∙_}
+use mathlib.Core.Path.{ap, _∙_}
 use mathlib.Core.List.{List}
 use Prim.Native.Nat.{ℕ}
 use native.Mathlib.Omega.{arith}

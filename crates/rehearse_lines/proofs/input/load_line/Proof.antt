@@ -1,12 +1,9 @@
 -- `rehearse_lines::input::load_line` meets its contract. Assumes nothing.
-use mathlib.Core.Path.{_≡_, refl, sym, ap, _∙_}
-use mathlib.Core.List.{List, _++_}
-use Prim.Native.Nat.{ℕ, _+_, _*_, _-_, _/_, _%_, _≤_, _<_}
+use mathlib.Core.Path.{sym, ap}
+use Prim.Native.Nat.{_-_}
 use native.Mathlib.Omega.{arith}
-use lib.ListN.{length, getD, set, take, drop}
 use borrow.Author.Needs.{needs}
 use Rattle.rehearse_lines.proofs.Split.{first-fits, line-part}
-use Rattle.protocol.specs.Rehearsal.{lineAt}
 use Rattle.protocol.specs.Line.{numbersOf}
 use Rattle.decimal.proofs.Entry.{tallied, tallied-as}
 use Rattle.rehearse_lines.proofs.input.load_line.Statement.{statement}
