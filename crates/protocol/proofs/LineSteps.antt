@@ -26,11 +26,11 @@ use Rattle.protocol.specs.Bounds.{product, system, within, shapeTests, t
 use Rattle.protocol.specs.Drawing.{drawTests}
 use Rattle.protocol.specs.Tape.{Slot, slotTests, halfTests, tapeTests, bodyTests, Role, sortOf, left, right, blinder}
 use Rattle.protocol.specs.Message.{Message, messageTests, dueTests}
-use Rattle.protocol.specs.Step.{isOpen, firstTests, openTests, laterTests}
+use Rattle.protocol.specs.Step.{firstTests, openTests, laterTests}
 use Rattle.protocol.specs.Product.{leftTests, leftStep, rightLastTests, rightLast}
 use Rattle.protocol.specs.System.{regularTests, keptTests, blinderTests, solverTests, blinderFirstTests, blinderFirst, solverSecondTests, solverSecond, blinderSecondTests, blinderSecond, solverLastTests, solverLast, blinderLastTests, blinderLast}
 use Rattle.protocol.specs.Line.{numbersOf, messageFrom, messageLine, parseMessage, parseTests, parsedFrom, parseInto, readTests, readWith, readInto, writeTests, writeInto}
-use Rattle.protocol.specs.LineStep.{andThen, jointFrom, jointly, ModulusFits, OnLines, ShortRoom, PARSE-AND-STEP}
+use Rattle.protocol.specs.LineStep.{openTerms, andThen, jointFrom, jointly, ModulusFits, OnLines, ShortRoom, PARSE-AND-STEP}
 use Rattle.protocol.proofs.Judge.{All, all-append, accepts, passed, refused≢done, all-clear, clear-all, clear-append, same-judge, Lowest, lowest, refused-first}
 use Rattle.protocol.proofs.LineRoundTrip.{message-was-written}
 
@@ -150,7 +150,10 @@ module _ {A : Type 0} (step : Message → Judged A) (tests : Message → List Te
 
         go : (b c : Bool) → leb 7 (length xs) ≡ b → within 1 5 (getD xs 0 0) ≡ c → andThen (parsedFrom room (some xs)) step ≡ jointFrom room tests effect (some xs)
         go true true d e =
-            let parses : parsedFrom room (some xs) ≡ done a = accepts (parseTests room xs) a (d, (e, all-append (given (ltb room (length (drop 7 xs))) (messageTests a)) (roomTests (length (drop 7 xs)) room) (rw (le-ltb room (length (drop 7 xs)) h) (given-false (messageTests a))) (le-leb _ room h, tt))) in
+            let asked = given (ltb room (length (drop 7 xs))) (messageTests a) in
+            let holds : All asked = rw (le-ltb room (length (drop 7 xs)) h) (given-false (messageTests a)) in
+            let fits = all-append asked (roomTests (length (drop 7 xs)) room) holds (le-leb (length (drop 7 xs)) room h, tt) in
+            let parses = accepts (parseTests room xs) a (d, (e, fits)) in
             ap (λ (o : Judged Message). andThen o step) parses
             ∙ judges a
             ∙ sym (same-judge refusals (readTests room xs ++ tests a) (tests a) (effect a) (adds-nothing d h))
@@ -263,16 +266,16 @@ unfolding firstTests termsTests shapeTests slotTests halfTests tapeTests bodyTes
 first-begins role t s a = begins (firstTests role t s) refl refl refl
 
 module _ (kind due : ℕ) (t : Terms) (s : Slot) (a : Message) where
-  right-begins : Takes a (given (isOpen due) (termsTests product t)) (messageTests a ++ laterTests right kind due t s)
+  right-begins : Takes a (openTerms product due t) (messageTests a ++ laterTests right kind due t s)
   unfolding laterTests openTests given termsTests shapeTests slotTests halfTests tapeTests bodyTests clear both
   right-begins = begins (laterTests right kind due t s) refl refl refl
 
-solver-begins : (kind : ℕ) (x : SolverSession) (s : Slot) (a : Message) → Takes a (given (isOpen (x .due)) (termsTests system (x .terms))) (messageTests a ++ solverTests kind x s)
+solver-begins : (kind : ℕ) (x : SolverSession) (s : Slot) (a : Message) → Takes a (openTerms system (x .due) (x .terms)) (messageTests a ++ solverTests kind x s)
 unfolding solverTests keptTests laterTests openTests given termsTests shapeTests slotTests halfTests tapeTests bodyTests clear both
 solver-begins kind x s a = begins (solverTests kind x s) refl refl refl
 
 blinder-begins : (kind : ℕ) (x : BlinderSession) (s : Slot) (scratch : List ℕ) (a : Message)
-    → Takes a (given (isOpen (x .due)) (termsTests system (x .terms))) (messageTests a ++ blinderTests kind x s scratch)
+    → Takes a (openTerms system (x .due) (x .terms)) (messageTests a ++ blinderTests kind x s scratch)
 unfolding blinderTests roomTests keptTests laterTests openTests given termsTests shapeTests slotTests halfTests tapeTests bodyTests clear both
 blinder-begins kind x s scratch a = begins (blinderTests kind x s scratch) refl refl refl
 

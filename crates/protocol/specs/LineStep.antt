@@ -19,7 +19,7 @@ use Rattle.protocol.specs.declared.BlinderSession.{BlinderSession}
 use Rattle.protocol.specs.declared.Refusal.{Refusal}
 use Rattle.protocol.specs.declared.Refusal.the-variants.{Form, Size}
 use Rattle.protocol.specs.Judge.{refusalNumber, Test, given, clear, Judged, refused, done, judge}
-use Rattle.protocol.specs.Bounds.{product, system, termsTests}
+use Rattle.protocol.specs.Bounds.{Sort, product, system, termsTests}
 use Rattle.protocol.specs.Tape.{Slot}
 use Rattle.protocol.specs.Message.{Message}
 use Rattle.protocol.specs.Step.{isOpen}
@@ -64,20 +64,30 @@ abbrev pub ShortRoom : Type 0
 ShortRoom = (room : ℕ) (l xs : List ℕ) → numbersOf l ≡ some xs → room < length (drop 7 xs) → parseInto room l ≡ readInto room l
 
 -- a later step holds only the numbers of an open session to the bounds
+abbrev pub openTerms : Sort → (due : ℕ) → Terms → List Test
+openTerms sort due t = given (isOpen due) (termsTests sort t)
+
 abbrev pub PARSE-AND-STEP : Type 0
 PARSE-AND-STEP =
     ShortRoom
     × ((t : Terms) (s : Slot) (x words : List ℕ) (room shareRoom : ℕ)
-    → OnLines (λ a. leftStep t s x words a room shareRoom) (λ a. leftTests t s x words a room shareRoom) (leftEffect t s x words) (termsTests product t))
+    → OnLines (λ a. leftStep t s x words a room shareRoom) (λ a. leftTests t s x words a room shareRoom)
+    (leftEffect t s x words) (termsTests product t))
     × ((x : RightSession) (s : Slot) (shareRoom : ℕ)
-    → OnLines (λ a. rightLast x s a shareRoom) (λ a. rightLastTests x s a shareRoom) (rightLastEffect x s) (given (isOpen (x .due)) (termsTests product (x .terms))))
+    → OnLines (λ a. rightLast x s a shareRoom) (λ a. rightLastTests x s a shareRoom)
+    (rightLastEffect x s) (openTerms product (x .due) (x .terms)))
     × ((t : Terms) (s : Slot) (scratchRoom : ℕ) (mm y words : List ℕ) (room : ℕ)
-    → OnLines (λ a. blinderFirst t s scratchRoom mm y words a room) (λ a. blinderFirstTests t s scratchRoom mm y words a room) (blinderFirstEffect t s mm y words) (termsTests system t))
+    → OnLines (λ a. blinderFirst t s scratchRoom mm y words a room) (λ a. blinderFirstTests t s scratchRoom mm y words a room)
+    (blinderFirstEffect t s mm y words) (termsTests system t))
     × ((x : SolverSession) (s : Slot) (room : ℕ)
-    → OnLines (λ a. solverSecond x s a room) (λ a. solverSecondTests x s a room) (solverSecondEffect x s) (given (isOpen (x .due)) (termsTests system (x .terms))))
+    → OnLines (λ a. solverSecond x s a room) (λ a. solverSecondTests x s a room)
+    (solverSecondEffect x s) (openTerms system (x .due) (x .terms)))
     × ((x : BlinderSession) (s : Slot) (scratch : List ℕ) (room : ℕ)
-    → OnLines (λ a. blinderSecond x s scratch a room) (λ a. blinderSecondTests x s scratch a room) (blinderSecondEffect x s scratch) (given (isOpen (x .due)) (termsTests system (x .terms))))
+    → OnLines (λ a. blinderSecond x s scratch a room) (λ a. blinderSecondTests x s scratch a room)
+    (blinderSecondEffect x s scratch) (openTerms system (x .due) (x .terms)))
     × ((x : SolverSession) (s : Slot) (room : ℕ)
-    → OnLines (λ a. solverLast x s a room) (λ a. solverLastTests x s a room) (solverLastEffect x s) (given (isOpen (x .due)) (termsTests system (x .terms))))
+    → OnLines (λ a. solverLast x s a room) (λ a. solverLastTests x s a room)
+    (solverLastEffect x s) (openTerms system (x .due) (x .terms)))
     × ((x : BlinderSession) (s : Slot) (scratch : List ℕ) (answerRoom : ℕ)
-    → OnLines (λ a. blinderLast x s scratch a answerRoom) (λ a. blinderLastTests x s scratch a answerRoom) (blinderLastEffect x s scratch) (given (isOpen (x .due)) (termsTests system (x .terms))))
+    → OnLines (λ a. blinderLast x s scratch a answerRoom) (λ a. blinderLastTests x s scratch a answerRoom)
+    (blinderLastEffect x s scratch) (openTerms system (x .due) (x .terms)))
