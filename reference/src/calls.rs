@@ -236,11 +236,21 @@ fn counted(answer: Result<(usize, Message), u32>, out: &mut [u32]) -> u32 {
 }
 
 fn received(answer: Result<Message, u32>, out: &mut [u32], shown: &mut [u32]) -> u32 {
-    let fits = answer.and_then(|a| if a.residues.len() <= out.len() { Ok(a) } else { Err(SIZE) });
-    if let Ok(a) = &fits {
+    if let Ok(a) = &answer {
         put(&a.residues, out);
     }
-    counted(fits.map(|a| (a.residues.len(), a)), shown)
+    counted(answer.map(|a| (a.residues.len(), a)), shown)
+}
+
+/// All that can be said of a message alone, with room for so many residues.
+fn by_itself(a: Message, room: usize) -> Result<Message, u32> {
+    let mut faults = Faults::new();
+    faults.message(&a);
+    faults.room(a.residues.len(), room);
+    match faults.lowest() {
+        0 => Ok(a),
+        number => Err(number),
+    }
 }
 
 impl Calls for Reference {
@@ -333,24 +343,16 @@ impl Calls for Reference {
         if shown.len() < REPORT {
             return SHORT;
         }
-        received(line::parse(bytes), out, shown)
+        // a message whose residues have no room is judged by itself
+        let judged = line::parse(bytes).and_then(|a| if a.residues.len() <= out.len() { Ok(a) } else { by_itself(a, out.len()) });
+        received(judged, out, shown)
     }
 
     fn read(bytes: &[u8], out: &mut [u32], shown: &mut [u32]) -> u32 {
         if shown.len() < REPORT {
             return SHORT;
         }
-        let judged = line::parse(bytes).and_then(|a| {
-            let mut faults = Faults::new();
-            faults.message(&a);
-            faults.room(a.residues.len(), out.len());
-            if faults.lowest() == 0 {
-                Ok(a)
-            } else {
-                Err(faults.lowest())
-            }
-        });
-        received(judged, out, shown)
+        received(line::parse(bytes).and_then(|a| by_itself(a, out.len())), out, shown)
     }
 
     fn write(a: Taken, out: &mut [u8], shown: &mut [u32]) -> u32 {

@@ -1,12 +1,12 @@
 -- One byte of a line: it ends a number, it belongs to one, or it spoils the line.
---   numbers-end, numbers-byte, numbers-none   what a byte at a position makes of the numbers
+--   spell-end, spell-byte, spell-none   what a byte at a position makes of the numbers
 --   no-number, needs-end                      bytes that spoil the line
 -- Assumes nothing.
 use Prim.Native.Nat.{ℕ, suc, _+_, _-_, _≤_, _<_}
 use mathlib.Core.Path.{_≡_, refl, sym, ap, _∙_}
 use mathlib.Core.Bool.{Bool, true, false, cond}
 use mathlib.Core.List.{List, [], _∷_}
-use mathlib.Core.Option.{Option, none}
+use mathlib.Core.Option.{none}
 use mathlib.Core.Logic.{_⊎_, ⊎-elim}
 use native.Mathlib.Omega.{arith}
 use native.Mathlib.Numerals.{add-one, unary-clauses}
@@ -19,24 +19,33 @@ use Rattle.protocol.specs.declared.Numeral.the-variants.{Empty, Value, Wrong}
 use Rattle.protocol.specs.Line.{withByte, endByte, ended, endNumber, numbers, numbersOf}
 use Rattle.algebra.specs.Count.{both}
 use Rattle.protocol.specs.Bounds.{within}
-use Rattle.protocol.proofs.DecimalLaws.{grown, Grown}
-use Rattle.protocol.proofs.LineRoundTrip.{numbers-wrong}
+use Rattle.protocol.proofs.DecimalLaws.{grown, Grown, wrong-stays}
+use Rattle.decimal.specs.Reading.{Spelled, fault, spellEnd, endSpelled, spell}
+
+-- behind a wrong byte nothing is read
+pub spell-wrong : (bs : List ℕ) → spell Wrong bs ≡ fault
+spell-wrong [] = refl
+spell-wrong (b ∷ bs) = go (eqb b (endByte (length bs))) (spell-wrong bs)
+  where
+    go : (t : Bool) → spell Wrong bs ≡ fault → cond t (endSpelled Wrong (spell (cond t Empty (withByte Wrong b)) bs)) (spell (cond t Empty (withByte Wrong b)) bs) ≡ fault
+    go true e = refl
+    go false e = rw (wrong-stays b) e
 
 left-behind : (s : List ℕ) (i : ℕ) → length (drop (suc i) s) ≡ length s - (i + 1)
 left-behind s i = simp (length-drop, ← add-one)
 
-pub numbers-end : (f : Numeral) (s : List ℕ) (i : ℕ) → i < length s → getD s i 0 ≡ endByte (length s - (i + 1)) → numbers f (drop i s) ≡ endNumber f (numbers Empty (drop (i + 1) s))
-numbers-end f s i h e =
+pub spell-end : (f : Numeral) (s : List ℕ) (i : ℕ) → i < length s → getD s i 0 ≡ endByte (length s - (i + 1)) → spell f (drop i s) ≡ endSpelled f (spell Empty (drop (i + 1) s))
+spell-end f s i h e =
     let t : eqb (getD s i 0) (endByte (length (drop (suc i) s))) ≡ true = eq-eqb _ _ (e ∙ ap endByte (sym (left-behind s i))) in
     rw (add-one, drop-cons s i 0 h, t)
 
-pub numbers-byte : (f : Numeral) (s : List ℕ) (i : ℕ) → i < length s → (getD s i 0 ≡ endByte (length s - (i + 1)) → ⊥) → numbers f (drop i s) ≡ numbers (withByte f (getD s i 0)) (drop (i + 1) s)
-numbers-byte f s i h e =
+pub spell-byte : (f : Numeral) (s : List ℕ) (i : ℕ) → i < length s → (getD s i 0 ≡ endByte (length s - (i + 1)) → ⊥) → spell f (drop i s) ≡ spell (withByte f (getD s i 0)) (drop (i + 1) s)
+spell-byte f s i h e =
     let t : eqb (getD s i 0) (endByte (length (drop (suc i) s))) ≡ false = ne-eqb _ _ (λ p. e (p ∙ ap endByte (left-behind s i))) in
     rw (add-one, drop-cons s i 0 h, t)
 
-pub numbers-none : (f : Numeral) (s : List ℕ) (i : ℕ) → length s ≤ i → numbers f (drop i s) ≡ ended f
-numbers-none f s i h = rw (drop-of-length-le s h)
+pub spell-none : (f : Numeral) (s : List ℕ) (i : ℕ) → length s ≤ i → spell f (drop i s) ≡ spellEnd f
+spell-none f s i h = rw (drop-of-length-le s h)
 
 -- ---- bytes that are no digits
 
@@ -48,16 +57,16 @@ pub not-taken : (f : Numeral) (b : ℕ) → NoDigit b → withByte f b ≡ Wrong
 not-taken f b = ⊎-elim (λ h. rw (lt-ltb b 48 h)) (λ h. let l : 48 ≤ b = omega arith in rw (le-ltb b 48 l, lt-ltb 57 b h))
 
 -- where f with the byte is wrong, and the byte isn't the one that ends a number, the line is wrong
-pub spoils : (f : Numeral) (s : List ℕ) (i : ℕ) → i < length s → withByte f (getD s i 0) ≡ Wrong → (getD s i 0 ≡ endByte (length s - (i + 1)) → ⊥) → numbers f (drop i s) ≡ none
-spoils f s i h e n = numbers-byte f s i h n ∙ ap (λ (g : Numeral). numbers g (drop (i + 1) s)) e ∙ numbers-wrong (drop (i + 1) s)
+pub spoils : (f : Numeral) (s : List ℕ) (i : ℕ) → i < length s → withByte f (getD s i 0) ≡ Wrong → (getD s i 0 ≡ endByte (length s - (i + 1)) → ⊥) → spell f (drop i s) ≡ fault
+spoils f s i h e n = spell-byte f s i h n ∙ ap (λ (g : Numeral). spell g (drop (i + 1) s)) e ∙ spell-wrong (drop (i + 1) s)
 
 -- a number begins with a digit
-pub no-number : (s : List ℕ) (i : ℕ) → i < length s → NoDigit (getD s i 0) → numbers Empty (drop i s) ≡ none
-no-number s i h d = go (numbers Empty (drop (i + 1) s)) (eqb (getD s i 0) (endByte (length (drop (suc i) s)))) refl
+pub no-number : (s : List ℕ) (i : ℕ) → i < length s → NoDigit (getD s i 0) → spell Empty (drop i s) ≡ fault
+no-number s i h d = go (spell Empty (drop (i + 1) s)) (eqb (getD s i 0) (endByte (length (drop (suc i) s)))) refl
   where
-    go : (r : Option (List ℕ)) (t : Bool) → eqb (getD s i 0) (endByte (length (drop (suc i) s))) ≡ t → numbers Empty (drop i s) ≡ none
+    go : (r : Spelled) (t : Bool) → eqb (getD s i 0) (endByte (length (drop (suc i) s))) ≡ t → spell Empty (drop i s) ≡ fault
     go r true e = rw (drop-cons s i 0 h, e)
-    go r false e = rw (drop-cons s i 0 h, e, not-taken Empty (getD s i 0) d) (numbers-wrong (drop (suc i) s))
+    go r false e = rw (drop-cons s i 0 h, e, not-taken Empty (getD s i 0) d) (spell-wrong (drop (suc i) s))
 
 -- ---- the last byte
 

@@ -1,9 +1,8 @@
--- A run of digits, digit by digit: `run-start`, `run-turn` for each step, `run-end` after nine; and what the ends of numbers show.
+-- A run of digits, digit by digit: `run-start`, `run-turn` for each step, `run-end` after nine; and what the ends of spell show.
 -- Assumes nothing.
 use Prim.Native.Nat.{ℕ, zero, suc, _+_, _*_, _-_, _^_, _≤_, _<_}
 use mathlib.Core.Path.{_≡_, ap, _∙_}
 use mathlib.Core.List.{List}
-use mathlib.Core.Option.{none}
 use mathlib.Core.Logic.{_⊎_, inl, inr, ⊎-elim}
 use native.Mathlib.Omega.{arith}
 use native.Mathlib.Nat.{pow-suc, pow-le-pow-right}
@@ -13,14 +12,13 @@ use lib.ListN.{length, getD, drop}
 use borrow.Author.Tests.{ne-eqb, lt-ltb, le-ltb}
 use Rattle.protocol.specs.declared.Numeral.{Numeral}
 use Rattle.protocol.specs.declared.Numeral.the-variants.{Empty, Value, Wrong}
-use Rattle.protocol.specs.Line.{withByte, endByte, numbers}
+use Rattle.protocol.specs.Line.{withByte, endByte}
 use Rattle.protocol.proofs.DecimalLaws.{of-digit}
-use Rattle.protocol.proofs.LineRoundTrip.{numbers-wrong}
 use Rattle.decimal.specs.declared.Run.{Run}
 use Rattle.decimal.specs.declared.Found.{Found}
 use Rattle.decimal.specs.declared.Found.the-variants as found
-use Rattle.decimal.specs.Reading.{Ended, grow, seen, Stops, Ran, Finds}
-use Rattle.decimal.proofs.Bytes.{NoDigit, not-taken, numbers-byte}
+use Rattle.decimal.specs.Reading.{fault, spell, Ended, grow, seen, Stops, Ran, Finds}
+use Rattle.decimal.proofs.Bytes.{NoDigit, not-taken, spell-byte, spell-wrong}
 
 -- ---- a value that may have more than 32 bits
 
@@ -58,13 +56,13 @@ digit-inside s i e h l = by-place (decLt (i + 1) (length s))
         let p : i ≡ length s - 1 = omega arith in
         absurd (omega (arith, ap (λ (j : ℕ). getD s j 0) p))
 
-pub digit-read : (f : Numeral) (s : List ℕ) (i : ℕ) → i < length s → 48 ≤ getD s i 0 → numbers f (drop i s) ≡ numbers (withByte f (getD s i 0)) (drop (i + 1) s)
-digit-read f s i h l = numbers-byte f s i h (λ p. omega (arith, endByte-low (length s - (i + 1))))
+pub digit-read : (f : Numeral) (s : List ℕ) (i : ℕ) → i < length s → 48 ≤ getD s i 0 → spell f (drop i s) ≡ spell (withByte f (getD s i 0)) (drop (i + 1) s)
+digit-read f s i h l = spell-byte f s i h (λ p. omega (arith, endByte-low (length s - (i + 1))))
 
 -- ---- a run
 
 pub record Running (s : List ℕ) (r t : Run) (j : ℕ) : Type 0 where
-  pub reads : numbers (Value (r .value)) (drop (r .next) s) ≡ numbers (seen (t .value)) (drop (t .next) s)
+  pub reads : spell (Value (r .value)) (drop (r .next) s) ≡ spell (seen (t .value)) (drop (t .next) s)
   pub inside : t .next < length s
   pub onward : r .next ≤ t .next
   pub some : 1 ≤ t .value
@@ -102,7 +100,7 @@ module _ (s : List ℕ) (r t : Run) where
       let p1 : 10 ^ (j + 1) ≡ 10 ^ j * 10 = rw add-one (pow-suc 10 j) in
       let p2 : 10 ^ (j + 1 + 1) ≡ 10 ^ (j + 1) * 10 = rw (add-one (j + 1)) (pow-suc 10 (j + 1)) in
       record {
-        reads = a .reads ∙ digit-read (seen (t .value)) s (t .next) (a .inside) l ∙ ap (λ (f : Numeral). numbers f (drop (t .next + 1) s)) (seen-digit (t .value) b (a .some) l h (decLt _ _));
+        reads = a .reads ∙ digit-read (seen (t .value)) s (t .next) (a .inside) l ∙ ap (λ (f : Numeral). spell f (drop (t .next + 1) s)) (seen-digit (t .value) b (a .some) l h (decLt _ _));
         inside = digit-inside s (t .next) e (a .inside) l;
         onward = omega (arith, a .onward);
         some = omega (arith, a .some);
@@ -137,7 +135,7 @@ module _ (s : List ℕ) (r t : Run) where
       full : 10 ^ 9 ≤ t .value → Stops s (seen (t .value)) (t .next)
       full k = by-digit k (decLt (getD s (t .next) 0) 48) (decLt 57 (getD s (t .next) 0))
 
--- ---- numbers that have been found
+-- ---- spell that have been found
 
 -- behind a zero no digit stands
 pub zero-stops : (s : List ℕ) (i : ℕ) → Stops s (Value 0) i
@@ -149,12 +147,12 @@ zero-stops s i = go (decLt (getD s i 0) 48) (decLt 57 (getD s i 0))
     go (no l) (no h) = of-digit (Value 0) (getD s i 0) (omega arith) (omega arith)
 
 -- the first byte of a number
-pub first-digit : (s : List ℕ) (i : ℕ) → i < length s → 48 ≤ getD s i 0 → getD s i 0 ≤ 57 → numbers Empty (drop i s) ≡ numbers (Value (getD s i 0 - 48)) (drop (i + 1) s)
-first-digit s i h l k = digit-read Empty s i h l ∙ ap (λ (f : Numeral). numbers f (drop (i + 1) s)) (of-digit Empty (getD s i 0) l k)
+pub first-digit : (s : List ℕ) (i : ℕ) → i < length s → 48 ≤ getD s i 0 → getD s i 0 ≤ 57 → spell Empty (drop i s) ≡ spell (Value (getD s i 0 - 48)) (drop (i + 1) s)
+first-digit s i h l k = digit-read Empty s i h l ∙ ap (λ (f : Numeral). spell f (drop (i + 1) s)) (of-digit Empty (getD s i 0) l k)
 
-pub finds-first : (f : Numeral) (s : List ℕ) (i j : ℕ) (r : Found) → numbers Empty (drop i s) ≡ numbers f (drop j s) → i ≤ j → Finds f s j r → Finds Empty s i r
+pub finds-first : (f : Numeral) (s : List ℕ) (i j : ℕ) (r : Found) → spell Empty (drop i s) ≡ spell f (drop j s) → i ≤ j → Finds f s j r → Finds Empty s i r
 finds-first f s i j (found.Number v k) e h a = (e ∙ a .0, omega (arith, a .1), a .2)
 finds-first f s i j found.Wrong e h a = e ∙ a
 
-pub too-large : (s : List ℕ) (r t : Run) → Ran s r t → 2 ^ 32 ≤ t .value → numbers (Value (r .value)) (drop (r .next) s) ≡ none
-too-large s r t a h = a .reads ∙ ap (λ (f : Numeral). numbers f (drop (t .next) s)) (seen-large (t .value) h) ∙ numbers-wrong (drop (t .next) s)
+pub too-large : (s : List ℕ) (r t : Run) → Ran s r t → 2 ^ 32 ≤ t .value → spell (Value (r .value)) (drop (r .next) s) ≡ fault
+too-large s r t a h = a .reads ∙ ap (λ (f : Numeral). spell f (drop (t .next) s)) (seen-large (t .value) h) ∙ spell-wrong (drop (t .next) s)

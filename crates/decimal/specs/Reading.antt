@@ -1,23 +1,26 @@
 -- What the reader's functions find in a line's bytes.
+--   spell, numbersBefore   the numbers that a line spells up to the first fault
+--   tallyOf    how many numbers a line has
 --   grow       a run of digits with the next byte
 --   Ran        a run that has been read as far as it goes
 --   Finds      the number at a position
---   Tallied    the numbers of a line, stored as far as there is room; TalliedBehind: without the first
---   countOf, countNumber, wordsAfter   what the entry `numbers` answers and leaves
+--   Tallied    the numbers of a line that has no fault, stored as far as there is room; TalliedBehind: without the first
+--   countReply, countOf, wordsAfter   what the entry `numbers` answers and leaves
 -- Assumes nothing.
 use Prim.Native.Nat.{ℕ, _+_, _*_, _-_, _^_, _≤_, _<_}
 use mathlib.Core.Path.{_≡_}
-use mathlib.Core.Bool.{cond}
+use mathlib.Core.Bool.{Bool, true, false, cond}
 use mathlib.Core.List.{List, [], _∷_}
 use mathlib.Core.Option.{Option, some, none}
-use lib.Dec.{ltb}
+use lib.Dec.{ltb, eqb}
 use lib.ListN.{length, getD, set, drop}
 use lib.Seq.{sets}
 use Rattle.algebra.specs.Words.{over}
 use Rattle.protocol.specs.declared.Numeral.{Numeral}
 use Rattle.protocol.specs.declared.Numeral.the-variants as numeral
-use Rattle.protocol.specs.Judge.{Judged, refused, done, refusalNumber}
-use Rattle.protocol.specs.Line.{withByte, prepend, numbers}
+use Rattle.protocol.specs.Judge.{Judged, refused, done, refusalNumber, Reply}
+use Rattle.protocol.specs.Bounds.{within}
+use Rattle.protocol.specs.Line.{withByte, endByte}
 use Rattle.decimal.specs.declared.Run.{Run}
 use Rattle.decimal.specs.declared.Found.{Found}
 use Rattle.decimal.specs.declared.Found.the-variants.{Number, Wrong}
@@ -25,6 +28,57 @@ use Rattle.decimal.specs.declared.Tally.{Tally}
 use Rattle.decimal.specs.declared.Tally.the-variants as tally
 use Rattle.decimal.specs.declared.Count.{Count}
 use Rattle.decimal.specs.declared.Count.the-variants as count
+
+-- ---- what a line's bytes spell up to the first fault
+
+-- the numbers in front of it, and whether there is none
+pub record Spelled : Type 0 where
+  pub values : List ℕ
+  pub whole : Bool
+
+abbrev pub fault : Spelled
+fault = record { values = []; whole = false }
+
+-- at the end of the line every number has been ended
+abbrev pub spellEnd : Numeral → Spelled
+spellEnd numeral.Empty = record { values = []; whole = true }
+spellEnd (numeral.Value v) = fault
+spellEnd numeral.Wrong = fault
+
+-- a number in front of those behind it
+abbrev pub withNumber : ℕ → Spelled → Spelled
+withNumber v x = record { values = v ∷ x .values; whole = x .whole }
+
+abbrev pub endSpelled : Numeral → Spelled → Spelled
+endSpelled numeral.Empty x = fault
+endSpelled (numeral.Value v) x = withNumber v x
+endSpelled numeral.Wrong x = fault
+
+-- as `numbers` of protocol reads, where f has been read of the first number
+abbrev pub spell : Numeral → List ℕ → Spelled
+spell f [] = spellEnd f
+spell f (b ∷ bs) =
+    let ends = eqb b (endByte (length bs)) in
+    let x = spell (cond ends numeral.Empty (withByte f b)) bs in
+    cond ends (endSpelled f x) x
+
+-- of a whole line, which has 1 to 65,536 bytes and ends with byte 10; of another run of bytes nothing is read
+unfoldable pub numbersBefore : List ℕ → List ℕ
+numbersBefore l = cond (within 1 65536 (length l)) (cond (eqb (getD l (length l - 1) 0) 10) (spell numeral.Empty l .values) []) []
+
+-- the numbers of a line that has no fault
+abbrev pub numbersIn : Spelled → Option (List ℕ)
+numbersIn x = cond (x .whole) (some (x .values)) none
+
+-- how many numbers a line has
+abbrev pub tallyOf : Option (List ℕ) → Tally
+tallyOf none = tally.Wrong
+tallyOf (some xs) = tally.Numbers (length xs)
+
+abbrev pub tallyIn : Spelled → Tally
+tallyIn x = cond (x .whole) (tally.Numbers (length (x .values))) tally.Wrong
+
+-- ---- what the functions find
 
 -- the byte 10 ends the line
 abbrev pub Ended : List ℕ → Type 0
@@ -46,15 +100,15 @@ Stops s f next = withByte f (getD s next 0) ≡ numeral.Wrong
 
 -- from the run r on, t has been read, and no digit can follow
 pub record Ran (s : List ℕ) (r t : Run) : Type 0 where
-  pub reads : numbers (numeral.Value (r .value)) (drop (r .next) s) ≡ numbers (seen (t .value)) (drop (t .next) s)
+  pub reads : spell (numeral.Value (r .value)) (drop (r .next) s) ≡ spell (seen (t .value)) (drop (t .next) s)
   pub stops : Stops s (seen (t .value)) (t .next)
   pub inside : t .next < length s
   pub onward : r .next ≤ t .next
 
 -- where f has been read of the number whose next byte stands at i
 abbrev pub Finds : Numeral → List ℕ → ℕ → Found → Type 0
-Finds f s i (Number v j) = (numbers f (drop i s) ≡ prepend v (numbers numeral.Empty (drop j s))) × (i < j) × (j ≤ length s)
-Finds f s i Wrong = numbers f (drop i s) ≡ none
+Finds f s i (Number v j) = (spell f (drop i s) ≡ withNumber v (spell numeral.Empty (drop j s))) × (i < j) × (j ≤ length s)
+Finds f s i Wrong = spell f (drop i s) ≡ fault
 
 -- the word of the number at index n, where the first `skip` are not stored
 unfoldable pub setBehind : ℕ → List ℕ → ℕ → ℕ → List ℕ
@@ -80,14 +134,14 @@ Tallied = TalliedBehind 0
 
 -- ---- the entry `numbers`
 
-abbrev pub countOf : Judged (List ℕ) → Count
-countOf (refused r) = count.Refused r
-countOf (done xs) = count.Words (length xs)
+-- what the answer tells: the refusal's number, 0 where the line is taken, and how many words, 0 where it is refused
+abbrev pub countReply : Count → Reply ℕ
+countReply (count.Words n) = record { number = 0; values = n }
+countReply (count.Refused r) = record { number = refusalNumber r; values = 0 }
 
--- 01's number of an answer, 0 where the line is taken
-abbrev pub countNumber : Count → ℕ
-countNumber (count.Words n) = 0
-countNumber (count.Refused r) = refusalNumber r
+abbrev pub countOf : Judged (List ℕ) → Judged ℕ
+countOf (refused r) = refused r
+countOf (done xs) = done (length xs)
 
 abbrev pub wordsAfter : Judged (List ℕ) → List ℕ → List ℕ
 wordsAfter (refused r) out = out

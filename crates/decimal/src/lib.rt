@@ -1,6 +1,7 @@
 // Lines of 32-bit numbers in decimal, parted by commas and ended by byte 10: from bytes to words and back.
-//   numbers      the entry that reads a line of numbers
-//   load         a line's numbers into the engine's own words, in one pass over the bytes
+// Entry for hosts: `numbers`, which takes any bytes; the other functions are for the engine's own crates.
+//   numbers      a line of numbers
+//   load         a line's numbers into the engine's own words, in one pass over the bytes, up to the first fault
 //   load_behind  the same without the first numbers
 //   put_numbers  a run of numbers as bytes, in one pass over the numbers
 //   line_length  how many bytes a run of numbers takes
@@ -8,11 +9,12 @@ use protocol::Refusal;
 ghost use mathlib.Core.Path.{_≡_};
 ghost use mathlib.Core.List.{[], _∷_, _++_};
 ghost use Prim.Native.Nat.{_+_, _*_, _-_, _^_, _≤_, _<_};
-ghost use lib.ListN.{length, set};
+ghost use lib.ListN.{length, set, drop};
 ghost use lib.Seq.{sets};
 ghost use Rattle.protocol.specs.declared.Numeral.the-variants.{Empty, Value};
-ghost use Rattle.protocol.specs.Line.{endByte, decimal, line, numbers, numbersOf, numbersInto};
-ghost use Rattle.decimal.specs.Reading.{grow, Ended, Ran, Stops, Finds, setBehind, TalliedBehind, Tallied, countOf, wordsAfter};
+ghost use Rattle.protocol.specs.Judge.{replyOf};
+ghost use Rattle.protocol.specs.Line.{endByte, decimal, line, numbersOf, numbersInto};
+ghost use Rattle.decimal.specs.Reading.{grow, Ended, Ran, Stops, Finds, setBehind, spell, tallyIn, tallyOf, numbersBefore, countReply, countOf, wordsAfter};
 ghost use Rattle.decimal.specs.Writing.{digitAt, high, lineBefore};
 
 // ---- reading
@@ -141,10 +143,11 @@ fn put_behind(out: &mut [u32], skip: usize, n: usize, value: u32)
     put_word(out, n - skip, value);
 }
 
-// The numbers of a line's bytes; those behind the first `skip` are stored, as many as there is room for.
+// The numbers of a line's bytes up to the first fault; those behind the first `skip` are stored, as many as there is room for.
 fn scan(s: &[u8], skip: usize, out: &mut [u32]) -> Tally
     requires { ⌜ Ended (now s) ⌝ }
-    ensures { λ r. ⌜ TalliedBehind skip (numbers Empty (now (s .entry))) (now (out .entry)) (now (out .exit)) r ⌝ }
+    ensures answered { λ r. ⌜ r ≡ tallyIn (spell Empty (now (s .entry))) ⌝ }
+    ensures contents { λ _. ⌜ now (out .exit) ≡ sets (now (out .entry)) 0 (drop skip (spell Empty (now (s .entry)) .values)) ⌝ }
 {
     let mut n: usize = 0;
     let mut i: usize = 0;
@@ -160,9 +163,10 @@ fn scan(s: &[u8], skip: usize, out: &mut [u32]) -> Tally
     Tally::Numbers(n)
 }
 
-// The numbers of a whole line, of at most 65,536 bytes; those behind the first `skip` are stored, as many as there is room for.
+// The numbers of a whole line, of at most 65,536 bytes, up to the first fault; those behind the first `skip` are stored, as many as there is room for.
 pub fn load_behind(s: &[u8], skip: usize, out: &mut [u32]) -> Tally
-    ensures { λ r. ⌜ TalliedBehind skip (numbersOf (now (s .entry))) (now (out .entry)) (now (out .exit)) r ⌝ }
+    ensures answered { λ r. ⌜ r ≡ tallyOf (numbersOf (now (s .entry))) ⌝ }
+    ensures contents { λ _. ⌜ now (out .exit) ≡ sets (now (out .entry)) 0 (drop skip (numbersBefore (now (s .entry)))) ⌝ }
 {
     let n = s.len();
     if n == 0 {
@@ -177,16 +181,17 @@ pub fn load_behind(s: &[u8], skip: usize, out: &mut [u32]) -> Tally
     scan(s, skip, out)
 }
 
-// The numbers of a whole line, as many of them stored as there is room for.
+// The same with all of them.
 pub fn load(s: &[u8], out: &mut [u32]) -> Tally
-    ensures { λ r. ⌜ Tallied (numbersOf (now (s .entry))) (now (out .entry)) (now (out .exit)) r ⌝ }
+    ensures answered { λ r. ⌜ r ≡ tallyOf (numbersOf (now (s .entry))) ⌝ }
+    ensures contents { λ _. ⌜ now (out .exit) ≡ sets (now (out .entry)) 0 (numbersBefore (now (s .entry))) ⌝ }
 {
     load_behind(s, 0, out)
 }
 
 // Reads a line of numbers into a lent slice. Refused by 1, or by 4 where the slice is too short; nothing is stored then.
 pub fn numbers(s: &[u8], out: &mut [u32]) -> Count
-    ensures answered { λ r. ⌜ r ≡ countOf (numbersInto (length (now (out .entry))) (now (s .entry))) ⌝ }
+    ensures answered { λ r. ⌜ countReply r ≡ replyOf 0 (countOf (numbersInto (length (now (out .entry))) (now (s .entry)))) ⌝ }
     ensures contents { λ _. ⌜ now (out .exit) ≡ wordsAfter (numbersInto (length (now (out .entry))) (now (s .entry))) (now (out .entry)) ⌝ }
 {
     let mut spare = [0u32; 1];

@@ -3,27 +3,30 @@
 --   read-refused, read-done, parse-refused, parse-done, write-refused, write-done   what follows for the entries
 --   head-stops, head-goes-on                                         the head's check, and what follows it
 -- Assumes nothing.
-use mathlib.Core.Path.{_≡_, sym, ap, _∙_}
-use mathlib.Core.List.{List, _∷_}
+use mathlib.Core.Path.{_≡_, refl, sym, ap, _∙_}
+use mathlib.Core.Bool.{Bool, true, false, false≢true}
+use mathlib.Core.List.{List, [], _∷_}
 use mathlib.Core.Option.{some, none}
 use Prim.Native.Nat.{ℕ, _≤_, _<_}
-use lib.Dec.{leb}
+use native.Mathlib.Omega.{arith}
+use native.Mathlib.Decide.{decLt}
 use lib.ListN.{length, drop, getD}
-use borrow.Author.Tests.{le-leb, lt-leb, leb-true}
+use borrow.Author.Tests.{le-leb, lt-leb, le-ltb, lt-ltb}
 use Rattle.algebra.specs.Count.{both}
 use Rattle.protocol.specs.declared.Head.{Head}
 use Rattle.protocol.specs.declared.Refusal.{Refusal}
-use Rattle.protocol.specs.declared.Refusal.the-variants.{Form}
-use Rattle.protocol.specs.Judge.{Test, needs, refused, done, clear, judgeBy, judge}
+use Rattle.protocol.specs.declared.Refusal.the-variants.{Form, Size}
+use Rattle.protocol.specs.Judge.{needs, given, refused, done, clear, judgeBy, judge}
 use Rattle.protocol.specs.Bounds.{within, shapeTests, termsTests, inputTests, roomTests}
 use Rattle.protocol.specs.Message.{Message, messageTests}
-use Rattle.protocol.specs.Line.{numbersOf, messageFrom, messageLine, parseInto, readInto, writeInto, readTests, writeTests}
+use Rattle.protocol.specs.Line.{numbersOf, messageFrom, messageLine, parseInto, readInto, writeInto, parseTests, readTests, writeTests}
 use Rattle.checks.specs.InOrder.{checked, inOrder, only, sortedBy, sorted, verdict, judged}
 use Rattle.checks.specs.declared.Check.{Check}
 use Rattle.checks.specs.declared.Check.the-variants as check
 use Rattle.checks.proofs.InOrder.{judge-sorted, refused-by, accepted-by, verdict-all, stops, goes-on}
+use Rattle.protocol.proofs.Judge.{all-split}
 use Rattle.message.specs.Groups.{headTests, messageSizes}
-use Rattle.line.specs.Order.{parseOrder, restTests, inSize}
+use Rattle.line.specs.Order.{shortOrder, parseOrder, restTests, inSize}
 
 pub read-judged : (room : ℕ) (xs : List ℕ) → 7 ≤ length xs
     → judged (readTests room xs) ≡ verdict (inSize (messageFrom xs .head) (drop 7 xs) (length (drop 7 xs)) room)
@@ -54,13 +57,6 @@ parse-few room s xs e h = rw (e, lt-leb 7 (length xs) h)
 
 -- ---- the other lines
 
--- the tests of `parseInto`
-abbrev parseTests : ℕ → List ℕ → List Test
-parseTests room xs =
-    needs Form (leb 7 (length xs))
-    ∷ needs Form (within 1 5 (getD xs 0 0))
-    ∷ roomTests (length (drop 7 xs)) room
-
 module _ (room : ℕ) (s xs : List ℕ) (e : numbersOf s ≡ some xs) (h : 7 ≤ length xs) where
   pub read-refused : (r : Refusal) → verdict (inSize (messageFrom xs .head) (drop 7 xs) (length (drop 7 xs)) room) ≡ refused r → readInto room s ≡ refused r
   unfolding readInto
@@ -70,21 +66,41 @@ module _ (room : ℕ) (s xs : List ℕ) (e : numbersOf s ≡ some xs) (h : 7 ≤
   unfolding readInto
   read-done v = rw e (accepted-by (readTests room xs) (messageFrom xs) (read-judged room xs h ∙ v))
 
-  parse-judged : judged (parseTests room xs) ≡ verdict (parseOrder (getD xs 0 0) (length (drop 7 xs)) room)
-  unfolding roomTests sorted sortedBy only parseOrder inOrder
-  parse-judged = judge-sorted (parseTests room xs) tt ∙ rw (le-leb 7 (length xs) h)
+  parse-held : length (drop 7 xs) ≤ room → judged (parseTests room xs) ≡ verdict (parseOrder (messageFrom xs .head) (length (drop 7 xs)) room)
+  unfolding given messageTests termsTests shapeTests inputTests roomTests sorted sortedBy only parseOrder inOrder
+  parse-held b = judge-sorted (parseTests room xs) tt ∙ rw (le-leb 7 (length xs) h, le-ltb room (length (drop 7 xs)) b, le-leb (length (drop 7 xs)) room b)
 
-  pub parse-refused : (r : Refusal) → verdict (parseOrder (getD xs 0 0) (length (drop 7 xs)) room) ≡ refused r → parseInto room s ≡ refused r
+  -- the kind is tested once more with all that a message shows by itself
+  parse-short : room < length (drop 7 xs) → (known : Bool) → within 1 5 (getD xs 0 0) ≡ known
+      → judged (parseTests room xs) ≡ verdict (parseOrder (messageFrom xs .head) (length (drop 7 xs)) room)
+  unfolding given messageTests termsTests shapeTests inputTests roomTests sorted sortedBy only parseOrder shortOrder headTests messageSizes inOrder
+  parse-short b true k =
+      judge-sorted (parseTests room xs) tt ∙ rw (le-leb 7 (length xs) h, lt-ltb room (length (drop 7 xs)) b, lt-leb (length (drop 7 xs)) room b, k)
+  parse-short b false k = judge-sorted (parseTests room xs) tt ∙ rw (le-leb 7 (length xs) h, lt-ltb room (length (drop 7 xs)) b, k)
+
+  parse-judged : judged (parseTests room xs) ≡ verdict (parseOrder (messageFrom xs .head) (length (drop 7 xs)) room)
+  parse-judged =
+      elim (decLt room (length (drop 7 xs))) [
+        | yes b ↦ parse-short b (within 1 5 (getD xs 0 0)) refl
+        | no b ↦ parse-held (omega arith)
+      ]
+
+  pub parse-refused : (r : Refusal) → verdict (parseOrder (messageFrom xs .head) (length (drop 7 xs)) room) ≡ refused r → parseInto room s ≡ refused r
   unfolding parseInto
   parse-refused r v = rw e (refused-by (parseTests room xs) (messageFrom xs) (parse-judged ∙ v))
 
-  pub parse-done : verdict (parseOrder (getD xs 0 0) (length (drop 7 xs)) room) ≡ done tt → parseInto room s ≡ done (messageFrom xs)
+  pub parse-done : verdict (parseOrder (messageFrom xs .head) (length (drop 7 xs)) room) ≡ done tt → parseInto room s ≡ done (messageFrom xs)
   unfolding parseInto
   parse-done v = rw e (accepted-by (parseTests room xs) (messageFrom xs) (parse-judged ∙ v))
 
-pub parse-passed : (kind count room : ℕ) → verdict (parseOrder kind count room) ≡ done tt → count ≤ room
-unfolding parseOrder
-parse-passed kind count room e = leb-true count room (verdict-all _ e .1 .0)
+-- a message that passed has room
+pub parse-passed : (h : Head) (count room : ℕ) → verdict (parseOrder h count room) ≡ done tt → count ≤ room
+unfolding parseOrder shortOrder
+parse-passed h count room e =
+    elim (decLt room count) [
+      | yes b ↦ absurd (false≢true (all-split (headTests h count) (needs Size false ∷ []) (verdict-all _ (rw (lt-ltb room count b) at e)) .1 .0))
+      | no b ↦ omega arith
+    ]
 
 module _ (room : ℕ) (a : Message) where
   pub write-refused : (r : Refusal) → verdict (inSize (a .head) (a .residues) (length (messageLine a)) room) ≡ refused r → writeInto room a ≡ refused r

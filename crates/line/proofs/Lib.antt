@@ -3,8 +3,10 @@
 -- Loaded   the words that a line was read into
 -- Bytes    a message's line in two runs
 -- RoundTrip  what is written reads back, and only lines that can be written are read
+-- Replies    what the answers tell determines them
 pub mod Fits
 pub mod Judged
 pub mod Loaded
 pub mod Bytes
 pub mod RoundTrip
+pub mod Replies

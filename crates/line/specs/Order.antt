@@ -1,10 +1,12 @@
 -- The tests of a line, in the order in which code makes them: the lowest refusal first.
---   parseOrder  a message's form and the room for its residues
+--   shortOrder  a message by itself, whose residues have no room
+--   parseOrder  a message's form, where they have
 --   inSize      all that a message shows by itself, where `need` words or bytes of `room` are written
 -- Assumes nothing.
+use mathlib.Core.Bool.{false, cond}
 use mathlib.Core.List.{List, [], _∷_, _++_}
 use Prim.Native.Nat.{ℕ}
-use lib.Dec.{leb}
+use lib.Dec.{leb, ltb}
 use lib.ListN.{length}
 use Rattle.protocol.specs.declared.Head.{Head}
 use Rattle.protocol.specs.declared.Refusal.the-variants.{Form, Size, Residue}
@@ -12,8 +14,12 @@ use Rattle.protocol.specs.Judge.{Test, needs}
 use Rattle.protocol.specs.Bounds.{within, allBelow}
 use Rattle.message.specs.Groups.{headTests}
 
-unfoldable pub parseOrder : (kind count room : ℕ) → List Test
-parseOrder kind count room = needs Form (within 1 5 kind) ∷ needs Size (leb count room) ∷ []
+-- of a message whose residues have no room
+unfoldable pub shortOrder : Head → (count : ℕ) → List Test
+shortOrder h count = headTests h count ++ needs Size false ∷ []
+
+unfoldable pub parseOrder : Head → (count room : ℕ) → List Test
+parseOrder h count room = cond (ltb room count) (shortOrder h count) (needs Form (within 1 5 (h .kind)) ∷ [])
 
 unfoldable pub restTests : (q : ℕ) → (residues : List ℕ) → (need room : ℕ) → List Test
 restTests q residues need room = needs Size (leb need room) ∷ needs Residue (allBelow q residues) ∷ []

@@ -1,6 +1,6 @@
 // Message lines: kind, session, tape, q, m, k, p, then the residues.
-// What a host may call with any bytes and numbers; a refusal changes nothing that was lent:
-//   parse  a line's form alone: 1, and 4 where the residues have no room
+// Entries for hosts, which take any bytes and numbers; a refusal changes nothing that was lent:
+//   parse  a line's form alone: 1; where the residues have no room, the lowest of 1 to 4 that applies to the message by itself
 //   read   all that a message shows by itself: 1, 2, 3, 4 and 8, the lowest that applies
 //   write  a message's line, judged as it is when read
 use checks::Check;
@@ -17,12 +17,13 @@ ghost use Prim.Native.Nat.{ℕ, _+_, _≤_};
 ghost use lib.ListN.{length, take, drop};
 ghost use Rattle.algebra.specs.Words.{over};
 ghost use Rattle.protocol.specs.Message.{Message};
+ghost use Rattle.protocol.specs.Judge.{replyOf};
 ghost use Rattle.protocol.specs.Line.{numbersOf, messageFrom, messageLine, parseInto, readInto, writeInto, mostSent};
 ghost use Rattle.checks.specs.InOrder.{checked, verdict};
 ghost use Rattle.protocol.specs.Message.{messageWith};
 ghost use Rattle.decimal.specs.Writing.{headNumbers};
-ghost use Rattle.line.specs.Entries.{receivedOf, residuesAfter, receivedBy, writtenOf, bytesAfter, writtenBy};
-ghost use Rattle.line.specs.Order.{parseOrder, restTests, inSize};
+ghost use Rattle.line.specs.Entries.{receivedReply, noArrival, arrivedOf, residuesAfter, receivedBy, writtenReply, bytesOf, bytesAfter, writtenBy};
+ghost use Rattle.line.specs.Order.{shortOrder, parseOrder, restTests, inSize};
 
 // What a line is read as: a message's head and how many residues were stored, or why none.
 pub enum Received {
@@ -91,15 +92,26 @@ fn refused(c: Check) -> Received
     }
 }
 
-// The form of a message with `count` residues, and their room.
-fn check_form(kind: u32, count: usize, room: usize) -> Check
-    ensures { λ r. ⌜ checked r ≡ verdict (parseOrder kind count room) ⌝ }
+// A message whose residues have no room: the lowest refusal that applies to it by itself, and 4 where none lower does.
+fn check_short(h: Head, count: usize) -> Check
+    ensures { λ r. ⌜ checked r ≡ verdict (shortOrder h count) ⌝ }
 {
-    if !message::kind_known(kind) {
-        return Check::Refused(Refusal::Form);
-    }
+    let own = message::check_head(h, count);
+    let Check::Passed = own else {
+        return own;
+    };
+    Check::Refused(Refusal::Size)
+}
+
+// The form of a message with `count` residues, and their room.
+fn check_form(h: Head, count: usize, room: usize) -> Check
+    ensures { λ r. ⌜ checked r ≡ verdict (parseOrder h count room) ⌝ }
+{
     if room < count {
-        return Check::Refused(Refusal::Size);
+        return check_short(h, count);
+    }
+    if !message::kind_known(h.kind) {
+        return Check::Refused(Refusal::Form);
     }
     Check::Passed
 }
@@ -133,7 +145,7 @@ fn check_read(h: Head, count: usize, words: &[u32], room: usize) -> Check
 
 // Reads a message's form. The residues go into `out`.
 pub fn parse(s: &[u8], out: &mut [u32]) -> Received
-    ensures answered { λ r. ⌜ r ≡ receivedOf (parseInto (length (now (out .entry))) (now (s .entry))) ⌝ }
+    ensures answered { λ r. ⌜ receivedReply r ≡ replyOf noArrival (arrivedOf (parseInto (length (now (out .entry))) (now (s .entry)))) ⌝ }
     ensures contents { λ _. ⌜ now (out .exit) ≡ residuesAfter (parseInto (length (now (out .entry))) (now (s .entry))) (now (out .entry)) ⌝ }
 {
     let mut words = [0u32; 3079];
@@ -146,7 +158,7 @@ pub fn parse(s: &[u8], out: &mut [u32]) -> Received
     }
     let head = head_of(&words);
     let count = n - 7;
-    let check = check_form(head.kind, count, out.len());
+    let check = check_form(head, count, out.len());
     let Check::Passed = check else {
         return refused(check);
     };
@@ -156,7 +168,7 @@ pub fn parse(s: &[u8], out: &mut [u32]) -> Received
 
 // Reads a message. The residues go into `out`.
 pub fn read(s: &[u8], out: &mut [u32]) -> Received
-    ensures answered { λ r. ⌜ r ≡ receivedOf (readInto (length (now (out .entry))) (now (s .entry))) ⌝ }
+    ensures answered { λ r. ⌜ receivedReply r ≡ replyOf noArrival (arrivedOf (readInto (length (now (out .entry))) (now (s .entry)))) ⌝ }
     ensures contents { λ _. ⌜ now (out .exit) ≡ residuesAfter (readInto (length (now (out .entry))) (now (s .entry))) (now (out .entry)) ⌝ }
 {
     let mut words = [0u32; 3079];
@@ -232,7 +244,7 @@ fn unwritten(c: Check) -> Written
 
 // Writes a message's line into `out`.
 pub fn write(h: Head, residues: &[u32], out: &mut [u8]) -> Written
-    ensures answered { λ r. ⌜ r ≡ writtenOf (writeInto (length (now (out .entry))) (messageWith h (now (residues .entry)))) ⌝ }
+    ensures answered { λ r. ⌜ writtenReply r ≡ replyOf 0 (bytesOf (writeInto (length (now (out .entry))) (messageWith h (now (residues .entry))))) ⌝ }
     ensures contents { λ _. ⌜ now (out .exit) ≡ bytesAfter (writeInto (length (now (out .entry))) (messageWith h (now (residues .entry)))) (now (out .entry)) ⌝ }
 {
     let check = check_write(h, residues, out.len());

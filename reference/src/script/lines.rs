@@ -103,4 +103,16 @@ const ROWS: &[Row] = &[
     ("residue q, session 0", b"1,0,4,7,1,2,1,3,7\n", ROOM),
     ("short room, residue q", b"1,9,4,7,1,2,1,3,7\n", 1),
     ("short room, q 1", b"1,9,4,1,1,2,1,0,0\n", 1),
+    // Too short a room: the lowest of 1 to 4 that applies to the message by itself.
+    ("short room, kind 6, q 1", b"6,9,4,1,1,2,1,0,0\n", 1),
+    ("short room, q 0 in a system, session 0", b"3,0,4,0,1,1,2,4\n", 0),
+    ("short room, q 2147483648", b"2,9,4,2147483648,1,2,1,0,0,0\n", 2),
+    ("short room, q 6 in a system", b"3,9,4,6,1,1,2,4\n", 0),
+    ("short room, q 6 and n 17 in a system", b"5,9,4,6,17,17,18,1\n", 0),
+    ("short room, q 6 in a product", b"1,9,4,6,1,2,1,5,5\n", 1),
+    ("short room, q 6 in a system's first message", b"1,9,4,6,1,1,2,5,5\n", 1),
+    ("short room, tape 0", b"1,9,0,7,1,2,1,3,3\n", 1),
+    ("short room, one residue too many, residue q", b"1,9,4,7,1,2,1,3,3,7\n", 2),
+    ("room for one residue too many", b"1,9,4,7,1,2,1,3,3,7\n", 3),
+    ("no room, no residue, q 1", b"1,9,4,1,1,2,1\n", 0),
 ];

@@ -2,7 +2,7 @@
 use mathlib.Core.Path.{sym, _∙_}
 use native.Mathlib.Omega.{arith}
 use borrow.Author.Needs.{needs}
-use Rattle.decimal.proofs.Bytes.{numbers-end, spoils}
+use Rattle.decimal.proofs.Bytes.{spell-end, spoils}
 use Rattle.protocol.specs.declared.Numeral.the-variants.{Value}
 use Rattle.decimal.proofs.end_at.Statement.{statement}
 use Rattle.decimal.proofs.end_at.Tie as tie
@@ -26,7 +26,7 @@ returns c =
 
 returns-2 : tie.Need-returns-2
 returns-2 c =
-    (numbers-end (Value (c .before .before .before .before .args .value)) _ _ (c .before .before .before .before .pre .0) (c .if1 .left ∙ c .before .end-byte .ensures), omega arith, omega arith)
+    (spell-end (Value (c .before .before .before .before .args .value)) _ _ (c .before .before .before .before .pre .0) (c .if1 .left ∙ c .before .end-byte .ensures), omega arith, omega arith)
 
 pub end-at-spec : {M : Type 1} → statement M
 end-at-spec =

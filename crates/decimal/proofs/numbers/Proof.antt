@@ -1,11 +1,12 @@
 -- `decimal::numbers` meets its contract: the line is read twice, the second time into the lent slice. Assumes nothing.
 use mathlib.Core.Path.{refl, ap, _∙_}
-use Prim.Native.Nat.{_≤_}
+use Prim.Native.Nat.{ℕ, _≤_}
 use native.Mathlib.Omega.{arith}
 use lib.ListN.{length, replicate}
 use borrow.Author.Needs.{needs}
-use Rattle.decimal.proofs.Entry.{into-none, into-short, into-done, told, told-wrong, stored-behind, sets-over}
+use Rattle.decimal.proofs.Entry.{into-none, into-short, into-done, tallied, told, told-wrong, stored-behind, sets-over}
 use Rattle.protocol.specs.Line.{numbersOf}
+use Rattle.decimal.specs.Reading.{countReply}
 use Rattle.decimal.specs.declared.Count.the-variants as count
 use Rattle.decimal.proofs.numbers.Statement.{statement}
 use Rattle.decimal.proofs.numbers.Tie as tie
@@ -28,7 +29,7 @@ returns c =
     let s = a .s .now in
     let out = a .out .now in
     let e = into-none (length out) s
-    (told-wrong (numbersOf s) (replicate 1 0) _ (c .before .before .before .load .result) (c .before .before .before .load .ensures) (c .enum-told .given .1)) in
+    (told-wrong (numbersOf s) (replicate 1 0) _ (c .before .before .before .load .result) (tallied 0 s _ _ _ (c .before .before .before .load .ensures .0) (c .before .before .before .load .ensures .1)) (c .enum-told .given .1)) in
     rw e (refl, refl)
 
 returns-2 : tie.Need-returns-2
@@ -37,7 +38,7 @@ returns-2 c =
     let load = c .before .before .before .before .before .load in
     let s = a .s .now in
     let out = a .out .now in
-    let t = told (numbersOf s) (replicate 1 0) _ (load .result) _ (load .ensures) (c .before .before .first .given .1) in
+    let t = told (numbersOf s) (replicate 1 0) _ (load .result) _ (tallied 0 s _ _ _ (load .ensures .0) (load .ensures .1)) (c .before .before .first .given .1) in
     let e = into-short (length out) s (t .values) (t .reads) (omega (arith, t .count, c .if1 .taken)) in
     rw e (refl, refl)
 
@@ -53,11 +54,11 @@ returns-3 c =
     let load = c .before .before .before .before .before .before .before .before .before .load in
     let s = a .s .now in
     let out = a .out .now in
-    let t = told (numbersOf s) (replicate 1 0) _ (load .result) _ (load .ensures)
+    let t = told (numbersOf s) (replicate 1 0) _ (load .result) _ (tallied 0 s _ _ _ (load .ensures .0) (load .ensures .1))
     (c .before .before .before .before .before .before .first .given .1) in
     let h : length (t .values) ≤ length out = omega (arith, t .count, c .before .before .before .before .if1 .left) in
     let e = into-done (length out) s (t .values) (t .reads) h in
-    rw e (ap count.Words (t .count), stored-behind 0 (numbersOf s) (t .values) out (c .before .before .load2 .last .1 .0) (c .before .before .load2 .result) (t .reads) (c .before .before .load2 .ensures) ∙ sets-over (t .values) out h)
+    rw e (ap (λ (n : ℕ). countReply (count.Words n)) (t .count), stored-behind 0 (numbersOf s) (t .values) out (c .before .before .load2 .last .1 .0) (c .before .before .load2 .result) (t .reads) (tallied 0 s _ _ _ (c .before .before .load2 .ensures .0) (c .before .before .load2 .ensures .1)) ∙ sets-over (t .values) out h)
 
 pub numbers-spec : {M : Type 1} → statement M
 numbers-spec =

@@ -1,20 +1,18 @@
 -- `line::parse` meets its contract: the line is loaded, its form checked, and only then stored. Assumes nothing.
 use mathlib.Core.Path.{_≡_, refl, sym, ap, _∙_, ap₂}
-use mathlib.Core.List.{List}
 use Prim.Native.Nat.{ℕ, _≤_}
 use native.Mathlib.Omega.{arith}
-use lib.ListN.{length, getD, drop, replicate}
+use lib.ListN.{length, drop, replicate}
 use borrow.Author.Needs.{needs}
 use Rattle.checks.specs.InOrder.{checked, verdict}
-use Rattle.decimal.proofs.Entry.{told, told-wrong}
+use Rattle.decimal.proofs.Entry.{tallied, told, told-wrong}
 use Rattle.line.proofs.Loaded.{loaded-head, loaded-count, loaded-residues}
 use Rattle.protocol.specs.Line.{numbersOf, messageFrom}
 use Rattle.protocol.specs.declared.Head.{Head}
-use Rattle.line.specs.Entries.{receivedBy}
+use Rattle.line.specs.Entries.{receivedBy, receivedReply}
 use Rattle.line.specs.declared.Received.the-variants as received
 use Rattle.line.proofs.Judged.{parse-none, parse-few, parse-refused, parse-done, parse-passed}
 use Rattle.line.specs.Order.{parseOrder}
-use Rattle.algebra.specs.Words.{over}
 use Rattle.line.proofs.parse.Statement.{statement}
 use Rattle.line.proofs.parse.Tie as tie
 
@@ -36,7 +34,7 @@ returns c =
     let s = a .s .now in
     let out = a .out .now in
     let room = length out in
-    rw (parse-none room s (told-wrong (numbersOf s) (replicate 3079 0) (c .before .before .before .load .last .1 .0) (c .before .before .before .load .result) (c .before .before .before .load .ensures) (c .enum-told .given .1))) (refl, refl)
+    rw (parse-none room s (told-wrong (numbersOf s) (replicate 3079 0) (c .before .before .before .load .last .1 .0) (c .before .before .before .load .result) (tallied 0 s _ _ _ (c .before .before .before .load .ensures .0) (c .before .before .before .load .ensures .1)) (c .enum-told .given .1))) (refl, refl)
 
 returns-2 : tie.Need-returns-2
 returns-2 c =
@@ -45,7 +43,7 @@ returns-2 c =
     let s = a .s .now in
     let out = a .out .now in
     let room = length out in
-    let t = told (numbersOf s) (replicate 3079 0) (load .last .1 .0) (load .result) _ (load .ensures) (c .before .before .loaded .given .1) in
+    let t = told (numbersOf s) (replicate 3079 0) (load .last .1 .0) (load .result) _ (tallied 0 s _ _ _ (load .ensures .0) (load .ensures .1)) (c .before .before .loaded .given .1) in
     let xs = t .values in
     rw (parse-few room s xs (t .reads) (omega (arith, t .count, c .if1 .taken))) (refl, refl)
 
@@ -76,19 +74,18 @@ returns-3 c =
     let s = a .s .now in
     let out = a .out .now in
     let room = length out in
-    let t = told (numbersOf s) (replicate 3079 0) (load .last .1 .0) (load .result) _ (load .ensures)
+    let t = told (numbersOf s) (replicate 3079 0) (load .last .1 .0) (load .result) _ (tallied 0 s _ _ _ (load .ensures .0) (load .ensures .1))
     (c .before .before .before .before .before .before .before .before .loaded .given .1) in
     let xs = t .values in
     let seven : 7 ≤ length xs = omega (arith, t .count, if1 .left) in
     let few = if1 .left in
     let hd : head-of .result ≡ messageFrom xs .head = head-of .ensures ∙ loaded-head (numbersOf s) _ _ t few in
     let cn = loaded-count (numbersOf s) _ _ t few in
-    let kd : head-of .result .kind ≡ getD xs 0 0 = ap (λ (h : Head). h .kind) hd in
     let v : checked (c .before .before .before .check-form .result) ≡ verdict
-    (parseOrder (getD xs 0 0) (length (drop 7 xs)) room) = c .before .before .before .check-form .ensures ∙ ap₂
-    (λ (k n : ℕ). verdict (parseOrder k n room)) kd (sym cn) in
+    (parseOrder (messageFrom xs .head) (length (drop 7 xs)) room) = c .before .before .before .check-form .ensures ∙ ap₂
+    (λ (h : Head) (n : ℕ). verdict (parseOrder h n room)) hd (sym cn) in
     rw (parse-refused room s xs (t .reads) seven _ (sym v ∙ ap checked (c .before .enum-told3 .given .1)))
-    (c .refused .ensures ∙ ap receivedBy (c .before .enum-told3 .given .1), refl)
+    (ap receivedReply (c .refused .ensures ∙ ap receivedBy (c .before .enum-told3 .given .1)), refl)
 
 slice-aggregate-store : tie.Need-slice-aggregate-store
 slice-aggregate-store c = search needs
@@ -103,17 +100,16 @@ store-requires c κs =
     let s = a .s .now in
     let out = a .out .now in
     let room = length out in
-    let t = told (numbersOf s) (replicate 3079 0) (load .last .1 .0) (load .result) _ (load .ensures)
+    let t = told (numbersOf s) (replicate 3079 0) (load .last .1 .0) (load .result) _ (tallied 0 s _ _ _ (load .ensures .0) (load .ensures .1))
     (c .before .before .before .before .before .before .before .before .before .loaded .given .1) in
     let xs = t .values in
     let seven : 7 ≤ length xs = omega (arith, t .count, if1 .left) in
     let few = if1 .left in
     let hd : head-of .result ≡ messageFrom xs .head = head-of .ensures ∙ loaded-head (numbersOf s) _ _ t few in
     let cn = loaded-count (numbersOf s) _ _ t few in
-    let kd : head-of .result .kind ≡ getD xs 0 0 = ap (λ (h : Head). h .kind) hd in
-    let v : checked (check-form .result) ≡ verdict (parseOrder (getD xs 0 0) (length (drop 7 xs)) room) = check-form .ensures ∙ ap₂
-    (λ (k n : ℕ). verdict (parseOrder k n room)) kd (sym cn) in
-    let p = parse-passed (getD xs 0 0) (length (drop 7 xs)) room (sym v ∙ ap checked (c .before .before .enum-told2 .given .1)) in
+    let v : checked (check-form .result) ≡ verdict (parseOrder (messageFrom xs .head) (length (drop 7 xs)) room) = check-form .ensures ∙ ap₂
+    (λ (h : Head) (n : ℕ). verdict (parseOrder h n room)) hd (sym cn) in
+    let p = parse-passed (messageFrom xs .head) (length (drop 7 xs)) room (sym v ∙ ap checked (c .before .before .enum-told2 .given .1)) in
     (search needs, omega (arith, p, cn))
 
 same-length : tie.Need-same-length
@@ -129,19 +125,18 @@ returns-4 c =
     let s = a .s .now in
     let out = a .out .now in
     let room = length out in
-    let t = told (numbersOf s) (replicate 3079 0) (load .last .1 .0) (load .result) _ (load .ensures)
+    let t = told (numbersOf s) (replicate 3079 0) (load .last .1 .0) (load .result) _ (tallied 0 s _ _ _ (load .ensures .0) (load .ensures .1))
     (c .before .before .before .before .before .before .before .before .before .before .before .before .loaded .given .1) in
     let xs = t .values in
     let seven : 7 ≤ length xs = omega (arith, t .count, if1 .left) in
     let few = if1 .left in
     let hd : head-of .result ≡ messageFrom xs .head = head-of .ensures ∙ loaded-head (numbersOf s) _ _ t few in
     let cn = loaded-count (numbersOf s) _ _ t few in
-    let kd : head-of .result .kind ≡ getD xs 0 0 = ap (λ (h : Head). h .kind) hd in
-    let v : checked (check-form .result) ≡ verdict (parseOrder (getD xs 0 0) (length (drop 7 xs)) room) = check-form .ensures ∙ ap₂
-    (λ (k n : ℕ). verdict (parseOrder k n room)) kd (sym cn) in
+    let v : checked (check-form .result) ≡ verdict (parseOrder (messageFrom xs .head) (length (drop 7 xs)) room) = check-form .ensures ∙ ap₂
+    (λ (h : Head) (n : ℕ). verdict (parseOrder h n room)) hd (sym cn) in
     let d = sym v ∙ ap checked (c .before .before .before .before .before .enum-told2 .given .1) in
     rw (parse-done room s xs (t .reads) seven d)
-    (ap₂ received.Message hd (sym cn), c .before .before .store .ensures xs (t .reads) cn (loaded-residues (numbersOf s) _ _ t few))
+    (ap₂ (λ (h : Head) (n : ℕ). receivedReply (received.Message h n)) hd (sym cn), c .before .before .store .ensures xs (t .reads) cn (loaded-residues (numbersOf s) _ _ t few))
 
 pub parse-spec : {M : Type 1} → statement M
 parse-spec =

@@ -6,11 +6,11 @@ use native.Mathlib.Omega.{arith}
 use lib.ListN.{length, drop, replicate}
 use borrow.Author.Needs.{needs}
 use Rattle.checks.specs.InOrder.{checked, verdict}
-use Rattle.decimal.proofs.Entry.{told, told-wrong}
+use Rattle.decimal.proofs.Entry.{tallied, told, told-wrong}
 use Rattle.line.proofs.Loaded.{loaded-head, loaded-count, loaded-residues}
 use Rattle.protocol.specs.Line.{numbersOf, messageFrom}
 use Rattle.protocol.specs.declared.Head.{Head}
-use Rattle.line.specs.Entries.{receivedBy}
+use Rattle.line.specs.Entries.{receivedBy, receivedReply}
 use Rattle.line.specs.declared.Received.the-variants as received
 use Rattle.line.proofs.Judged.{read-none, read-few, read-refused, read-done}
 use Rattle.line.proofs.Fits.{size-passed}
@@ -37,7 +37,7 @@ returns c =
     let s = a .s .now in
     let out = a .out .now in
     let room = length out in
-    rw (read-none room s (told-wrong (numbersOf s) (replicate 3079 0) (c .before .before .before .load .last .1 .0) (c .before .before .before .load .result) (c .before .before .before .load .ensures) (c .enum-told .given .1))) (refl, refl)
+    rw (read-none room s (told-wrong (numbersOf s) (replicate 3079 0) (c .before .before .before .load .last .1 .0) (c .before .before .before .load .result) (tallied 0 s _ _ _ (c .before .before .before .load .ensures .0) (c .before .before .before .load .ensures .1)) (c .enum-told .given .1))) (refl, refl)
 
 returns-2 : tie.Need-returns-2
 returns-2 c =
@@ -46,7 +46,7 @@ returns-2 c =
     let s = a .s .now in
     let out = a .out .now in
     let room = length out in
-    let t = told (numbersOf s) (replicate 3079 0) (load .last .1 .0) (load .result) _ (load .ensures) (c .before .before .loaded .given .1) in
+    let t = told (numbersOf s) (replicate 3079 0) (load .last .1 .0) (load .result) _ (tallied 0 s _ _ _ (load .ensures .0) (load .ensures .1)) (c .before .before .loaded .given .1) in
     let xs = t .values in
     rw (read-few room s xs (t .reads) (omega (arith, t .count, c .if1 .taken))) (refl, refl)
 
@@ -80,7 +80,7 @@ returns-3 c =
     let s = a .s .now in
     let out = a .out .now in
     let room = length out in
-    let t = told (numbersOf s) (replicate 3079 0) (load .last .1 .0) (load .result) _ (load .ensures)
+    let t = told (numbersOf s) (replicate 3079 0) (load .last .1 .0) (load .result) _ (tallied 0 s _ _ _ (load .ensures .0) (load .ensures .1))
     (c .before .before .before .before .before .before .before .before .before .loaded .given .1) in
     let xs = t .values in
     let seven : 7 ≤ length xs = omega (arith, t .count, if1 .left) in
@@ -91,7 +91,7 @@ returns-3 c =
     (inSize (messageFrom xs .head) (drop 7 xs) (length (drop 7 xs)) room) = c .before .before .before .check-read .ensures (drop 7 xs) cn
     (loaded-residues (numbersOf s) _ _ t few) ∙ ap₂ (λ (h : Head) (n : ℕ). verdict (inSize h (drop 7 xs) n room)) hd (sym cn) in
     rw (read-refused room s xs (t .reads) seven _ (sym v ∙ ap checked (c .before .enum-told3 .given .1)))
-    (c .refused .ensures ∙ ap receivedBy (c .before .enum-told3 .given .1), refl)
+    (ap receivedReply (c .refused .ensures ∙ ap receivedBy (c .before .enum-told3 .given .1)), refl)
 
 slice-aggregate-put-residues : tie.Need-slice-aggregate-put-residues
 slice-aggregate-put-residues c = search needs
@@ -106,7 +106,7 @@ put-residues-requires c κs =
     let s = a .s .now in
     let out = a .out .now in
     let room = length out in
-    let t = told (numbersOf s) (replicate 3079 0) (load .last .1 .0) (load .result) _ (load .ensures)
+    let t = told (numbersOf s) (replicate 3079 0) (load .last .1 .0) (load .result) _ (tallied 0 s _ _ _ (load .ensures .0) (load .ensures .1))
     (c .before .before .before .before .before .before .before .before .before .before .loaded .given .1) in
     let xs = t .values in
     let seven : 7 ≤ length xs = omega (arith, t .count, if1 .left) in
@@ -132,7 +132,7 @@ returns-4 c =
     let s = a .s .now in
     let out = a .out .now in
     let room = length out in
-    let t = told (numbersOf s) (replicate 3079 0) (load .last .1 .0) (load .result) _ (load .ensures)
+    let t = told (numbersOf s) (replicate 3079 0) (load .last .1 .0) (load .result) _ (tallied 0 s _ _ _ (load .ensures .0) (load .ensures .1))
     (c .before .before .before .before .before .before .before .before .before .before .before .before .before .loaded .given .1) in
     let xs = t .values in
     let seven : 7 ≤ length xs = omega (arith, t .count, if1 .left) in
@@ -144,7 +144,7 @@ returns-4 c =
     let d = sym v ∙ ap checked (c .before .before .before .before .before .enum-told2 .given .1) in
     let p = size-passed (messageFrom xs .head) (drop 7 xs) (length (drop 7 xs)) room d in
     rw (read-done room s xs (t .reads) seven d)
-    (ap₂ received.Message hd (sym cn), c .before .before .put-residues .ensures ∙ ap (λ (l : List ℕ). over l out) (loaded-residues (numbersOf s) _ _ t few (omega (arith, p .0, cn))))
+    (ap₂ (λ (h : Head) (n : ℕ). receivedReply (received.Message h n)) hd (sym cn), c .before .before .put-residues .ensures ∙ ap (λ (l : List ℕ). over l out) (loaded-residues (numbersOf s) _ _ t few (omega (arith, p .0, cn))))
 
 pub read-spec : {M : Type 1} → statement M
 read-spec =

@@ -1,5 +1,5 @@
 -- `line::store` meets its contract: the residues come from the words that were loaded, or from the line itself. Assumes nothing.
-use mathlib.Core.Path.{_≡_, ap, _∙_}
+use mathlib.Core.Path.{ap, _∙_}
 use mathlib.Core.List.{List}
 use Prim.Native.Nat.{ℕ}
 use native.Mathlib.Omega.{arith}
@@ -7,7 +7,7 @@ use lib.ListN.{drop}
 use borrow.Author.Needs.{needs}
 use Rattle.algebra.specs.Words.{over}
 use Rattle.protocol.specs.Line.{numbersOf}
-use Rattle.decimal.proofs.Entry.{stored-behind, sets-over}
+use Rattle.decimal.proofs.Entry.{tallied, stored-behind, sets-over}
 use Rattle.line.proofs.store.Statement.{statement}
 use Rattle.line.proofs.store.Tie as tie
 
@@ -33,7 +33,7 @@ same-length-2 c = search needs
 
 returns-2 : tie.Need-returns-2
 returns-2 c =
-    λ xs e n w. stored-behind 7 (numbersOf _) xs _ _ (c .before .before .load-behind .result) e (c .before .before .load-behind .ensures) ∙ sets-over
+    λ xs e n w. stored-behind 7 (numbersOf _) xs _ _ (c .before .before .load-behind .result) e (tallied 7 _ _ _ _ (c .before .before .load-behind .ensures .0) (c .before .before .load-behind .ensures .1)) ∙ sets-over
     (drop 7 xs) _ (omega (arith, n))
 
 pub store-spec : {M : Type 1} → statement M

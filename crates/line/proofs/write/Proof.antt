@@ -1,12 +1,13 @@
 -- `line::write` meets its contract: the message is checked in order, and only then stored. Assumes nothing.
 use mathlib.Core.Path.{refl, sym, ap, _∙_}
+use Prim.Native.Nat.{ℕ}
 use lib.ListN.{length}
 use borrow.Author.Needs.{needs}
 use Rattle.checks.specs.InOrder.{checked}
 use Rattle.line.proofs.Fits.{size-passed}
 use Rattle.line.proofs.Judged.{write-refused, write-done}
 use Rattle.protocol.specs.Message.{messageWith}
-use Rattle.line.specs.Entries.{writtenBy}
+use Rattle.line.specs.Entries.{writtenBy, writtenReply}
 use Rattle.line.specs.declared.Written.the-variants as written
 use Rattle.protocol.specs.Line.{messageLine}
 use Rattle.line.proofs.write.Statement.{statement}
@@ -30,7 +31,7 @@ returns c =
     let m = messageWith (a .h) (a .residues .now) in
     let room = length (a .out .now) in
     rw (write-refused room m _ (sym (c .before .before .before .check-write .ensures) ∙ ap checked (c .before .enum-told2 .given .1)))
-    (c .unwritten .ensures ∙ ap writtenBy (c .before .enum-told2 .given .1), refl)
+    (ap writtenReply (c .unwritten .ensures ∙ ap writtenBy (c .before .enum-told2 .given .1)), refl)
 
 put-message-requires : tie.Need-put-message-requires
 put-message-requires c κs =
@@ -48,7 +49,7 @@ returns-2 c =
     let a = c .before .before .before .before .before .before .before .before .before .args in
     let m = messageWith (a .h) (a .residues .now) in
     let room = length (a .out .now) in
-    rw (write-done room m (sym (c .before .before .before .before .before .before .check-write .ensures) ∙ ap checked (c .before .before .before .before .enum-told .given .1))) (ap written.Bytes (c .before .before .put-message .ensures .0), c .before .before .put-message .ensures .1)
+    rw (write-done room m (sym (c .before .before .before .before .before .before .check-write .ensures) ∙ ap checked (c .before .before .before .before .enum-told .given .1))) (ap (λ (n : ℕ). writtenReply (written.Bytes n)) (c .before .before .put-message .ensures .0), c .before .before .put-message .ensures .1)
 
 pub write-spec : {M : Type 1} → statement M
 write-spec =
