@@ -42,7 +42,7 @@ use Rattle.history.proofs.Example.{sizes, start, lent, product-terms, s
 -- ---- the list
 
 -- the second product: q 10, X of two rows, Y of two columns
-abbrev ten-terms : (tape : ℕ) → Terms
+abbrev pub ten-terms : (tape : ℕ) → Terms
 ten-terms i = record { session = record { 0 = 9 }; tape = record { 0 = i }; q = 10; m = 2; k = 1; p = 2 }
 
 abbrev a-ten : (tape : ℕ) → Request
@@ -63,7 +63,7 @@ blinder-begins = blinder-first (1 ∷ []) (1 ∷ []) (2 ∷ 1 ∷ 2 ∷ []) (msg
 abbrev left-answers : First
 left-answers = left-only (3 ∷ 7 ∷ []) (2 ∷ 4 ∷ 6 ∷ 8 ∷ []) (msg 1 (ten-terms 3) (6 ∷ 4 ∷ [])) 6 4
 
-abbrev answering : List Call
+abbrev pub answering : List Call
 answering =
     begin 3 second 0 0 (product-terms 1) (left-only (3 ∷ 5 ∷ []) (5 ∷ []) (msg 1 (product-terms 1) (3 ∷ 3 ∷ [])) 3 1)
     ∷ begin 2 second 2 0 (ten-terms 3) (right-first (4 ∷ 9 ∷ []) 2)
@@ -83,7 +83,7 @@ to-halfway =
     ∷ begin 4 first 1 3 (system-terms 2) blinder-begins
     ∷ []
 
-abbrev halfway : List Call
+abbrev pub halfway : List Call
 halfway = to-halfway ++ answering
 
 -- the first product ends
@@ -101,7 +101,7 @@ to-dropping =
     ∷ dealing first 13 0 (a-system 4)
     ∷ []
 
-abbrev dropping : List Call
+abbrev pub dropping : List Call
 dropping = to-dropping ++ served
 
 -- that solver drops its session, and the other product and the system end
@@ -113,11 +113,11 @@ to-end =
     ∷ go-on 6 second 0 0 solver-drop
     ∷ []
 
-abbrev calls : List Call
+abbrev pub calls : List Call
 calls = to-end ++ dropping
 
 -- what stands after such a list
-abbrev after : List Call → World
+abbrev pub after : List Call → World
 after cs = run sizes start lent cs
 
 pub all-answers : answers calls ≡ 0 ∷ 0 ∷ 0 ∷ 0 ∷ 0 ∷ 0 ∷ 0 ∷ 0 ∷ 0 ∷ 0 ∷ 6 ∷ 0 ∷ 0 ∷ 0 ∷ 0 ∷ 0 ∷ 0 ∷ 0 ∷ 0 ∷ []
@@ -139,7 +139,7 @@ calm (suc (suc zero)) d r = other-role r (λ e. cc)
 calm (suc (suc (suc zero))) d r = omega (arith, d)
 calm (suc (suc (suc (suc n)))) d r = no-session (unnamed 4 answering refl (suc (suc (suc (suc n)))) (omega arith)) d r
 
-premises : Premises sizes (after calls .log)
+pub premises : Premises sizes (after calls .log)
 unfolding sumTo tabulate zeros addMod subMod matAdd matSub dotTo dot matMul both parts join cols beside noDivisor isPrime inverseBy inverse swapAt swapRows scaleRow clearColumn pivotFrom pivot step eliminateFrom eliminate regular solution dealB sendY sendX sendR rightShare dealV solverShare sendF sendW sendC sumMatrix over writtenAt given clear judgeBy judge isKept residueOf residuesOf drawn wordsRead drawTests within columns allBelow fieldFits sidesFit shapeTests termsTests inputTests roomTests isSlot slotWords poolWith headerWords bodySize tapeSize statusOf withStatus spent body matrices wordsInUse wordsSpent slotTests halfTests tapeTests bodyTests drawSize drawnParts dealtB dealtV isFree dealTests dealtOver dealtEffect deal kindSort messageLayout messageSize messageParts messageTests dueTests firstTests isOpen openTests laterTests rightFirstEffect rightFirstTests rightFirst leftEffect leftTests leftStep rightLastEffect rightLastTests rightLast padded sideSize keptS keptM keptY scratchSize keptTests blinderTests solverTests coinsOf scratchParts regularTests jointSum solverFirstEffect solverFirstTests solverFirst blinderFirstEffect blinderFirstTests blinderFirst solverSecondEffect solverSecondTests solverSecond blinderSecondEffect blinderSecondTests blinderSecond solverLastEffect solverLastTests solverLast blinderLastEffect blinderLastTests blinderLast dropRight dropSolver dropBlinder said runFirst runLater here halfRole half ℕ-discrete
 premises = (
   distinct (after calls .log) refl,
@@ -185,16 +185,16 @@ earlier (c ∷ later) cs p = earlier later cs (back c (after (later ++ cs)) p)
 pub right-here : Demand2 sizes (after calls)
 right-here = demand-2 sizes start lent three-slots calls premises
 
-dropping-kept : Premises sizes (after dropping .log)
+pub dropping-kept : Premises sizes (after dropping .log)
 dropping-kept = earlier to-end dropping premises
 
 served-kept : Premises sizes (after served .log)
 served-kept = earlier to-dropping served dropping-kept
 
-halfway-kept : Premises sizes (after halfway .log)
+pub halfway-kept : Premises sizes (after halfway .log)
 halfway-kept = earlier to-served halfway served-kept
 
-answering-kept : Premises sizes (after answering .log)
+pub answering-kept : Premises sizes (after answering .log)
 answering-kept = earlier to-halfway answering halfway-kept
 
 -- ---- product and system, at the end of the list
