@@ -14,13 +14,14 @@ use Rattle.protocol.specs.Judge.{Judged, refused, done}
 use Rattle.protocol.specs.Tape.{isSlot, slotWords, statusOf, tapeAt, qAt, mAt, kAt, pAt}
 use Rattle.protocol.specs.Deal.{Dealt, deal}
 use Rattle.protocol.specs.Step.{Effect, Outcome}
-use Rattle.history.specs.Ends.{Session, dueIn, First, Later, Step, begins, goes-on, runStep}
-use Rattle.history.specs.Log.{Party, opposite, State, Call, dealing, stepping, Dealing, Did, Entry, dealt, did, World, slotOf, afterDealing, advanceDealing, advanceStep, advance, fresh, run, holds, place, numberOf, Kept, Premises}
+use Rattle.history.specs.Ends.{Session, absent, dueIn, First, Later, Step, begins, goes-on, runStep}
+use Rattle.history.specs.Log.{Party, opposite, State, Call, dealing, beginning, continuing, Dealing, Did, Entry, dealt, did, World, begunIn, slotOf, afterDealing, advanceDealing, advanceStep, advance, fresh, run, holds, place, numberOf, Kept, Premises}
 use Rattle.history.specs.Claim.{Empty}
 use Rattle.history.specs.Contents.{servedWords, halfWords, placeWords}
 use Rattle.history.proofs.Words.{tape-number, tape-q, tape-m, tape-k, tape-p}
 use Rattle.history.proofs.Steps.{Begins, Continues, begins-sound, continues-sound}
 use Rattle.history.proofs.Facts.{untouched≢, same-server, same-name, one-half}
+use Rattle.history.proofs.Named.{unbegun}
 use Rattle.history.proofs.Kept.{Agrees, agrees-on, Home, Inv, ready-place, used-place, inside-start, stateAfter, Way, Move, move-keeps, deal-keeps}
 
 module _ (size : Party → ℕ) (start : Party → List ℕ) (empty : Empty size start) where
@@ -35,8 +36,8 @@ module _ (size : Party → ℕ) (start : Party → List ℕ) (empty : Empty size
 
     -- a first step
     begin-moves : (t : Terms) (k : First) (f : Effect Session) → runStep (begins t k) (st .sessions n) (slotOf size (st .pools) w i) (st .scratches b) ≡ done f
-        → Kept l (entry (begins t k) f) → Move size start l (entry (begins t k) f)
-    begin-moves t k f acts p = record {
+        → Kept l (entry (begins t k) f) → st .sessions n ≡ absent → Move size start l (entry (begins t k) f)
+    begin-moves t k f acts p new = record {
       dealing = d;
       server = none;
       stands = found .1;
@@ -50,7 +51,7 @@ module _ (size : Party → ℕ) (start : Party → List ℕ) (empty : Empty size
         k-is = ap (λ (t : Terms). t .k) (g .terms-are) ∙ sym (g .half .k-is) ∙ ap (λ (z : List ℕ). getD z kAt 0) words ∙ tape-k _ _ d _;
         p-is = ap (λ (t : Terms). t .p) (g .terms-are) ∙ sym (g .half .p-is) ∙ ap (λ (z : List ℕ). getD z pAt 0) words ∙ tape-p _ _ d _;
       };
-      way = Way.fresh t k refl refl (p .own-name) g;
+      way = Way.fresh t k refl refl new g;
       acted = acts;
     }
       where
@@ -143,16 +144,19 @@ module _ (size : Party → ℕ) (start : Party → List ℕ) (empty : Empty size
                 let a = v (p .0 .1, p .1 .1) in
                 let d : Dealing = record { holder = holder; size = len; index = i; request = r; on = o .state } in
                 (deal-keeps size start (o .log) d (a .0) x e (p .1 .0), deal-step (o .log) d x (a .0) p e (a .1))
-        go (stepping w i b n (begins t k)) v = by-result (runStep (begins t k) (o .state .sessions n) (slotOf size (o .state .pools) w i) (o .state .scratches b)) refl
+        go (beginning w i b t k) v = by-result (runStep (begins t k) (o .state .sessions n) (slotOf size (o .state .pools) w i) (o .state .scratches b)) refl
           where
+            n : ℕ
+            n = begunIn (run size start lent cs .log)
+
             by-result : (x : Outcome Session) → runStep (begins t k) (o .state .sessions n) (slotOf size (o .state .pools) w i) (o .state .scratches b) ≡ x
                 → Goal (advanceStep size w i b n (begins t k) o x)
             by-result (refused r) e = v
             by-result (done f) e = λ p.
                 let a = v (p .0, p .1 .1) in
-                let mv = begin-moves (o .state) (o .log) (a .0) w i b n t k f e (p .1 .0) in
+                let mv = begin-moves (o .state) (o .log) (a .0) w i b n t k f e (p .1 .0) (unbegun size start lent cs n (omega arith)) in
                 (move-keeps size start (o .log) _ (a .0) (p .0) mv, move-step (o .log) _ (a .0) p mv (a .1))
-        go (stepping w i b n (goes-on k)) v = by-result (runStep (goes-on k) (o .state .sessions n) (slotOf size (o .state .pools) w i) (o .state .scratches b)) refl
+        go (continuing w i b n k) v = by-result (runStep (goes-on k) (o .state .sessions n) (slotOf size (o .state .pools) w i) (o .state .scratches b)) refl
           where
             by-result : (x : Outcome Session) → runStep (goes-on k) (o .state .sessions n) (slotOf size (o .state .pools) w i) (o .state .scratches b) ≡ x
                 → Goal (advanceStep size w i b n (goes-on k) o x)

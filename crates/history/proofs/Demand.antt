@@ -22,15 +22,16 @@ use Rattle.protocol.proofs.Judge.{passed}
 use Rattle.protocol.specs.Deal.{Dealt, deal}
 use Rattle.protocol.specs.Step.{Effect, Outcome}
 use Rattle.history.specs.Ends.{Session, leftEnd, rightEnd, solverEnd, blinderEnd, isBegun, dueIn, termsIn, roleIn, First, right-first, left-only, solver-first, blinder-first, Later, right-last, solver-second, solver-last, blinder-second, blinder-last, right-drop, solver-drop, blinder-drop, Step, begins, goes-on, ofAny, runFirst, runLater, runStep}
-use Rattle.history.specs.Log.{choose, Party, opposite, Call, dealing, stepping, Dealing, Did, Entry, dealt, did, World, slotOf, advanceDealing, advanceStep, advance, run, untouched, holds, serving, here, placeAfter, place, WasDealt, WasDone, Premises}
+use Rattle.history.specs.Log.{choose, Party, opposite, Call, dealing, beginning, continuing, Dealing, Did, Entry, dealt, did, World, begunIn, slotOf, advanceDealing, advanceStep, tryStep, advance, run, untouched, holds, serving, here, placeAfter, place, WasDealt, WasDone, Premises}
 use Rattle.history.specs.Contents.{placeWords}
 use Rattle.history.specs.Seen.{view}
-use Rattle.history.specs.Claim.{ServedBy, OnHalf, AllOnHalves, Never, serverAfter, server, current, EndsFirst, EndsLater, Ends, EntryOf, DEMAND-3}
+use Rattle.history.specs.Claim.{ServedBy, OnHalf, AllOnHalves, Never, serverAfter, server, current, EndsFirst, EndsLater, Ends, CallOf, EntryOf, DEMAND-3}
 use Rattle.history.proofs.Facts.{chosen-yes, chosen-no}
 use Rattle.history.proofs.Steps.{of-any}
 use Rattle.history.proofs.Kept.{Inv, inside-then, slotBy, Way, fresh, onward, Move}
 use Rattle.history.proofs.Along.{along, keeps}
-use Rattle.history.proofs.Once.{once}
+use Rattle.history.proofs.Named.{begun-named, begun-below}
+use Rattle.history.proofs.Once.{once, one-turn}
 use Rattle.history.proofs.Served.{served}
 use Rattle.history.proofs.Lent.{lent-scratches}
 use Rattle.history.proofs.Known.{Known}
@@ -69,7 +70,7 @@ was-dealt (did e ∷ l) older d = was-dealt l older d
 
 module _ (size : Party → ℕ) (start : Party → List ℕ) (lent : ℕ → List ℕ) where
   abbrev Found : List Call → List Entry → Entry → Type 0
-  Found cs older x = (later : List Call) × (c : Call) × (earlier : List Call) × (cs ≡ later ++ c ∷ earlier) × (run size start lent earlier .log ≡ older) × EntryOf size x c (run size start lent earlier .state)
+  Found cs older x = (later : List Call) × (c : Call) × (earlier : List Call) × (cs ≡ later ++ c ∷ earlier) × (run size start lent earlier .log ≡ older) × EntryOf size x c (run size start lent earlier)
 
   longer : (c : Call) (cs : List Call) (older : List Entry) (x : Entry) → Found cs older x → Found (c ∷ cs) older x
   longer c cs older x f = (c ∷ f .0, f .1, f .2, ap (λ (l : List Call). c ∷ l) (f .3), f .4, f .5)
@@ -79,9 +80,9 @@ module _ (size : Party → ℕ) (start : Party → List ℕ) (lent : ℕ → Lis
   no-entry (y ∷ n) older x f = let z : _≡_ {A = ℕ} 0 1 = cc in omega arith
 
   -- the newest entry is the call's own
-  newest : (c : Call) (cs : List Call) (older n : List Entry) (x y : Entry) → y ∷ run size start lent cs .log ≡ n ++ x ∷ older → EntryOf size y c (run size start lent cs .state)
+  newest : (c : Call) (cs : List Call) (older n : List Entry) (x y : Entry) → y ∷ run size start lent cs .log ≡ n ++ x ∷ older → EntryOf size y c (run size start lent cs)
       → ((n : List Entry) → run size start lent cs .log ≡ n ++ x ∷ older → Found cs older x) → Found (c ∷ cs) older x
-  newest c cs older [] x y f e ih = ([], c, cs, refl, tail-is f, subst (λ (z : Entry). EntryOf size z c (run size start lent cs .state)) (head-is f) e)
+  newest c cs older [] x y f e ih = ([], c, cs, refl, tail-is f, subst (λ (z : Entry). EntryOf size z c (run size start lent cs)) (head-is f) e)
     where
       head-is : y ∷ run size start lent cs .log ≡ x ∷ older → y ≡ x
       head-is h = cc
@@ -103,6 +104,18 @@ module _ (size : Party → ℕ) (start : Party → List ℕ) (lent : ℕ → Lis
       Earlier : Type 0
       Earlier = (n : List Entry) → o .log ≡ n ++ x ∷ older → Found cs older x
 
+      entry : (w : Party) (i b n : ℕ) (k : Step) → Effect Session → Did
+      entry w i b n k a = record { party = w; index = i; scratch = b; name = n; step = k; on = run size start lent cs .state; effect = a }
+
+      by-step : (w : Party) (i b n : ℕ) (k : Step) (c : Call) → ((a : Effect Session) → CallOf (run size start lent cs .log) (entry w i b n k a) k c) → Earlier
+          → tryStep size w i b n k o .log ≡ newer ++ x ∷ older → Found (c ∷ cs) older x
+      by-step w i b n k c made ih = by-result (runStep k (o .state .sessions n) (slotOf size (o .state .pools) w i) (o .state .scratches b)) refl
+        where
+          by-result : (a : Outcome Session) → runStep k (o .state .sessions n) (slotOf size (o .state .pools) w i) (o .state .scratches b) ≡ a
+              → advanceStep size w i b n k o a .log ≡ newer ++ x ∷ older → Found (c ∷ cs) older x
+          by-result (refused r) e f = longer c cs older x (ih newer f)
+          by-result (done a) e f = newest c cs older newer x (did (entry w i b n k a)) f (made a, refl, e) ih
+
       go : (c : Call) → Earlier → advance size o c .log ≡ newer ++ x ∷ older → Found (c ∷ cs) older x
       go (dealing holder len i r) ih = by-result (deal (o .state .pools holder) (o .state .pools (opposite holder)) len i r) refl
         where
@@ -110,13 +123,8 @@ module _ (size : Party → ℕ) (start : Party → List ℕ) (lent : ℕ → Lis
               → advanceDealing holder len i r o a .log ≡ newer ++ x ∷ older → Found (dealing holder len i r ∷ cs) older x
           by-result (refused n) e f = longer (dealing holder len i r) cs older x (ih newer f)
           by-result (done a) e f = newest (dealing holder len i r) cs older newer x (dealt (record { holder = holder; size = len; index = i; request = r; on = o .state })) f (refl, refl, a, e) ih
-      go (stepping w i b n k) ih = by-result (runStep k (o .state .sessions n) (slotOf size (o .state .pools) w i) (o .state .scratches b)) refl
-        where
-          by-result : (a : Outcome Session) → runStep k (o .state .sessions n) (slotOf size (o .state .pools) w i) (o .state .scratches b) ≡ a
-              → advanceStep size w i b n k o a .log ≡ newer ++ x ∷ older → Found (stepping w i b n k ∷ cs) older x
-          by-result (refused r) e f = longer (stepping w i b n k) cs older x (ih newer f)
-          by-result (done a) e f =
-              newest (stepping w i b n k) cs older newer x (did (record { party = w; index = i; scratch = b; name = n; step = k; on = o .state; effect = a })) f (refl, refl, e) ih
+      go (beginning w i b t k) ih = by-step w i b (begunIn (run size start lent cs .log)) (begins t k) (beginning w i b t k) (λ a. (refl, refl)) ih
+      go (continuing w i b n k) ih = by-step w i b n (goes-on k) (continuing w i b n k) (λ a. refl) ih
 
   -- ---- every step is on its half
 
@@ -188,6 +196,7 @@ demand-3 size start lent empty cs p = record {
       (λ l e v q mv o n. ap (choose (ℕ-discrete (e .name) n) (e .effect .session)) (o n)) cs p .1;
   ends = along size start empty lent (λ st l. (e : Did) → WasDone e l → (dueIn (e .effect .session) ≡ 0) ↔ Ends (e .step)) (λ e h. absurd h) (λ l d x v q h o. o)
       (λ l e v q mv o. ends-more l e (step-ends (e .step) (e .on .sessions (e .name)) (slotBy size start e) (e .on .scratches (e .scratch)) (e .effect) (mv .acted)) o) cs p .1;
+  named = λ n. (begun-named size start lent cs n, begun-below size start lent cs n);
   made-by = made-by size start lent cs;
   scratches = lent-scratches size start lent empty cs p .shown;
   open-tenant = lent-scratches size start lent empty cs p .keeps-it;
@@ -195,7 +204,8 @@ demand-3 size start lent empty cs p = record {
   one-session = λ n n′ b b′ t r.
       served size start empty lent cs p .one n n′ b b′ (ap (λ (t : Terms). t .tape .0) (sym (seen n b .terms-are)) ∙ t ∙ ap (λ (t : Terms). t .tape .0) (seen n′ b′ .terms-are))
       (sym (seen n b .role-is) ∙ r ∙ seen n′ b′ .role-is);
-  once = once size start empty lent cs p .at-most;
+  once = once size start empty lent cs p;
+  one-turn = one-turn size start empty lent cs p;
   secret = stands-secret size start empty lent cs p;
 }
   where

@@ -8,7 +8,7 @@ use mathlib.Core.Option.{Option, some, none}
 use Prim.Native.Nat.{ℕ, zero, suc, _≤_, _<_}
 use native.Mathlib.Omega.{arith}
 use native.Mathlib.Decide.{ℕ-discrete}
-use lib.Dec.{eqb, ltb}
+use lib.Dec.{eqb}
 use lib.ListN.{length, take}
 use borrow.Author.Tests.{ltb-true, eq-eqb}
 use Rattle.algebra.specs.Matrix.{sumTo, tabulate, zeros, addMod, subMod, matAdd, matSub, dotTo, dot, matMul}
@@ -23,27 +23,28 @@ use Rattle.algebra.specs.Words.{over, writtenAt}
 use Rattle.protocol.specs.declared.Terms.{Terms}
 use Rattle.protocol.specs.declared.Answer.the-variants.{Accepted, Refused}
 use Rattle.protocol.specs.declared.Refusal.the-variants.{Singular}
-use Rattle.protocol.specs.Judge.{Judged, refused, done, given, clear, judgeBy, judge}
+use Rattle.protocol.specs.Judge.{given, clear, judgeBy, judge}
 use Rattle.protocol.specs.Drawing.{isKept, residueOf, residuesOf, drawn, wordsRead, drawTests}
 use Rattle.protocol.specs.Bounds.{within, columns, allBelow, fieldFits, sidesFit, shapeTests, termsTests, inputTests, roomTests}
 use Rattle.protocol.specs.Tape.{isSlot, slotWords, poolWith, headerWords, bodySize, tapeSize, statusOf, withStatus, spent, body, matrices, wordsInUse, wordsSpent, slotTests, halfTests, tapeTests, bodyTests, Role, sortOf, left, right, blinder, solver}
-use Rattle.protocol.specs.Deal.{Request, Dealt, productRequest, systemRequest, drawSize, drawnParts, dealtB, dealtV, isFree, dealTests, dealtOver, dealtEffect, deal, dealAnswer}
+use Rattle.protocol.specs.Deal.{Request, productRequest, systemRequest, drawSize, drawnParts, dealtB, dealtV, isFree, dealTests, dealtOver, dealtEffect, deal, dealAnswer}
 use Rattle.protocol.specs.Message.{Message, kindSort, messageLayout, messageSize, messageParts, messageTests, dueTests}
-use Rattle.protocol.specs.Step.{Outcome, answerNumber, answerAfter, firstTests, isOpen, openTests, laterTests}
+use Rattle.protocol.specs.Step.{answerNumber, answerAfter, firstTests, isOpen, openTests, laterTests}
 use Rattle.protocol.specs.Product.{rightFirstEffect, rightFirstTests, rightFirst, leftEffect, leftTests, leftStep, rightLastEffect, rightLastTests, rightLast}
 use Rattle.protocol.specs.System.{padded, sideSize, keptS, keptM, keptY, scratchSize, keptTests, blinderTests, solverTests, coinsOf, scratchParts, regularTests, jointSum, solverFirstEffect, solverFirstTests, solverFirst, blinderFirstEffect, blinderFirstTests, blinderFirst, solverSecondEffect, solverSecondTests, solverSecond, blinderSecondEffect, blinderSecondTests, blinderSecond, solverLastEffect, solverLastTests, solverLast, blinderLastEffect, blinderLastTests, blinderLast}
 use Rattle.protocol.specs.Drop.{dropRight, dropSolver, dropBlinder}
 use Rattle.protocol.specs.View.{View, facing, kindsSent, Finished}
 use Rattle.protocol.specs.Completion.{said, completions, Counted, solutionFor, answerSeen}
-use Rattle.history.specs.Ends.{Session, absent, isBegun, dueIn, roleIn, right-first, left-only, solver-first, blinder-first, right-last, solver-second, solver-last, blinder-second, blinder-last, right-drop, solver-drop, blinder-drop, Step, begins, goes-on, runFirst, runLater, runStep}
-use Rattle.history.specs.Log.{Party, first, second, opposite, Call, dealing, stepping, Dealing, Did, Entry, dealt, did, World, slotOf, advanceDealing, advanceStep, advance, run, halfRole, holds, here, WasDealt, numberOf, Distinct, Premises}
+use Rattle.history.specs.Ends.{Session, isBegun, dueIn, roleIn, right-first, left-only, solver-first, blinder-first, right-last, solver-second, solver-last, blinder-second, blinder-last, right-drop, solver-drop, blinder-drop, Step, goes-on, runFirst, runLater}
+use Rattle.history.specs.Log.{Party, first, second, opposite, Call, dealing, beginning, continuing, Dealing, Did, Entry, dealt, did, World, begunIn, slotOf, run, halfRole, holds, here, WasDealt, numberOf, Distinct, Premises}
 use Rattle.history.specs.Contents.{half}
 use Rattle.history.specs.Seen.{view, as-answered}
 use Rattle.history.specs.Claim.{Demand3}
 use Rattle.history.specs.Right.{newest, result, Paired, Arrived, AddTo, sumOf, OnlySolution, Demand2}
 use Rattle.history.proofs.Demand.{demand-3}
 use Rattle.history.proofs.Rightness.{demand-2}
-use Rattle.history.proofs.Facts.{set-other, same-dealing, none≢}
+use Rattle.history.proofs.Facts.{same-dealing, none≢}
+use Rattle.history.proofs.Named.{unbegun}
 
 -- three slots of 13 words, and one word more
 abbrev pub sizes : Party → ℕ
@@ -75,73 +76,73 @@ a-product i = productRequest (record { 0 = i }) 7 1 2 1 (1 ∷ 4 ∷ 6 ∷ 3 ∷
 abbrev pub a-system : (tape : ℕ) → Request
 a-system i = systemRequest (record { 0 = i }) 5 1 (1 ∷ 4 ∷ 2 ∷ 0 ∷ 3 ∷ 3 ∷ 2 ∷ 1 ∷ [])
 
--- Each part of the list comes before those that follow it in time, newest first in each.
+-- Each part of the list comes before those that follow it in time, newest first in each. Sessions have their names from 0 up, as their first steps are accepted.
 -- A system whose sum is singular: its solver is session 0 of the first party, its blinder session 1 of the second, on scratch 3
 abbrev opening : List Call
 opening =
-    stepping first 0 0 0 (begins (system-terms 5) (solver-first (2 ∷ []) (3 ∷ []) 2))
+    beginning first 0 0 (system-terms 5) (solver-first (2 ∷ []) (3 ∷ []) 2)
     ∷ dealing second 13 1 (a-system 5)
     ∷ dealing second 13 3 (a-system 5)
     ∷ []
 
 abbrev one : List Call
 one =
-    stepping second 1 3 1 (begins (system-terms 5) (blinder-first (3 ∷ []) (1 ∷ []) [] (msg 1 (system-terms 5) (3 ∷ 1 ∷ [])) 3))
-    ∷ stepping first 1 0 0 (begins (system-terms 5) (solver-first (2 ∷ []) (3 ∷ []) 2))
+    beginning second 1 3 (system-terms 5) (blinder-first (3 ∷ []) (1 ∷ []) [] (msg 1 (system-terms 5) (3 ∷ 1 ∷ [])) 3)
+    ∷ beginning first 1 0 (system-terms 5) (solver-first (2 ∷ []) (3 ∷ []) 2)
     ∷ opening
 
 abbrev singular : List Call
 singular =
-    stepping second 1 3 1 (goes-on blinder-drop)
-    ∷ stepping second 0 3 1 (goes-on blinder-drop)
-    ∷ stepping first 1 0 0 (goes-on solver-drop)
-    ∷ stepping first 1 0 0 (goes-on (solver-last (msg 4 (system-terms 5) (3 ∷ 4 ∷ [])) 1))
-    ∷ stepping second 1 3 1 (goes-on (blinder-second (msg 3 (system-terms 5) (4 ∷ [])) 2))
-    ∷ stepping first 1 0 0 (goes-on (solver-second (msg 2 (system-terms 5) (3 ∷ 0 ∷ 2 ∷ [])) 1))
-    ∷ stepping second 1 3 1 (begins (system-terms 5) (blinder-first (3 ∷ []) (1 ∷ []) (2 ∷ 1 ∷ 2 ∷ []) (msg 1 (system-terms 5) (3 ∷ 1 ∷ [])) 3))
+    continuing second 1 3 1 blinder-drop
+    ∷ continuing second 0 3 1 blinder-drop
+    ∷ continuing first 1 0 0 solver-drop
+    ∷ continuing first 1 0 0 (solver-last (msg 4 (system-terms 5) (3 ∷ 4 ∷ [])) 1)
+    ∷ continuing second 1 3 1 (blinder-second (msg 3 (system-terms 5) (4 ∷ [])) 2)
+    ∷ continuing first 1 0 0 (solver-second (msg 2 (system-terms 5) (3 ∷ 0 ∷ 2 ∷ [])) 1)
+    ∷ beginning second 1 3 (system-terms 5) (blinder-first (3 ∷ []) (1 ∷ []) (2 ∷ 1 ∷ 2 ∷ []) (msg 1 (system-terms 5) (3 ∷ 1 ∷ [])) 3)
     ∷ one
 
 -- 01's system at the same place, the halves the other way round: sessions 2 and 3, on the same scratch
 abbrev two : List Call
 two =
-    stepping second 1 0 2 (begins (system-terms 7) (solver-first (2 ∷ []) (3 ∷ []) 2))
+    beginning second 1 0 (system-terms 7) (solver-first (2 ∷ []) (3 ∷ []) 2)
     ∷ dealing first 13 1 (a-system 7)
     ∷ singular
 
 abbrev regular-run : List Call
 regular-run =
-    stepping first 1 3 3 (goes-on (blinder-last (msg 5 (system-terms 7) (1 ∷ [])) 1))
-    ∷ stepping first 1 3 3 (goes-on (blinder-last (msg 5 (system-terms 7) (1 ∷ [])) 0))
-    ∷ stepping second 1 0 2 (goes-on (solver-last (msg 4 (system-terms 7) (1 ∷ 4 ∷ [])) 1))
-    ∷ stepping second 1 0 2 (goes-on (solver-last (msg 4 (system-terms 5) (1 ∷ 4 ∷ [])) 1))
-    ∷ stepping first 1 3 3 (goes-on (blinder-second (msg 3 (system-terms 7) (4 ∷ [])) 2))
-    ∷ stepping first 1 3 3 (goes-on (blinder-second (msg 5 (system-terms 7) (4 ∷ [])) 2))
-    ∷ stepping second 1 0 2 (goes-on (solver-second (msg 2 (system-terms 7) (3 ∷ 0 ∷ 2 ∷ [])) 1))
-    ∷ stepping second 1 0 2 (goes-on (solver-second (msg 2 (system-terms 7) (5 ∷ 0 ∷ 2 ∷ [])) 1))
-    ∷ stepping first 1 3 3 (begins (system-terms 7) (blinder-first (1 ∷ []) (1 ∷ []) (2 ∷ 1 ∷ 2 ∷ []) (msg 1 (system-terms 7) (3 ∷ 1 ∷ [])) 3))
+    continuing first 1 3 3 (blinder-last (msg 5 (system-terms 7) (1 ∷ [])) 1)
+    ∷ continuing first 1 3 3 (blinder-last (msg 5 (system-terms 7) (1 ∷ [])) 0)
+    ∷ continuing second 1 0 2 (solver-last (msg 4 (system-terms 7) (1 ∷ 4 ∷ [])) 1)
+    ∷ continuing second 1 0 2 (solver-last (msg 4 (system-terms 5) (1 ∷ 4 ∷ [])) 1)
+    ∷ continuing first 1 3 3 (blinder-second (msg 3 (system-terms 7) (4 ∷ [])) 2)
+    ∷ continuing first 1 3 3 (blinder-second (msg 5 (system-terms 7) (4 ∷ [])) 2)
+    ∷ continuing second 1 0 2 (solver-second (msg 2 (system-terms 7) (3 ∷ 0 ∷ 2 ∷ [])) 1)
+    ∷ continuing second 1 0 2 (solver-second (msg 2 (system-terms 7) (5 ∷ 0 ∷ 2 ∷ [])) 1)
+    ∷ beginning first 1 3 (system-terms 7) (blinder-first (1 ∷ []) (1 ∷ []) (2 ∷ 1 ∷ 2 ∷ []) (msg 1 (system-terms 7) (3 ∷ 1 ∷ [])) 3)
     ∷ two
 
 -- 01's product: right is session 4 of the first party, left session 5 of the second
 abbrev with-product : List Call
 with-product =
-    stepping first 0 0 4 (goes-on right-drop)
-    ∷ stepping first 0 0 4 (goes-on (right-last (msg 2 (product-terms 4) (4 ∷ 2 ∷ 3 ∷ [])) 1))
-    ∷ stepping first 0 0 4 (goes-on (right-last (msg 2 (product-terms 4) (4 ∷ 2 ∷ 7 ∷ [])) 1))
-    ∷ stepping second 0 0 5 (begins (product-terms 4) (left-only (3 ∷ 5 ∷ []) (5 ∷ []) (msg 1 (product-terms 4) (3 ∷ 3 ∷ [])) 3 1))
-    ∷ stepping second 0 0 5 (begins (product-terms 4) (left-only (3 ∷ 5 ∷ []) (5 ∷ []) (msg 1 (product-terms 6) (3 ∷ 3 ∷ [])) 3 1))
-    ∷ stepping first 0 0 4 (begins (product-terms 4) (right-first (2 ∷ 6 ∷ []) 2))
-    ∷ stepping first 0 0 4 (begins (product-terms 4) (right-first (2 ∷ []) 2))
+    continuing first 0 0 4 right-drop
+    ∷ continuing first 0 0 4 (right-last (msg 2 (product-terms 4) (4 ∷ 2 ∷ 3 ∷ [])) 1)
+    ∷ continuing first 0 0 4 (right-last (msg 2 (product-terms 4) (4 ∷ 2 ∷ 7 ∷ [])) 1)
+    ∷ beginning second 0 0 (product-terms 4) (left-only (3 ∷ 5 ∷ []) (5 ∷ []) (msg 1 (product-terms 4) (3 ∷ 3 ∷ [])) 3 1)
+    ∷ beginning second 0 0 (product-terms 4) (left-only (3 ∷ 5 ∷ []) (5 ∷ []) (msg 1 (product-terms 6) (3 ∷ 3 ∷ [])) 3 1)
+    ∷ beginning first 0 0 (product-terms 4) (right-first (2 ∷ 6 ∷ []) 2)
+    ∷ beginning first 0 0 (product-terms 4) (right-first (2 ∷ []) 2)
     ∷ dealing second 13 0 (a-product 4)
     ∷ regular-run
 
 -- a product at the same place, and a system at another, whose sessions 6 and 7 are dropped
 abbrev calls : List Call
 calls =
-    stepping first 2 0 7 (goes-on solver-drop)
-    ∷ stepping first 2 0 7 (begins (system-terms 8) (solver-first (2 ∷ []) (3 ∷ []) 2))
+    continuing first 2 0 7 solver-drop
+    ∷ beginning first 2 0 (system-terms 8) (solver-first (2 ∷ []) (3 ∷ []) 2)
     ∷ dealing second 13 2 (a-system 8)
-    ∷ stepping second 0 0 6 (goes-on right-drop)
-    ∷ stepping second 0 0 6 (begins (product-terms 6) (right-first (2 ∷ 6 ∷ []) 2))
+    ∷ continuing second 0 0 6 right-drop
+    ∷ beginning second 0 0 (product-terms 6) (right-first (2 ∷ 6 ∷ []) 2)
     ∷ dealing first 13 0 (a-product 6)
     ∷ with-product
 
@@ -151,7 +152,8 @@ end = run sizes start lent calls
 -- 01's number of each call's answer, 0 where it is accepted; newest first
 abbrev answerTo : World → Call → ℕ
 answerTo o (dealing holder len i r) = answerNumber (dealAnswer (deal (o .state .pools holder) (o .state .pools (opposite holder)) len i r))
-answerTo o (stepping w i b n k) = answerNumber (answerAfter (runStep k (o .state .sessions n) (slotOf sizes (o .state .pools) w i) (o .state .scratches b)))
+answerTo o (beginning w i b t k) = answerNumber (answerAfter (runFirst t k (slotOf sizes (o .state .pools) w i) (o .state .scratches b)))
+answerTo o (continuing w i b n k) = answerNumber (answerAfter (runLater k (o .state .sessions n) (slotOf sizes (o .state .pools) w i) (o .state .scratches b)))
 
 abbrev pub answers : List Call → List ℕ
 answers [] = []
@@ -222,102 +224,75 @@ own w r h d o e = subst (λ (z : Dealing). halfRole w z ≡ r) (same-dealing e) 
 pub other-role : {A : Type 0} {a b : Role} → a ≡ b → (a ≡ b → _≡_ {A = ℕ} 0 1) → A
 other-role e f = absurd (omega (arith, f e))
 
--- a name that no call bears has no session
-abbrev pub named-below : ℕ → List Call → Bool
-named-below b [] = true
-named-below b (dealing holder len i r ∷ cs) = named-below b cs
-named-below b (stepping w i u n k ∷ cs) = cond (ltb n b) (named-below b cs) false
-
-pub unnamed : (b : ℕ) (cs : List Call) → named-below b cs ≡ true → (n : ℕ) → b ≤ n → run sizes start lent cs .state .sessions n ≡ absent
-unnamed b [] e n h = refl
-unnamed b (dealing holder len i r ∷ cs) e n h =
-    go (deal (run sizes start lent cs .state .pools holder) (run sizes start lent cs .state .pools (opposite holder)) len i r) (unnamed b cs e n h)
-  where
-    go : (x : Judged Dealt) → run sizes start lent cs .state .sessions n ≡ absent → advanceDealing holder len i r (run sizes start lent cs) x .state .sessions n ≡ absent
-    go (refused c) z = z
-    go (done d) z = z
-unnamed b (stepping w i u k t ∷ cs) e n h = go (ltb k b) refl e (λ f. unnamed b cs f n h)
-  where
-    by : (x : Outcome Session) → (k ≡ n → ⊥) → run sizes start lent cs .state .sessions n ≡ absent → advanceStep sizes w i u k t (run sizes start lent cs) x .state .sessions n ≡ absent
-    by (refused c) a z = z
-    by (done f) a z = set-other k (f .session) (run sizes start lent cs .state .sessions) n (λ p. a (sym p)) ∙ z
-
-    go : (c : Bool) → ltb k b ≡ c → cond c (named-below b cs) false ≡ true → (named-below b cs ≡ true → run sizes start lent cs .state .sessions n ≡ absent)
-        → advance sizes (run sizes start lent cs) (stepping w i u k t) .state .sessions n ≡ absent
-    go true q f rec =
-        by (runStep t (run sizes start lent cs .state .sessions k) (slotOf sizes (run sizes start lent cs .state .pools) w i) (run sizes start lent cs .state .scratches u)) (λ p. let l : k < b = ltb-true _ _ q in omega (arith, l, p, h)) (rec f)
-    go false q f rec = absurd (let y : _≡_ {A = ℕ} 0 1 = cc in omega arith)
-
--- no blinder's session is open when another one begins
+-- no blinder's session is open when another one begins: of the m sessions that were begun by then, by their names, and of the others because they are none
 abbrev pub NoBlinder : Session → Type 0
 NoBlinder x = 0 < dueIn x → roleIn x ≡ blinder → ⊥
 
-pub no-session : {x : Session} → x ≡ absent → NoBlinder x
-no-session e d r = omega (arith, d, ap dueIn e)
+pub no-session : (cs : List Call) (m n : ℕ) → begunIn (run sizes start lent cs .log) ≡ m → m ≤ n → NoBlinder (run sizes start lent cs .state .sessions n)
+no-session cs m n e h d r = omega (arith, d, ap dueIn (unbegun sizes start lent cs n (omega (arith, e, h))))
 
 calm-one : (n : ℕ) → NoBlinder (run sizes start lent one .state .sessions n)
 unfolding sumTo tabulate zeros addMod subMod matAdd matSub dotTo dot matMul both parts join cols beside noDivisor isPrime inverseBy inverse swapAt swapRows scaleRow clearColumn pivotFrom pivot step eliminateFrom eliminate regular solution dealB sendY sendX sendR rightShare dealV solverShare sendF sendW sendC sumMatrix over writtenAt given clear judgeBy judge isKept residueOf residuesOf drawn wordsRead drawTests within columns allBelow fieldFits sidesFit shapeTests termsTests inputTests roomTests isSlot slotWords poolWith headerWords bodySize tapeSize statusOf withStatus spent body matrices wordsInUse wordsSpent slotTests halfTests tapeTests bodyTests drawSize drawnParts dealtB dealtV isFree dealTests dealtOver dealtEffect deal kindSort messageLayout messageSize messageParts messageTests dueTests firstTests isOpen openTests laterTests rightFirstEffect rightFirstTests rightFirst leftEffect leftTests leftStep rightLastEffect rightLastTests rightLast padded sideSize keptS keptM keptY scratchSize keptTests blinderTests solverTests coinsOf scratchParts regularTests jointSum solverFirstEffect solverFirstTests solverFirst blinderFirstEffect blinderFirstTests blinderFirst solverSecondEffect solverSecondTests solverSecond blinderSecondEffect blinderSecondTests blinderSecond solverLastEffect solverLastTests solverLast blinderLastEffect blinderLastTests blinderLast dropRight dropSolver dropBlinder said runFirst runLater here halfRole half ℕ-discrete
 calm-one zero d r = other-role r (λ e. cc)
-calm-one (suc zero) d r = omega (arith, d)
-calm-one (suc (suc n)) d r = no-session (unnamed 2 one refl (suc (suc n)) (omega arith)) d r
+calm-one (suc n) d r = no-session one 1 (suc n) refl (omega arith) d r
 
 calm-two : (n : ℕ) → NoBlinder (run sizes start lent two .state .sessions n)
 unfolding sumTo tabulate zeros addMod subMod matAdd matSub dotTo dot matMul both parts join cols beside noDivisor isPrime inverseBy inverse swapAt swapRows scaleRow clearColumn pivotFrom pivot step eliminateFrom eliminate regular solution dealB sendY sendX sendR rightShare dealV solverShare sendF sendW sendC sumMatrix over writtenAt given clear judgeBy judge isKept residueOf residuesOf drawn wordsRead drawTests within columns allBelow fieldFits sidesFit shapeTests termsTests inputTests roomTests isSlot slotWords poolWith headerWords bodySize tapeSize statusOf withStatus spent body matrices wordsInUse wordsSpent slotTests halfTests tapeTests bodyTests drawSize drawnParts dealtB dealtV isFree dealTests dealtOver dealtEffect deal kindSort messageLayout messageSize messageParts messageTests dueTests firstTests isOpen openTests laterTests rightFirstEffect rightFirstTests rightFirst leftEffect leftTests leftStep rightLastEffect rightLastTests rightLast padded sideSize keptS keptM keptY scratchSize keptTests blinderTests solverTests coinsOf scratchParts regularTests jointSum solverFirstEffect solverFirstTests solverFirst blinderFirstEffect blinderFirstTests blinderFirst solverSecondEffect solverSecondTests solverSecond blinderSecondEffect blinderSecondTests blinderSecond solverLastEffect solverLastTests solverLast blinderLastEffect blinderLastTests blinderLast dropRight dropSolver dropBlinder said runFirst runLater here halfRole half ℕ-discrete
 calm-two zero d r = omega (arith, d)
 calm-two (suc zero) d r = omega (arith, d)
 calm-two (suc (suc zero)) d r = other-role r (λ e. cc)
-calm-two (suc (suc (suc n))) d r = no-session (unnamed 3 two refl (suc (suc (suc n))) (omega arith)) d r
+calm-two (suc (suc (suc n))) d r = no-session two 3 (suc (suc (suc n))) refl (omega arith) d r
 
 premises : Premises sizes (end .log)
 unfolding sumTo tabulate zeros addMod subMod matAdd matSub dotTo dot matMul both parts join cols beside noDivisor isPrime inverseBy inverse swapAt swapRows scaleRow clearColumn pivotFrom pivot step eliminateFrom eliminate regular solution dealB sendY sendX sendR rightShare dealV solverShare sendF sendW sendC sumMatrix over writtenAt given clear judgeBy judge isKept residueOf residuesOf drawn wordsRead drawTests within columns allBelow fieldFits sidesFit shapeTests termsTests inputTests roomTests isSlot slotWords poolWith headerWords bodySize tapeSize statusOf withStatus spent body matrices wordsInUse wordsSpent slotTests halfTests tapeTests bodyTests drawSize drawnParts dealtB dealtV isFree dealTests dealtOver dealtEffect deal kindSort messageLayout messageSize messageParts messageTests dueTests firstTests isOpen openTests laterTests rightFirstEffect rightFirstTests rightFirst leftEffect leftTests leftStep rightLastEffect rightLastTests rightLast padded sideSize keptS keptM keptY scratchSize keptTests blinderTests solverTests coinsOf scratchParts regularTests jointSum solverFirstEffect solverFirstTests solverFirst blinderFirstEffect blinderFirstTests blinderFirst solverSecondEffect solverSecondTests solverSecond blinderSecondEffect blinderSecondTests blinderSecond solverLastEffect solverLastTests solverLast blinderLastEffect blinderLastTests blinderLast dropRight dropSolver dropBlinder said runFirst runLater here halfRole half ℕ-discrete
 premises = (
   distinct (end .log) refl,
   (
-    record { own-half = own first solver refl; own-scratch = λ e. other-role e (λ e. cc); own-name = tt },
+    record { own-half = own first solver refl; own-scratch = λ e. other-role e (λ e. cc) },
     (
-      record { own-half = own first solver refl; own-scratch = λ e. other-role e (λ e. cc); own-name = refl },
+      record { own-half = own first solver refl; own-scratch = λ e. other-role e (λ e. cc) },
       (
         (λ w. refl),
         (
-          record { own-half = own second right refl; own-scratch = λ e. other-role e (λ e. cc); own-name = tt },
+          record { own-half = own second right refl; own-scratch = λ e. other-role e (λ e. cc) },
           (
-            record { own-half = own second right refl; own-scratch = λ e. other-role e (λ e. cc); own-name = refl },
+            record { own-half = own second right refl; own-scratch = λ e. other-role e (λ e. cc) },
             (
               (λ w. refl),
               (
-                record { own-half = own first right refl; own-scratch = λ e. other-role e (λ e. cc); own-name = tt },
+                record { own-half = own first right refl; own-scratch = λ e. other-role e (λ e. cc) },
                 (
-                  record { own-half = own second left refl; own-scratch = λ e. other-role e (λ e. cc); own-name = refl },
+                  record { own-half = own second left refl; own-scratch = λ e. other-role e (λ e. cc) },
                   (
-                    record { own-half = own first right refl; own-scratch = λ e. other-role e (λ e. cc); own-name = refl },
+                    record { own-half = own first right refl; own-scratch = λ e. other-role e (λ e. cc) },
                     (
                       (λ w. refl),
                       (
-                        record { own-half = own first blinder refl; own-scratch = λ e. refl; own-name = tt },
+                        record { own-half = own first blinder refl; own-scratch = λ e. refl },
                         (
-                          record { own-half = own second solver refl; own-scratch = λ e. other-role e (λ e. cc); own-name = tt },
+                          record { own-half = own second solver refl; own-scratch = λ e. other-role e (λ e. cc) },
                           (
-                            record { own-half = own first blinder refl; own-scratch = λ e. refl; own-name = tt },
+                            record { own-half = own first blinder refl; own-scratch = λ e. refl },
                             (
-                              record { own-half = own second solver refl; own-scratch = λ e. other-role e (λ e. cc); own-name = tt },
+                              record { own-half = own second solver refl; own-scratch = λ e. other-role e (λ e. cc) },
                               (
-                                record { own-half = own first blinder refl; own-scratch = λ e n d r. absurd (calm-two n d r); own-name = refl },
+                                record { own-half = own first blinder refl; own-scratch = λ e n d r. absurd (calm-two n d r) },
                                 (
-                                  record { own-half = own second solver refl; own-scratch = λ e. other-role e (λ e. cc); own-name = refl },
+                                  record { own-half = own second solver refl; own-scratch = λ e. other-role e (λ e. cc) },
                                   (
                                     (λ w. refl),
                                     (
-                                      record { own-half = own second blinder refl; own-scratch = λ e. refl; own-name = tt },
+                                      record { own-half = own second blinder refl; own-scratch = λ e. refl },
                                       (
-                                        record { own-half = own first solver refl; own-scratch = λ e. other-role e (λ e. cc); own-name = tt },
+                                        record { own-half = own first solver refl; own-scratch = λ e. other-role e (λ e. cc) },
                                         (
-                                          record { own-half = own second blinder refl; own-scratch = λ e. refl; own-name = tt },
+                                          record { own-half = own second blinder refl; own-scratch = λ e. refl },
                                           (
-                                            record { own-half = own first solver refl; own-scratch = λ e. other-role e (λ e. cc); own-name = tt },
+                                            record { own-half = own first solver refl; own-scratch = λ e. other-role e (λ e. cc) },
                                             (
-                                              record { own-half = own second blinder refl; own-scratch = λ e n d r. absurd (calm-one n d r); own-name = refl },
+                                              record { own-half = own second blinder refl; own-scratch = λ e n d r. absurd (calm-one n d r) },
                                               (
-                                                record { own-half = own first solver refl; own-scratch = λ e. other-role e (λ e. cc); own-name = refl },
+                                                record { own-half = own first solver refl; own-scratch = λ e. other-role e (λ e. cc) },
                                                 ((λ w. refl), tt),
                                               ),
                                             ),

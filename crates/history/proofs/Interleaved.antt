@@ -30,14 +30,14 @@ use Rattle.protocol.specs.System.{padded, sideSize, keptS, keptM, keptY, scratc
 use Rattle.protocol.specs.Drop.{dropRight, dropSolver, dropBlinder}
 use Rattle.protocol.specs.View.{View, facing}
 use Rattle.protocol.specs.Completion.{said, Taken}
-use Rattle.history.specs.Ends.{Session, dueIn, right-first, left-only, solver-first, blinder-first, right-last, solver-second, solver-last, blinder-second, blinder-last, solver-drop, begins, goes-on, runFirst, runLater, runStep, First, Later}
-use Rattle.history.specs.Log.{Party, first, second, opposite, Call, dealing, stepping, Dealing, Did, Entry, dealt, did, World, slotOf, advanceDealing, advanceStep, advance, run, halfRole, holds, here, Premises, choose, party-eq, roleBy, Place, untouched, place, WasDone, lentTo}
+use Rattle.history.specs.Ends.{Session, Step, dueIn, right-first, left-only, solver-first, blinder-first, right-last, solver-second, solver-last, blinder-second, blinder-last, solver-drop, begins, goes-on, runFirst, runLater, runStep, First, Later}
+use Rattle.history.specs.Log.{Party, first, second, opposite, Call, dealing, beginning, continuing, tryStep, begunIn, Dealing, Did, Entry, dealt, did, World, slotOf, advanceDealing, advanceStep, advance, run, halfRole, holds, here, Premises, choose, party-eq, roleBy, Place, untouched, place, WasDone, lentTo}
 use Rattle.history.specs.Contents.{half}
 use Rattle.history.specs.Seen.{view}
 use Rattle.history.specs.Right.{newest, result, Paired, AddTo, OnlySolution, Demand2, DealtNow, HasServed, TakenNow, TermsOf, SentTo, FairLater, SoFar, Stood}
 use Rattle.history.proofs.Rightness.{demand-2}
 use Rattle.history.proofs.Facts.{none≢}
-use Rattle.history.proofs.Example.{sizes, start, lent, product-terms, system-terms, msg, a-product, a-system, answers, distinct, own, other-role, unnamed, NoBlinder, no-session, three-slots, Ends-here, paired, arrived}
+use Rattle.history.proofs.Example.{sizes, start, lent, product-terms, system-terms, msg, a-product, a-system, answers, distinct, own, other-role, NoBlinder, no-session, three-slots, Ends-here, paired, arrived}
 
 -- ---- the list
 
@@ -48,12 +48,12 @@ ten-terms i = record { session = record { 0 = 9 }; tape = record { 0 = i }; q = 
 abbrev a-ten : (tape : ℕ) → Request
 a-ten i = productRequest (record { 0 = i }) 10 2 1 2 (6 ∷ 1 ∷ 8 ∷ 5 ∷ 9 ∷ 0 ∷ 3 ∷ 7 ∷ [])
 
--- a first step, which begins session n, and a later step or drop of session n
+-- a first step, which begins session n (the list names it so: n is said for the reader), and a later step or drop of session n
 abbrev begin : (n : ℕ) → Party → (index scratch : ℕ) → Terms → First → Call
-begin n w i b t k = stepping w i b n (begins t k)
+begin n w i b t k = beginning w i b t k
 
 abbrev go-on : (n : ℕ) → Party → (index scratch : ℕ) → Later → Call
-go-on n w i b k = stepping w i b n (goes-on k)
+go-on n w i b k = continuing w i b n k
 
 -- Newest first in each part. Three tapes are dealt. The right ends of both products and the solver begin: sessions 0, 2 and 1. Left of the first product
 -- answers: session 3
@@ -137,27 +137,27 @@ calm zero d r = other-role r (λ e. cc)
 calm (suc zero) d r = other-role r (λ e. cc)
 calm (suc (suc zero)) d r = other-role r (λ e. cc)
 calm (suc (suc (suc zero))) d r = omega (arith, d)
-calm (suc (suc (suc (suc n)))) d r = no-session (unnamed 4 answering refl (suc (suc (suc (suc n)))) (omega arith)) d r
+calm (suc (suc (suc (suc n)))) d r = no-session answering 4 (suc (suc (suc (suc n)))) refl (omega arith) d r
 
 pub premises : Premises sizes (after calls .log)
 unfolding sumTo tabulate zeros addMod subMod matAdd matSub dotTo dot matMul both parts join cols beside noDivisor isPrime inverseBy inverse swapAt swapRows scaleRow clearColumn pivotFrom pivot step eliminateFrom eliminate regular solution dealB sendY sendX sendR rightShare dealV solverShare sendF sendW sendC sumMatrix over writtenAt given clear judgeBy judge isKept residueOf residuesOf drawn wordsRead drawTests within columns allBelow fieldFits sidesFit shapeTests termsTests inputTests roomTests isSlot slotWords poolWith headerWords bodySize tapeSize statusOf withStatus spent body matrices wordsInUse wordsSpent slotTests halfTests tapeTests bodyTests drawSize drawnParts dealtB dealtV isFree dealTests dealtOver dealtEffect deal kindSort messageLayout messageSize messageParts messageTests dueTests firstTests isOpen openTests laterTests rightFirstEffect rightFirstTests rightFirst leftEffect leftTests leftStep rightLastEffect rightLastTests rightLast padded sideSize keptS keptM keptY scratchSize keptTests blinderTests solverTests coinsOf scratchParts regularTests jointSum solverFirstEffect solverFirstTests solverFirst blinderFirstEffect blinderFirstTests blinderFirst solverSecondEffect solverSecondTests solverSecond blinderSecondEffect blinderSecondTests blinderSecond solverLastEffect solverLastTests solverLast blinderLastEffect blinderLastTests blinderLast dropRight dropSolver dropBlinder said runFirst runLater here halfRole half ℕ-discrete
 premises = (
   distinct (after calls .log) refl,
-  record { own-half = own first blinder refl; own-scratch = λ e. refl; own-name = tt }
-      and record { own-half = own second right refl; own-scratch = λ e. other-role e (λ e. cc); own-name = tt }
-      and record { own-half = own second solver refl; own-scratch = λ e. other-role e (λ e. cc); own-name = tt }
-      and record { own-half = own second solver refl; own-scratch = λ e. other-role e (λ e. cc); own-name = tt }
-      and record { own-half = own first blinder refl; own-scratch = λ e. refl; own-name = tt }
-      and record { own-half = own second solver refl; own-scratch = λ e. other-role e (λ e. cc); own-name = refl }
+  record { own-half = own first blinder refl; own-scratch = λ e. refl }
+      and record { own-half = own second right refl; own-scratch = λ e. other-role e (λ e. cc) }
+      and record { own-half = own second solver refl; own-scratch = λ e. other-role e (λ e. cc) }
+      and record { own-half = own second solver refl; own-scratch = λ e. other-role e (λ e. cc) }
+      and record { own-half = own first blinder refl; own-scratch = λ e. refl }
+      and record { own-half = own second solver refl; own-scratch = λ e. other-role e (λ e. cc) }
       and (λ w. refl)
-      and record { own-half = own first right refl; own-scratch = λ e. other-role e (λ e. cc); own-name = tt }
-      and record { own-half = own second solver refl; own-scratch = λ e. other-role e (λ e. cc); own-name = tt }
-      and record { own-half = own first left refl; own-scratch = λ e. other-role e (λ e. cc); own-name = refl }
-      and record { own-half = own first blinder refl; own-scratch = λ e n d r. absurd (calm n d r); own-name = refl }
-      and record { own-half = own second left refl; own-scratch = λ e. other-role e (λ e. cc); own-name = refl }
-      and record { own-half = own second right refl; own-scratch = λ e. other-role e (λ e. cc); own-name = refl }
-      and record { own-half = own second solver refl; own-scratch = λ e. other-role e (λ e. cc); own-name = refl }
-      and record { own-half = own first right refl; own-scratch = λ e. other-role e (λ e. cc); own-name = refl }
+      and record { own-half = own first right refl; own-scratch = λ e. other-role e (λ e. cc) }
+      and record { own-half = own second solver refl; own-scratch = λ e. other-role e (λ e. cc) }
+      and record { own-half = own first left refl; own-scratch = λ e. other-role e (λ e. cc) }
+      and record { own-half = own first blinder refl; own-scratch = λ e n d r. absurd (calm n d r) }
+      and record { own-half = own second left refl; own-scratch = λ e. other-role e (λ e. cc) }
+      and record { own-half = own second right refl; own-scratch = λ e. other-role e (λ e. cc) }
+      and record { own-half = own second solver refl; own-scratch = λ e. other-role e (λ e. cc) }
+      and record { own-half = own first right refl; own-scratch = λ e. other-role e (λ e. cc) }
       and (λ w. refl)
       and (λ w. refl)
       and (λ w. refl)
@@ -165,6 +165,13 @@ premises = (
 )
 
 -- what holds of a list held of its earlier part
+step-back : (w : Party) (i b n : ℕ) (k : Step) (o : World) → Premises sizes (tryStep sizes w i b n k o .log) → Premises sizes (o .log)
+step-back w i b n k o = go (runStep k (o .state .sessions n) (slotOf sizes (o .state .pools) w i) (o .state .scratches b))
+  where
+    go : (x : Outcome Session) → Premises sizes (advanceStep sizes w i b n k o x .log) → Premises sizes (o .log)
+    go (refused r) p = p
+    go (done e) p = (p .0, p .1 .1)
+
 earlier : (later cs : List Call) → Premises sizes (after (later ++ cs) .log) → Premises sizes (after cs .log)
 earlier [] cs p = p
 earlier (c ∷ later) cs p = earlier later cs (back c (after (later ++ cs)) p)
@@ -175,11 +182,8 @@ earlier (c ∷ later) cs p = earlier later cs (back c (after (later ++ cs)) p)
         go : (x : Judged Dealt) → Premises sizes (advanceDealing holder len i r o x .log) → Premises sizes (o .log)
         go (refused n) p = p
         go (done d) p = (p .0 .1, p .1 .1)
-    back (stepping w i b n k) o = go (runStep k (o .state .sessions n) (slotOf sizes (o .state .pools) w i) (o .state .scratches b))
-      where
-        go : (x : Outcome Session) → Premises sizes (advanceStep sizes w i b n k o x .log) → Premises sizes (o .log)
-        go (refused r) p = p
-        go (done e) p = (p .0, p .1 .1)
+    back (beginning w i b t k) o = step-back w i b (begunIn (o .log)) (begins t k) o
+    back (continuing w i b n k) o = step-back w i b n (goes-on k) o
 
 -- so demand 2 speaks of this list and of its parts
 pub right-here : Demand2 sizes (after calls)
@@ -312,11 +316,11 @@ answering-facts : (sentIn (newest (after answering .log) 1) ≡ some (msg 1 (sys
 unfolding sumTo tabulate zeros addMod subMod matAdd matSub dotTo dot matMul both parts join cols beside noDivisor isPrime inverseBy inverse swapAt swapRows scaleRow clearColumn pivotFrom pivot step eliminateFrom eliminate regular solution dealB sendY sendX sendR rightShare dealV solverShare sendF sendW sendC sumMatrix over writtenAt given clear judgeBy judge isKept residueOf residuesOf drawn wordsRead drawTests within columns allBelow fieldFits sidesFit shapeTests termsTests inputTests roomTests isSlot slotWords poolWith headerWords bodySize tapeSize statusOf withStatus spent body matrices wordsInUse wordsSpent slotTests halfTests tapeTests bodyTests drawSize drawnParts dealtB dealtV isFree dealTests dealtOver dealtEffect deal kindSort messageLayout messageSize messageParts messageTests dueTests firstTests isOpen openTests laterTests rightFirstEffect rightFirstTests rightFirst leftEffect leftTests leftStep rightLastEffect rightLastTests rightLast padded sideSize keptS keptM keptY scratchSize keptTests blinderTests solverTests coinsOf scratchParts regularTests jointSum solverFirstEffect solverFirstTests solverFirst blinderFirstEffect blinderFirstTests blinderFirst solverSecondEffect solverSecondTests solverSecond blinderSecondEffect blinderSecondTests blinderSecond solverLastEffect solverLastTests solverLast blinderLastEffect blinderLastTests blinderLast dropRight dropSolver dropBlinder said runFirst runLater here halfRole half ℕ-discrete
 answering-facts = (refl, refl, refl, refl, refl, refl, (refl, refl, refl), (refl, refl, refl), refl, refl, refl, refl, refl, refl, refl, refl, refl)
 
-pub blinder-taken : TakenNow sizes (after answering) first 1 3 4 (begins (system-terms 2) blinder-begins)
+pub blinder-taken : TakenNow sizes (after answering) first 1 3 (begunIn (after answering .log)) (begins (system-terms 2) blinder-begins)
 blinder-taken =
     let f = answering-facts in
     let d = lies _ _ _ _ (f .6) in
-    demand-2 sizes start lent three-slots answering answering-kept .first-taken (system-terms 2) blinder-begins first 1 3 4 (d .0) (d .1)
+    demand-2 sizes start lent three-slots answering answering-kept .first-taken (system-terms 2) blinder-begins first 1 3 (d .0) (d .1)
     (role-there first first (d .0) (a-system 2) (d .2) (d .3)) (terms-of (system-terms 2) (d .0) (a-system 2) (d .3) (omega arith) (refl, refl, refl, refl, refl)) (
       f .8,
       sent-last (after answering) blinder (system-terms 2) 1 1 _ (f .0) (f .1) (f .2) refl,
@@ -326,11 +330,11 @@ blinder-taken =
       f .13,
     )
 
-pub left-taken : TakenNow sizes (after answering) first 2 0 5 (begins (ten-terms 3) left-answers)
+pub left-taken : TakenNow sizes (after answering) first 2 0 (begunIn (after answering .log)) (begins (ten-terms 3) left-answers)
 left-taken =
     let f = answering-facts in
     let d = lies _ _ _ _ (f .7) in
-    demand-2 sizes start lent three-slots answering answering-kept .first-taken (ten-terms 3) left-answers first 2 0 5 (d .0) (d .1)
+    demand-2 sizes start lent three-slots answering answering-kept .first-taken (ten-terms 3) left-answers first 2 0 (d .0) (d .1)
     (role-there first first (d .0) (a-ten 3) (d .2) (d .3)) (terms-of (ten-terms 3) (d .0) (a-ten 3) (d .3) (omega arith) (refl, refl, refl, refl, refl))
     (f .9, sent-last (after answering) left (ten-terms 3) 1 2 _ (f .3) (f .4) (f .5) refl, omega (arith, f .15), omega arith, omega (arith, f .16))
 

@@ -3,8 +3,9 @@
 -- Steps             what an accepted step or drop needs and leaves: all that the bookkeeping knows of steps
 -- Facts             of any log
 -- Dealt             what an accepted dealing needs and leaves
+-- Named             the names of the sessions that were begun: of every list, without a premise
 -- Kept              the invariant, kept by every accepted call
--- Along             the only induction over calls: what dealings and moves keep holds after every list
+-- Along             the induction over calls under the premises: what dealings and moves keep holds after every list
 -- Once              each step of a session was accepted once at most
 -- Served            each half served one session at most
 -- Lent              the scratches
@@ -25,6 +26,7 @@ pub mod Words
 pub mod Steps
 pub mod Facts
 pub mod Dealt
+pub mod Named
 pub mod Kept
 pub mod Along
 pub mod Once

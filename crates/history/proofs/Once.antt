@@ -1,79 +1,168 @@
--- Each step of a session was accepted once at most.
---   Once, once                a turn that is past stays past
+-- Each step of a session was accepted once at most, and so was one at each turn.
+--   Turned, turned-some       a label whose turn is past once a step with it was accepted
+--   Once, move-once           a turn that is past stays past, whatever labels a step has
+--   once, one-turn            the labels of the claim: the step's kind, and the message kind that was due
 -- Assumes nothing.
 use mathlib.Core.Path.{_≡_, refl, sym, ap, _∙_, subst, subst₂}
 use mathlib.Core.Logic.{_⊎_, inl, inr}
 use mathlib.Core.Bool.{true}
 use mathlib.Core.List.{List, _∷_}
+use mathlib.Core.Option.{Option, some, none}
 use Prim.Native.Nat.{ℕ, zero, suc, _≤_, _<_}
 use native.Mathlib.Omega.{arith}
 use native.Mathlib.Decide.{ℕ-discrete, decLt}
-use Rattle.history.specs.Ends.{isBegun, dueIn}
+use Rattle.history.specs.Ends.{isBegun, dueIn, First, right-first, left-only, solver-first, blinder-first, Later, right-last, solver-second, solver-last, blinder-second, blinder-last, right-drop, solver-drop, blinder-drop, Step, StepKind, first-right, only-left, first-solver, first-blinder, last-right, second-solver, last-solver, second-blinder, last-blinder, drop-right, drop-solver, drop-blinder, kind-eq, kindFirst, kindLater, kindOf}
 use Rattle.history.specs.Log.{choose, both?, Party, State, Call, Did, Entry, did, run, Premises}
-use Rattle.history.specs.Claim.{times}
+use Rattle.history.specs.Claim.{timesBy, timesOf, times}
+use Rattle.history.proofs.Steps.{InTurn}
 use Rattle.history.proofs.Facts.{set-same, set-other, absent≢}
 use Rattle.history.proofs.Kept.{Inv, stateAfter, Way, fresh, onward, Move}
 use Rattle.history.specs.Claim.{Empty}
 use Rattle.history.proofs.Along.{along}
 
-pub record Once (st : State) (l : List Entry) : Type 0 where
-  pub at-most : (n d : ℕ) → times n d l ≤ 1
-  pub past : (n d : ℕ) → 0 < times n d l → (isBegun (st .sessions n) ≡ true) × ((dueIn (st .sessions n) ≡ 0) ⊎ (d < dueIn (st .sessions n)))
+-- ---- turns
+
+-- the turn t is past where a later message is due; a drop has no turn of its own, and is past where none is due
+abbrev After : Option ℕ → (due : ℕ) → Type 0
+After none due = ⊥
+After (some t) due = t < due
+
+-- a step at this turn: it wasn't past in the open session, and is past after it
+abbrev Turned : Option ℕ → (due due′ : ℕ) → Type 0
+Turned t due due′ = (After t due → ⊥) × ((due′ ≡ 0) ⊎ After t due′)
+
+stays-after : (t : Option ℕ) (due due′ : ℕ) → due < due′ → After t due → After t due′
+stays-after none due due′ h a = a
+stays-after (some t) due due′ h a = omega (arith, h, a)
+
+turned-some : (t due due′ : ℕ) → due ≡ t → (due′ ≡ 0) ⊎ (due < due′) → Turned (some t) due due′
+turned-some t due due′ e (inl z) = (λ a. omega (arith, a, e), inl z)
+turned-some t due due′ e (inr z) = (λ a. omega (arith, a, e), inr (omega (arith, z, e)))
+
+turned-first : (due due′ : ℕ) → due ≡ 0 → Turned (some due) due due′
+turned-first due zero e = turned-some due due 0 refl (inl refl)
+turned-first due (suc due′) e = turned-some due due (suc due′) refl (inr (omega (arith, e)))
+
+-- ---- steps with labels
 
 module _ (size : Party → ℕ) (start : Party → List ℕ) where
-  abbrev Past : State → ℕ → ℕ → Type 0
-  Past st n d = (isBegun (st .sessions n) ≡ true) × ((dueIn (st .sessions n) ≡ 0) ⊎ (d < dueIn (st .sessions n)))
+  abbrev due : Did → ℕ
+  due e = dueIn (e .on .sessions (e .name))
 
-  move-once : (l : List Entry) (e : Did) → Inv size start (e .on) l → Premises size (did e ∷ l) → Move size start l e → Once (e .on) l → Once (stateAfter size start e) (did e ∷ l)
-  move-once l e v p mv o = record { at-most = most; past = after }
+  module _ {A : Type 0} (same : (a b : A) → Dec (a ≡ b)) (label : Did → A) (turn : A → Option ℕ)
+      (turned : (l : List Entry) (e : Did) → Move size start l e → Turned (turn (label e)) (due e) (dueIn (e .effect .session))) where
+    abbrev count : ℕ → A → List Entry → ℕ
+    count n a l = timesBy same label n a l
+
+    abbrev Past : State → ℕ → A → Type 0
+    Past st n a = (isBegun (st .sessions n) ≡ true) × ((dueIn (st .sessions n) ≡ 0) ⊎ After (turn a) (dueIn (st .sessions n)))
+
+    record Once (st : State) (l : List Entry) : Type 0 where
+      pub at-most : (n : ℕ) (a : A) → count n a l ≤ 1
+      pub past : (n : ℕ) (a : A) → 0 < count n a l → Past st n a
+
+    move-once : (l : List Entry) (e : Did) → Inv size start (e .on) l → Premises size (did e ∷ l) → Move size start l e → Once (e .on) l → Once (stateAfter size start e) (did e ∷ l)
+    move-once l e v p mv o = record { at-most = most; past = after }
+      where
+        never : 0 < count (e .name) (label e) l → ⊥
+        never t = go (mv .way) (o .past (e .name) (label e) t)
+          where
+            go : Way size start e (mv .server) → Past (e .on) (e .name) (label e) → ⊥
+            go (fresh t k s q a b) c = absent≢ a (c .0)
+            go (onward k s q g) c = elim (c .1) [ inl z ↦ omega (arith, z, g .session-open .is-open) | inr z ↦ turned l e mv .0 z ]
+
+        most : (n : ℕ) (a : A) → count n a (did e ∷ l) ≤ 1
+        most n d = go (ℕ-discrete (e .name) n) (same (label e) d)
+          where
+            go : (a : Dec (e .name ≡ n)) (b : Dec (label e ≡ d)) → choose (both? a b) (suc (count n d l)) (count n d l) ≤ 1
+            go (yes a) (yes b) = subst₂ (λ (n : ℕ) (d : A). suc (count n d l) ≤ 1) a b (elim (decLt 0 (count (e .name) (label e) l)) [ yes t ↦ absurd (never t) | no n ↦ omega arith ])
+            go (yes a) (no b) = o .at-most n d
+            go (no a) b = o .at-most n d
+
+        -- the session of the step, after it: a turn that was past stays past, and that of the step is past
+        is-now : stateAfter size start e .sessions (e .name) ≡ e .effect .session
+        is-now = set-same (e .name) (e .effect .session) (e .on .sessions)
+
+        stays : (d : A) → (0 < count (e .name) d l) ⊎ (label e ≡ d) → Past (stateAfter size start e) (e .name) d
+        stays d h = rw is-now (mv .agrees .is-begun, go (mv .way) h)
+          where
+            go : Way size start e (mv .server) → (0 < count (e .name) d l) ⊎ (label e ≡ d) → (dueIn (e .effect .session) ≡ 0) ⊎ After (turn d) (dueIn (e .effect .session))
+            go w (inr c) = subst (λ (d : A). (dueIn (e .effect .session) ≡ 0) ⊎ After (turn d) (dueIn (e .effect .session))) c (turned l e mv .1)
+            go (fresh t k s q a b) (inl c) = absent≢ a (o .past (e .name) d c .0)
+            go (onward k s q g) (inl c) = elim (o .past (e .name) d c .1) [
+              | inl z ↦ absurd (omega (arith, z, g .session-open .is-open))
+              | inr y ↦ elim (g .moved) [ inl z ↦ inl z | inr z ↦ inr (stays-after (turn d) (due e) (dueIn (e .effect .session)) z y) ]
+            ]
+
+        after : (n : ℕ) (a : A) → 0 < count n a (did e ∷ l) → Past (stateAfter size start e) n a
+        after n d = go (ℕ-discrete (e .name) n) (same (label e) d)
+          where
+            go : (a : Dec (e .name ≡ n)) (b : Dec (label e ≡ d)) → 0 < choose (both? a b) (suc (count n d l)) (count n d l) → Past (stateAfter size start e) n d
+            go (yes a) (yes b) t = subst (λ (n : ℕ). Past (stateAfter size start e) n d) a (stays d (inr b))
+            go (yes a) (no b) t = subst (λ (n : ℕ). 0 < count n d l → Past (stateAfter size start e) n d) a (λ t. stays d (inl t)) t
+            go (no a) b t = rw (set-other (e .name) (e .effect .session) (e .on .sessions) n (λ q. a (sym q))) (o .past n d t)
+
+    labelled : Empty size start → (lent : ℕ → List ℕ) (cs : List Call) → Premises size (run size start lent cs .log) → (n : ℕ) (a : A) → count n a (run size start lent cs .log) ≤ 1
+    labelled empty lent cs p =
+        along size start empty lent Once (record { at-most = λ n d. omega arith; past = λ n d t. absurd (omega arith) })
+        (λ l d x v q h o. record { at-most = o .at-most; past = o .past }) move-once cs p .1 .at-most
+
+  -- ---- by the message kind that was due
+
+  due-turned : (l : List Entry) (e : Did) → Move size start l e → Turned (some (due e)) (due e) (dueIn (e .effect .session))
+  due-turned l e mv = go (mv .way)
     where
-      due : ℕ
-      due = dueIn (e .on .sessions (e .name))
+      go : Way size start e (mv .server) → Turned (some (due e)) (due e) (dueIn (e .effect .session))
+      go (fresh t k s q a b) = turned-first (due e) (dueIn (e .effect .session)) (ap dueIn a)
+      go (onward k s q g) = turned-some (due e) (due e) (dueIn (e .effect .session)) refl (g .moved)
 
-      never : 0 < times (e .name) due l → ⊥
-      never t = go (mv .way) (o .past (e .name) due t)
-        where
-          go : Way size start e (mv .server) → Past (e .on) (e .name) due → ⊥
-          go (fresh t k s q a b) c = absent≢ a (c .0)
-          go (onward k s q g) c = elim (c .1) [ inl z ↦ omega (arith, z, g .session-open .is-open) | inr z ↦ omega (arith, z) ]
+  pub one-turn : Empty size start → (lent : ℕ → List ℕ) (cs : List Call) → Premises size (run size start lent cs .log) → (n d : ℕ) → times n d (run size start lent cs .log) ≤ 1
+  one-turn = labelled ℕ-discrete due some due-turned
 
-      most : (n d : ℕ) → times n d (did e ∷ l) ≤ 1
-      most n d = go (ℕ-discrete (e .name) n) (ℕ-discrete due d)
-        where
-          go : (a : Dec (e .name ≡ n)) (b : Dec (due ≡ d)) → choose (both? a b) (suc (times n d l)) (times n d l) ≤ 1
-          go (yes a) (yes b) = subst₂ (λ (n d : ℕ). suc (times n d l) ≤ 1) a b (elim (decLt 0 (times (e .name) due l)) [ yes t ↦ absurd (never t) | no n ↦ omega arith ])
-          go (yes a) (no b) = o .at-most n d
-          go (no a) b = o .at-most n d
+  -- ---- by the step
 
-      -- the session of the step, after it: a turn that was past stays past, and the one that was due is past
-      is-now : stateAfter size start e .sessions (e .name) ≡ e .effect .session
-      is-now = set-same (e .name) (e .effect .session) (e .on .sessions)
+  abbrev turnOf : StepKind → Option ℕ
+  turnOf first-right = some 0
+  turnOf only-left = some 0
+  turnOf first-solver = some 0
+  turnOf first-blinder = some 0
+  turnOf last-right = some 2
+  turnOf second-solver = some 2
+  turnOf last-solver = some 4
+  turnOf second-blinder = some 3
+  turnOf last-blinder = some 5
+  turnOf drop-right = none
+  turnOf drop-solver = none
+  turnOf drop-blinder = none
 
-      stays : (d : ℕ) → (0 < times (e .name) d l) ⊎ (due ≡ d) → Past (stateAfter size start e) (e .name) d
-      stays d h = rw is-now (mv .agrees .is-begun, go (mv .way) h)
-        where
-          go : Way size start e (mv .server) → (0 < times (e .name) d l) ⊎ (due ≡ d) → (dueIn (e .effect .session) ≡ 0) ⊎ (d < dueIn (e .effect .session))
-          go (fresh t k s q a b) (inl c) = absent≢ a (o .past (e .name) d c .0)
-          go (fresh t k s q a b) (inr c) = first-turn (dueIn (e .effect .session)) (sym c ∙ ap dueIn a)
-            where
-              first-turn : (due′ : ℕ) → d ≡ 0 → (due′ ≡ 0) ⊎ (d < due′)
-              first-turn zero z = inl refl
-              first-turn (suc due′) z = inr (omega arith)
-          go (onward k s q g) (inl c) = elim (o .past (e .name) d c .1) [
-            | inl z ↦ absurd (omega (arith, z, g .session-open .is-open))
-            | inr y ↦ elim (g .moved) [ inl z ↦ inl z | inr z ↦ inr (omega (arith, y, z)) ]
-          ]
-          go (onward k s q g) (inr c) = elim (g .moved) [ inl z ↦ inl z | inr z ↦ inr (omega (arith, c, z)) ]
+  first-turned : (k : First) (d d′ : ℕ) → d ≡ 0 → Turned (turnOf (kindFirst k)) d d′
+  first-turned k d d′ e = subst (λ (o : Option ℕ). Turned o d d′) (ap some e ∙ go k) (turned-first d d′ e)
+    where
+      go : (k : First) → some 0 ≡ turnOf (kindFirst k)
+      go (right-first y room) = refl
+      go (left-only x words a room shareRoom) = refl
+      go (solver-first l x room) = refl
+      go (blinder-first mm y words a room) = refl
 
-      after : (n d : ℕ) → 0 < times n d (did e ∷ l) → Past (stateAfter size start e) n d
-      after n d = go (ℕ-discrete (e .name) n) (ℕ-discrete due d)
-        where
-          go : (a : Dec (e .name ≡ n)) (b : Dec (due ≡ d)) → 0 < choose (both? a b) (suc (times n d l)) (times n d l) → Past (stateAfter size start e) n d
-          go (yes a) (yes b) t = subst (λ (n : ℕ). Past (stateAfter size start e) n d) a (stays d (inr b))
-          go (yes a) (no b) t = subst (λ (n : ℕ). 0 < times n d l → Past (stateAfter size start e) n d) a (λ t. stays d (inl t)) t
-          go (no a) b t = rw (set-other (e .name) (e .effect .session) (e .on .sessions) n (λ q. a (sym q))) (o .past n d t)
+  later-turned : (k : Later) (d d′ : ℕ) → InTurn k d d′ → (d′ ≡ 0) ⊎ (d < d′) → Turned (turnOf (kindLater k)) d d′
+  later-turned (right-last a room) d d′ e m = turned-some 2 d d′ e m
+  later-turned (solver-second a room) d d′ e m = turned-some 2 d d′ e m
+  later-turned (solver-last a room) d d′ e m = turned-some 4 d d′ e m
+  later-turned (blinder-second a room) d d′ e m = turned-some 3 d d′ e m
+  later-turned (blinder-last a room) d d′ e m = turned-some 5 d d′ e m
+  later-turned right-drop d d′ e m = (λ a. a, inl e)
+  later-turned solver-drop d d′ e m = (λ a. a, inl e)
+  later-turned blinder-drop d d′ e m = (λ a. a, inl e)
 
-  pub once : Empty size start → (lent : ℕ → List ℕ) (cs : List Call) → Premises size (run size start lent cs .log) → Once (run size start lent cs .state) (run size start lent cs .log)
-  once empty lent cs p =
-      along size start empty lent Once (record { at-most = λ n d. omega arith; past = λ n d t. absurd (omega arith) })
-      (λ l d x v q h o. record { at-most = o .at-most; past = o .past }) move-once cs p .1
+  step-turned : (l : List Entry) (e : Did) → Move size start l e → Turned (turnOf (kindOf (e .step))) (due e) (dueIn (e .effect .session))
+  step-turned l e mv = go (mv .way)
+    where
+      Goal : Step → Type 0
+      Goal k = Turned (turnOf (kindOf k)) (dueIn (e .on .sessions (e .name))) (dueIn (e .effect .session))
+
+      go : Way size start e (mv .server) → Goal (e .step)
+      go (fresh t k s q a b) = subst Goal (sym s) (first-turned k (due e) (dueIn (e .effect .session)) (ap dueIn a))
+      go (onward k s q g) = subst Goal (sym s) (later-turned k (due e) (dueIn (e .effect .session)) (g .in-turn) (g .moved))
+
+  pub once : Empty size start → (lent : ℕ → List ℕ) (cs : List Call) → Premises size (run size start lent cs .log) → (n : ℕ) (k : StepKind) → timesOf n k (run size start lent cs .log) ≤ 1
+  once = labelled kind-eq (λ e. kindOf (e .step)) turnOf step-turned

@@ -91,6 +91,17 @@ wipeScratch zero blinder t = zeros (scratchSize t)
 wipeScratch zero solver t = []
 wipeScratch (suc _) role t = []
 
+-- a later step is made while its message is due, and a drop leaves none due
+abbrev pub InTurn : Later → (due due′ : ℕ) → Type 0
+InTurn (right-last a room) due due′ = due ≡ 2
+InTurn (solver-second a room) due due′ = due ≡ 2
+InTurn (solver-last a room) due due′ = due ≡ 4
+InTurn (blinder-second a room) due due′ = due ≡ 3
+InTurn (blinder-last a room) due due′ = due ≡ 5
+InTurn right-drop due due′ = due′ ≡ 0
+InTurn solver-drop due due′ = due′ ≡ 0
+InTurn blinder-drop due due′ = due′ ≡ 0
+
 pub record Continues (k : Later) (x : Session) (s : Slot) (e : Effect Session) : Type 0 where
   pub was-begun : isBegun x ≡ true
   pub role-was : roleIn x ≡ roleLater k
@@ -99,6 +110,7 @@ pub record Continues (k : Later) (x : Session) (s : Slot) (e : Effect Session) :
   pub role-is : roleIn (e .session) ≡ roleIn x
   pub terms-are : termsIn (e .session) ≡ termsIn x
   pub moved : (dueIn (e .session) ≡ 0) ⊎ (dueIn x < dueIn (e .session))
+  pub in-turn : InTurn k (dueIn x) (dueIn (e .session))
   pub wrote : e .slot ≡ leaveLater (dueIn (e .session)) (roleIn x) (termsIn x) s
   pub cleared : e .scratch ≡ wipeScratch (dueIn (e .session)) (roleIn x) (termsIn x)
 
@@ -131,8 +143,9 @@ carried k {x} {x′} s {e} {e′} p q c = subst (λ (z : Effect Session). Contin
 -- what ends a session
 ended-continues : {S : Type 0} (g : S → Session) (k : Later) (x closed : S) (s : Slot) (e : Effect S) → OpenFits (roleLater k) (dueIn (g x)) (termsIn (g x)) s
     → isBegun (g x) ≡ true → roleIn (g x) ≡ roleLater k → isBegun (g closed) ≡ true → roleIn (g closed) ≡ roleIn (g x) → termsIn (g closed) ≡ termsIn (g x) → dueIn (g closed) ≡ 0
+    → ((due′ : ℕ) → due′ ≡ 0 → InTurn k (dueIn (g x)) due′)
     → Ended closed (wordsSpent (roleIn (g x)) (termsIn (g x)) (slotWords s)) (wipeScratch 0 (roleIn (g x)) (termsIn (g x))) e → Continues k (g x) s (asAny g e)
-ended-continues {S} g k x closed s e f b r b′ r′ t d n =
+ended-continues {S} g k x closed s e f b r b′ r′ t d turn n =
     let due : dueIn (g (e .session)) ≡ 0 = ap (λ (z : S). dueIn (g z)) (n .session-is) ∙ d in
     record {
       was-begun = b;
@@ -142,6 +155,7 @@ ended-continues {S} g k x closed s e f b r b′ r′ t d n =
       role-is = ap (λ (z : S). roleIn (g z)) (n .session-is) ∙ r′;
       terms-are = ap (λ (z : S). termsIn (g z)) (n .session-is) ∙ t;
       moved = inl due;
+      in-turn = turn _ due;
       wrote = n .slot-is ∙ ap (λ (d : ℕ). leaveLater d (roleIn (g x)) (termsIn (g x)) s) (sym due);
       cleared = n .scratch-is ∙ ap (λ (d : ℕ). wipeScratch d (roleIn (g x)) (termsIn (g x))) (sym due);
     }
@@ -153,47 +167,47 @@ continues-sound (right-last m room) x s u e h =
     let o = tests.right-last (asRight x) s m room .means (a .1) in
     let f = o .0 .later .session-open in
     carried (right-last m room) s (is-right x (f .is-open)) (ap (asAny rightEnd) (o .1) ∙ a .2)
-    (ended-continues rightEnd (right-last m room) (asRight x) (closedRight (asRight x)) s _ f refl refl refl refl refl refl (right-ends (asRight x) s m))
+    (ended-continues rightEnd (right-last m room) (asRight x) (closedRight (asRight x)) s _ f refl refl refl refl refl refl (λ d z. o .0 .later .due-is) (right-ends (asRight x) s m))
 continues-sound (solver-second m room) x s u e h =
     let a = of-any solverEnd _ h in
     let o = tests.solver-second (asSolver x) s m room .means (a .1) in
     let f = o .0 .later .session-open in
     carried (solver-second m room) s (is-solver x (f .is-open)) (ap (asAny solverEnd) (o .1) ∙ a .2)
-    (record { was-begun = refl; role-was = refl; session-open = f; is-begun = refl; role-is = refl; terms-are = refl; moved = inr (omega (arith, o .0 .later .due-is)); wrote = refl; cleared = refl })
+    (record { was-begun = refl; role-was = refl; session-open = f; is-begun = refl; role-is = refl; terms-are = refl; moved = inr (omega (arith, o .0 .later .due-is)); in-turn = o .0 .later .due-is; wrote = refl; cleared = refl })
 continues-sound (solver-last m room) x s u e h =
     let a = of-any solverEnd _ h in
     let o = tests.solver-last (asSolver x) s m room .means (a .1) in
     let f = o .0 .later .session-open in
     carried (solver-last m room) s (is-solver x (f .is-open)) (ap (asAny solverEnd) (o .1) ∙ a .2)
-    (ended-continues solverEnd (solver-last m room) (asSolver x) (closedSolver (asSolver x)) s _ f refl refl refl refl refl refl (solver-ends (asSolver x) s m))
+    (ended-continues solverEnd (solver-last m room) (asSolver x) (closedSolver (asSolver x)) s _ f refl refl refl refl refl refl (λ d z. o .0 .later .due-is) (solver-ends (asSolver x) s m))
 continues-sound (blinder-second m room) x s u e h =
     let a = of-any blinderEnd _ h in
     let o = tests.blinder-second (asBlinder x) s u m room .means (a .1) in
     let f = o .0 .later .session-open in
     carried (blinder-second m room) s (is-blinder x (f .is-open)) (ap (asAny blinderEnd) (o .1) ∙ a .2)
-    (record { was-begun = refl; role-was = refl; session-open = f; is-begun = refl; role-is = refl; terms-are = refl; moved = inr (omega (arith, o .0 .later .due-is)); wrote = refl; cleared = refl })
+    (record { was-begun = refl; role-was = refl; session-open = f; is-begun = refl; role-is = refl; terms-are = refl; moved = inr (omega (arith, o .0 .later .due-is)); in-turn = o .0 .later .due-is; wrote = refl; cleared = refl })
 continues-sound (blinder-last m room) x s u e h =
     let a = of-any blinderEnd _ h in
     let o = tests.blinder-last (asBlinder x) s u m room .means (a .1) in
     let f = o .0 .later .session-open in
     carried (blinder-last m room) s (is-blinder x (f .is-open)) (ap (asAny blinderEnd) (o .1) ∙ a .2)
-    (ended-continues blinderEnd (blinder-last m room) (asBlinder x) (closedBlinder (asBlinder x)) s _ f refl refl refl refl refl refl (blinder-ends (asBlinder x) s u m))
+    (ended-continues blinderEnd (blinder-last m room) (asBlinder x) (closedBlinder (asBlinder x)) s _ f refl refl refl refl refl refl (λ d z. o .0 .later .due-is) (blinder-ends (asBlinder x) s u m))
 continues-sound right-drop x s u e h =
     let a = of-any rightEnd _ h in
     let o = tests.drop-right (asRight x) s .means (a .1) in
     carried right-drop s (is-right x (o .0 .is-open)) (ap (asAny rightEnd) (o .1) ∙ a .2)
-    (ended-continues rightEnd right-drop (asRight x) (closedRight (asRight x)) s _ (o .0) refl refl refl refl refl refl (record { session-is = refl; slot-is = refl; scratch-is = refl }))
+    (ended-continues rightEnd right-drop (asRight x) (closedRight (asRight x)) s _ (o .0) refl refl refl refl refl refl (λ d z. z) (record { session-is = refl; slot-is = refl; scratch-is = refl }))
 continues-sound solver-drop x s u e h =
     let a = of-any solverEnd _ h in
     let o = tests.drop-solver (asSolver x) s .means (a .1) in
     carried solver-drop s (is-solver x (o .0 .is-open)) (ap (asAny solverEnd) (o .1) ∙ a .2)
-    (ended-continues solverEnd solver-drop (asSolver x) (closedSolver (asSolver x)) s _ (o .0) refl refl refl refl refl refl (record { session-is = refl; slot-is = refl; scratch-is = refl }))
+    (ended-continues solverEnd solver-drop (asSolver x) (closedSolver (asSolver x)) s _ (o .0) refl refl refl refl refl refl (λ d z. z) (record { session-is = refl; slot-is = refl; scratch-is = refl }))
 continues-sound blinder-drop x s u e h =
     let a = of-any blinderEnd _ h in
     let o = tests.drop-blinder (asBlinder x) s u .means (a .1) in
     let f = o .0 .session-open in
     carried blinder-drop s (is-blinder x (f .is-open)) (ap (asAny blinderEnd) (o .1) ∙ a .2)
-    (ended-continues blinderEnd blinder-drop (asBlinder x) (closedBlinder (asBlinder x)) s _ f refl refl refl refl refl refl (record { session-is = refl; slot-is = refl; scratch-is = refl }))
+    (ended-continues blinderEnd blinder-drop (asBlinder x) (closedBlinder (asBlinder x)) s _ f refl refl refl refl refl refl (λ d z. z) (record { session-is = refl; slot-is = refl; scratch-is = refl }))
 
 -- ---- a blinder's first step
 

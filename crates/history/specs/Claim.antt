@@ -1,7 +1,7 @@
 -- DEMAND 3, in 01's words and order: what holds after every list of calls. proofs/Demand proves it.
 --   Empty                     the pools at the start
 --   Never, server, Ends       words of the claim about places, halves and sessions
---   OnHalf, times             words of the claim about steps
+--   OnHalf, timesOf, times    words of the claim about steps
 --   EntryOf                   the call behind an entry of the log
 --   Demand3, DEMAND-3         the claim
 -- Assumes nothing.
@@ -18,8 +18,8 @@ use Rattle.protocol.specs.Deal.{Dealt, deal}
 use Rattle.protocol.specs.Tape.{isSlot, slotWords, statusOf, EMPTY, blinder}
 use Rattle.protocol.specs.View.{View}
 use Rattle.protocol.specs.Completion.{Secret}
-use Rattle.history.specs.Ends.{Session, absent, isBegun, dueIn, roleIn, First, right-first, left-only, solver-first, blinder-first, Later, right-last, solver-second, solver-last, blinder-second, blinder-last, right-drop, solver-drop, blinder-drop, Step, begins, goes-on, roleOf, runStep}
-use Rattle.history.specs.Log.{choose, both?, Party, opposite, State, Call, dealing, stepping, Dealing, Did, Entry, dealt, did, World, slotOf, run, halfRole, holds, here, place, WasDone, lentTo, Premises}
+use Rattle.history.specs.Ends.{Session, absent, isBegun, dueIn, roleIn, First, right-first, left-only, solver-first, blinder-first, Later, right-last, solver-second, solver-last, blinder-second, blinder-last, right-drop, solver-drop, blinder-drop, Step, begins, goes-on, StepKind, kind-eq, kindOf, roleOf, runStep}
+use Rattle.history.specs.Log.{choose, both?, Party, opposite, Call, dealing, beginning, continuing, Dealing, Did, Entry, dealt, did, World, begunIn, slotOf, run, halfRole, holds, here, place, WasDone, lentTo, Premises}
 use Rattle.history.specs.Contents.{halfWords, tenant, scratchWords}
 use Rattle.history.specs.Seen.{view, Stands}
 
@@ -77,17 +77,22 @@ abbrev pub Ends : Step → Type 0
 Ends (begins t k) = EndsFirst k
 Ends (goes-on k) = EndsLater k
 
--- the entry is that of the call c, which the definitions accept on the state st, with this effect
-abbrev pub EntryOf : (size : Party → ℕ) → Entry → Call → State → Type 0
-EntryOf size (dealt d) c st =
+-- the call of a step or drop: the list l before it names the session that a first step begins
+abbrev pub CallOf : List Entry → Did → Step → Call → Type 0
+CallOf l e (begins t k) c = (c ≡ beginning (e .party) (e .index) (e .scratch) t k) × (e .name ≡ begunIn l)
+CallOf l e (goes-on k) c = c ≡ continuing (e .party) (e .index) (e .scratch) (e .name) k
+
+-- the entry is that of the call c, which the definitions accept on what stands in o, with this effect
+abbrev pub EntryOf : (size : Party → ℕ) → Entry → Call → World → Type 0
+EntryOf size (dealt d) c o =
     (c ≡ dealing (d .holder) (d .size) (d .index) (d .request))
-    × (d .on ≡ st)
+    × (d .on ≡ o .state)
     × (x : Dealt)
-    × (deal (st .pools (d .holder)) (st .pools (opposite (d .holder))) (d .size) (d .index) (d .request) ≡ done x)
-EntryOf size (did e) c st =
-    (c ≡ stepping (e .party) (e .index) (e .scratch) (e .name) (e .step))
-    × (e .on ≡ st)
-    × (runStep (e .step) (st .sessions (e .name)) (slotOf size (st .pools) (e .party) (e .index)) (st .scratches (e .scratch)) ≡ done (e .effect))
+    × (deal (o .state .pools (d .holder)) (o .state .pools (opposite (d .holder))) (d .size) (d .index) (d .request) ≡ done x)
+EntryOf size (did e) c o =
+    CallOf (o .log) e (e .step) c
+    × (e .on ≡ o .state)
+    × (runStep (e .step) (o .state .sessions (e .name)) (slotOf size (o .state .pools) (e .party) (e .index)) (o .state .scratches (e .scratch)) ≡ done (e .effect))
 
 -- ---- steps
 
@@ -108,12 +113,19 @@ AllOnHalves [] = Unit
 AllOnHalves (dealt d ∷ l) = AllOnHalves l
 AllOnHalves (did e ∷ l) = OnHalf l e × AllOnHalves l
 
--- how often session n had a step or a drop accepted while the message kind d was due; a first step counts under 0. Each kind of later step asks for
--- one d, and a drop takes the place of the step that is due
+-- how many accepted steps and drops of session n have this label
+abbrev pub timesBy : {A : Type 0} → ((a b : A) → Dec (a ≡ b)) → (label : Did → A) → (name : ℕ) → A → List Entry → ℕ
+timesBy same label n a [] = 0
+timesBy same label n a (dealt x ∷ l) = timesBy same label n a l
+timesBy same label n a (did e ∷ l) = choose (both? (ℕ-discrete (e .name) n) (same (label e) a)) (suc (timesBy same label n a l)) (timesBy same label n a l)
+
+-- how often session n had this very step or drop accepted
+abbrev pub timesOf : (name : ℕ) → StepKind → List Entry → ℕ
+timesOf n k l = timesBy kind-eq (λ e. kindOf (e .step)) n k l
+
+-- how often session n had a step or a drop accepted while the message kind d was due; a first step counts under 0
 abbrev pub times : (name due : ℕ) → List Entry → ℕ
-times n d [] = 0
-times n d (dealt x ∷ l) = times n d l
-times n d (did e ∷ l) = choose (both? (ℕ-discrete (e .name) n) (ℕ-discrete (dueIn (e .on .sessions (e .name))) d)) (suc (times n d l)) (times n d l)
+times n d l = timesBy ℕ-discrete (λ e. dueIn (e .on .sessions (e .name))) n d l
 
 -- ---- demand 3
 
@@ -133,10 +145,12 @@ pub record Demand3 (size : Party → ℕ) (start : Party → List ℕ) (lent : �
   -- "A session ends by its last step, by a drop or by refusal 10 for W + V.": it is closed (0 is due) exactly from such a step on
   pub sessions : (n : ℕ) → o .state .sessions n ≡ current (o .log) n
   pub ends : (e : Did) → WasDone e (o .log) → (dueIn (e .effect .session) ≡ 0) ↔ Ends (e .step)
+  -- a session is what one accepted first step begins (RULES 10.3): the names below the number of these steps, and no others, have a session that was begun
+  pub named : (n : ℕ) → (isBegun (o .state .sessions n) ≡ true) ↔ (n < begunIn (o .log))
   -- an entry of the log is a call of the list, accepted on what the calls before it left; every other call changed nothing
   pub made-by : (newer older : List Entry) (x : Entry) → o .log ≡ newer ++ x ∷ older
       → (later : List Call) × (c : Call) × (earlier : List Call) × (cs ≡ later ++ c ∷ earlier) × (run size start lent earlier .log ≡ older)
-      × EntryOf size x c (run size start lent earlier .state)
+      × EntryOf size x c (run size start lent earlier)
   -- 3. "In the stretch lent to a blinder's session, P and then U0 stand while it is open, and zeros in their place from its end until another session
   -- writes there; its other words are as lent."
   pub scratches : (b : ℕ) → o .state .scratches b ≡ scratchWords lent (o .state .sessions) b (tenant (o .log) b)
@@ -147,8 +161,10 @@ pub record Demand3 (size : Party → ℕ) (start : Party → List ℕ) (lent : �
   -- so each half served one session at most: a half is named by its tape's number and its role
   pub one-session : (n n′ : ℕ) → isBegun (o .state .sessions n) ≡ true → isBegun (o .state .sessions n′) ≡ true
       → view (o .log) n .terms .tape .0 ≡ view (o .log) n′ .terms .tape .0 → view (o .log) n .role ≡ view (o .log) n′ .role → n ≡ n′
-  -- and each step of a session was accepted once at most
-  pub once : (n d : ℕ) → times n d (o .log) ≤ 1
+  -- and each step of a session was accepted once at most, as was a drop ..
+  pub once : (n : ℕ) (k : StepKind) → timesOf n k (o .log) ≤ 1
+  -- .. which takes the place of the step that was due: one of the two at most
+  pub one-turn : (n d : ℕ) → times n d (o .log) ≤ 1
   -- 5. the counts, for the view of every session of the list, and for that with another message sent, which the other end accepted:
   -- "Views and sessions are those of the list; a session there is what one accepted first step begins, and two of them may bear the same number."
   pub secret : (n : ℕ) → isBegun (o .state .sessions n) ≡ true → (v : View) → Stands (o .log) (view (o .log) n) v → Secret v

@@ -1,6 +1,7 @@
 -- The four ends' sessions as one type, and all their steps and drops as functions into it: each runs the definition that the code's promises cite.
 --   Session                   a session of any end, or none yet
 --   First, Later, Step        first steps; later steps and drops; any of them
+--   StepKind, kindOf          which of the steps and drops it is
 --   runStep                   a step or drop on a session, a slot and a scratch
 -- Assumes nothing.
 use mathlib.Core.Bool.{Bool, true, false}
@@ -140,11 +141,38 @@ pub data Step : Type 0 where
   begins : Terms → First → Step
   goes-on : Later → Step
 
+-- which step or drop it is, by its constructor, whatever it is handed
+pub data StepKind : Type 0 where
+  first-right only-left first-solver first-blinder : StepKind
+  last-right second-solver last-solver second-blinder last-blinder : StepKind
+  drop-right drop-solver drop-blinder : StepKind
+  deriving Discrete as kind-eq
+
+abbrev pub kindFirst : First → StepKind
+kindFirst (right-first y room) = first-right
+kindFirst (left-only x words a room shareRoom) = only-left
+kindFirst (solver-first l x room) = first-solver
+kindFirst (blinder-first mm y words a room) = first-blinder
+
+abbrev pub kindLater : Later → StepKind
+kindLater (right-last a room) = last-right
+kindLater (solver-second a room) = second-solver
+kindLater (solver-last a room) = last-solver
+kindLater (blinder-second a room) = second-blinder
+kindLater (blinder-last a room) = last-blinder
+kindLater right-drop = drop-right
+kindLater solver-drop = drop-solver
+kindLater blinder-drop = drop-blinder
+
+abbrev pub kindOf : Step → StepKind
+kindOf (begins t k) = kindFirst k
+kindOf (goes-on k) = kindLater k
+
 abbrev pub roleOf : Step → Role
 roleOf (begins t k) = roleFirst k
 roleOf (goes-on k) = roleLater k
 
--- `x`: the session that the call names; a first step makes a new one of it
+-- `x`: the session that the call is for; a first step makes a new one
 abbrev pub runStep : Step → (x : Session) → Slot → (scratch : List ℕ) → Outcome Session
 runStep (begins t k) x s u = runFirst t k s u
 runStep (goes-on k) x s u = runLater k x s u

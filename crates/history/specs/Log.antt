@@ -1,6 +1,7 @@
 -- Lists of calls, what they leave, and 01's premises on hosts and numbers.
 --   State, Call, run          two pools, scratches and sessions; a call; what stands after a list of calls
 --   Entry, World              the log: each accepted call with the state that it was called on
+--   begunIn                   how many first steps were accepted: the name of the session that the next one begins
 --   Place, place              what was last dealt at a place, and the session that its half serves
 --   Premises                  what 01 supposes of numbers and hosts, of the accepted calls alone
 -- Assumes nothing.
@@ -8,15 +9,16 @@ use mathlib.Core.Path.{_≡_}
 use mathlib.Core.Logic.{_≢_, _⊎_}
 use mathlib.Core.List.{List, [], _∷_}
 use mathlib.Core.Option.{Option, some, none}
-use Prim.Native.Nat.{ℕ, _<_}
+use Prim.Native.Nat.{ℕ, suc, _<_}
 use native.Mathlib.Decide.{ℕ-discrete}
+use Rattle.protocol.specs.declared.Terms.{Terms}
 use Rattle.protocol.specs.Judge.{Judged, refused, done}
 use Rattle.protocol.specs.Bounds.{Sort}
 use Rattle.algebra.specs.Words.{over}
 use Rattle.protocol.specs.Tape.{Slot, slotAt, poolWith, Role, blinder}
 use Rattle.protocol.specs.Deal.{Request, firstRole, secondRole, Dealt, deal}
 use Rattle.protocol.specs.Step.{Effect, Outcome}
-use Rattle.history.specs.Ends.{Session, absent, dueIn, roleIn, Step, begins, goes-on, roleOf, runStep}
+use Rattle.history.specs.Ends.{Session, absent, dueIn, roleIn, First, Later, Step, begins, goes-on, roleOf, runStep}
 
 -- ---- small choices
 
@@ -44,7 +46,7 @@ abbrev pub opposite : Party → Party
 opposite first = second
 opposite second = first
 
--- both pools, the scratches that hosts lend to blinders (01: stretches), and the sessions, each under a name of the host's choice
+-- both pools, the scratches that hosts lend to blinders (01: stretches), and the sessions, each under its name: how many were begun before it
 pub record State : Type 0 where
   pub pools : Party → List ℕ
   pub scratches : ℕ → List ℕ
@@ -52,12 +54,13 @@ pub record State : Type 0 where
 
 -- ---- calls
 
--- A dealing names the party that gets the left or the blinder's half. A step or drop names a slot of a party's pool, a scratch (of no account but
--- to a blinder) and a session. So no call can make up or put back a pool, a scratch or a session, and a slot
--- has its pool's size. A dealing states one size for both pools
+-- A dealing names the party that gets the left or the blinder's half. A step or drop names a slot of a party's pool and a scratch (of no account but
+-- to a blinder). A first step begins a session, and the list names it; a later step or a drop names the session that it goes on with. So no call can make up
+-- or put back a pool, a scratch or a session, and a slot has its pool's size. A dealing states one size for both pools
 pub data Call : Type 0 where
   dealing : (holder : Party) (size index : ℕ) → Request → Call
-  stepping : (party : Party) (index scratch name : ℕ) → Step → Call
+  beginning : (party : Party) (index scratch : ℕ) → Terms → First → Call
+  continuing : (party : Party) (index scratch name : ℕ) → Later → Call
 
 -- an accepted dealing, and the state that it was called on
 pub record Dealing : Type 0 where
@@ -85,6 +88,17 @@ pub data Entry : Type 0 where
 pub record World : Type 0 where
   pub state : State
   pub log : List Entry
+
+-- how many first steps were accepted. RULES 10.3: a session of the list is what one accepted first step begins; so this number names the one that the next
+-- first step begins, whatever session number its terms bear
+abbrev pub begunBy : Step → ℕ → ℕ
+begunBy (begins t k) n = suc n
+begunBy (goes-on k) n = n
+
+abbrev pub begunIn : List Entry → ℕ
+begunIn [] = 0
+begunIn (dealt d ∷ l) = begunIn l
+begunIn (did e ∷ l) = begunBy (e .step) (begunIn l)
 
 -- each pool is cut into slots of one size
 abbrev pub slotOf : (size : Party → ℕ) → (Party → List ℕ) → Party → ℕ → Slot
@@ -118,12 +132,16 @@ advanceStep size w i b n k o (done e) = record {
   log = did (record { party = w; index = i; scratch = b; name = n; step = k; on = o .state; effect = e }) ∷ o .log;
 }
 
+-- a step or drop of session n
+abbrev pub tryStep : (size : Party → ℕ) (w : Party) (index scratch name : ℕ) → Step → World → World
+tryStep size w i b n k o = advanceStep size w i b n k o (runStep k (o .state .sessions n) (slotOf size (o .state .pools) w i) (o .state .scratches b))
+
 -- one call
 abbrev pub advance : (size : Party → ℕ) → World → Call → World
 advance size o (dealing holder len i r) =
     advanceDealing holder len i r o (deal (o .state .pools holder) (o .state .pools (opposite holder)) len i r)
-advance size o (stepping w i b n k) =
-    advanceStep size w i b n k o (runStep k (o .state .sessions n) (slotOf size (o .state .pools) w i) (o .state .scratches b))
+advance size o (beginning w i b t k) = tryStep size w i b (begunIn (o .log)) (begins t k) o
+advance size o (continuing w i b n k) = tryStep size w i b n (goes-on k) o
 
 -- no session yet
 abbrev pub fresh : (Party → List ℕ) → (ℕ → List ℕ) → State
@@ -209,15 +227,9 @@ OwnScratchBy l e (begins t k) = roleOf (e .step) ≡ blinder
     → (n : ℕ) → 0 < dueIn (e .on .sessions n) → roleIn (e .on .sessions n) ≡ blinder → lentTo l n ≢ e .scratch
 OwnScratchBy l e (goes-on k) = roleOf (e .step) ≡ blinder → lentTo l (e .name) ≡ e .scratch
 
--- a name is given to one session: a first step's is new. This is no premise on hosts: it is how this file tells sessions apart
-abbrev pub OwnNameBy : Did → Step → Type 0
-OwnNameBy e (begins t k) = e .on .sessions (e .name) ≡ absent
-OwnNameBy e (goes-on k) = Unit
-
 pub record Kept (l : List Entry) (e : Did) : Type 0 where
   pub own-half : OwnHalf l e
   pub own-scratch : OwnScratchBy l e (e .step)
-  pub own-name : OwnNameBy e (e .step)
 
 -- a dealing, which states one length for both pools, states the length of each
 abbrev pub Stated : (size : Party → ℕ) → Dealing → Type 0
