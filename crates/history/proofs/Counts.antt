@@ -1,5 +1,9 @@
--- How many completions the views of the interleaved list have, as numbers: right's and the solver's before message 2, the solver's after messages 2 and 4, the
--- blinder's after messages 1 and 3. (The finished views of left, right and blinder have one: proofs/Example, `counted-once`.) Assumes nothing.
+-- How many completions the views of the interleaved list have, as numbers, for the other end's own input and for others. The finished views of right and of the
+-- blinder have one: proofs/Example, `counted-once`.
+--   right-waits, solver-waits          before message 2: 1000000 and 2000
+--   blinder-after-1, blinder-after-3   5, and then 1
+--   solver-after-2, solver-ended       16; at the end 1 for an input whose solution isn't 0, as the real one isn't, and 0 for another
+-- Assumes nothing.
 use mathlib.Core.Path.{_≡_, refl, sym, ap, _∙_, subst}
 use mathlib.Core.Bool.{true}
 use mathlib.Core.List.{List, [], _∷_}
@@ -68,7 +72,9 @@ unfolding sumTo tabulate zeros addMod subMod matAdd matSub dotTo dot matMul both
 four-units = refl
 
 -- inputs that the blinder's and the solver's first steps take: M 1, y 1 is the blinder's own, and L 2, x 3 the solver's
-taken : Taken blinder (system-terms 2) ((1 ∷ []) ∷ (1 ∷ []) ∷ []) × Taken blinder (system-terms 2) ((2 ∷ []) ∷ (3 ∷ []) ∷ []) × Taken blinder (system-terms 2) ((1 ∷ []) ∷ (2 ∷ []) ∷ [])
+taken : Taken blinder (system-terms 2) ((1 ∷ []) ∷ (1 ∷ []) ∷ [])
+    × Taken blinder (system-terms 2) ((2 ∷ []) ∷ (3 ∷ []) ∷ [])
+    × Taken blinder (system-terms 2) ((1 ∷ []) ∷ (2 ∷ []) ∷ [])
     × Taken solver (system-terms 2) ((2 ∷ []) ∷ (3 ∷ []) ∷ []) × Taken solver (system-terms 2) ((4 ∷ []) ∷ (0 ∷ []) ∷ [])
 unfolding sumTo tabulate zeros addMod subMod matAdd matSub dotTo dot matMul both parts join cols beside noDivisor isPrime inverseBy inverse swapAt swapRows scaleRow clearColumn pivotFrom pivot step eliminateFrom eliminate regular solution dealB sendY sendX sendR rightShare dealV solverShare sendF sendW sendC sumMatrix over writtenAt given clear judgeBy judge isKept residueOf residuesOf drawn wordsRead drawTests within columns allBelow fieldFits sidesFit shapeTests termsTests inputTests roomTests isSlot slotWords poolWith headerWords bodySize tapeSize statusOf withStatus spent body matrices wordsInUse wordsSpent slotTests halfTests tapeTests bodyTests drawSize drawnParts dealtB dealtV isFree dealTests dealtOver dealtEffect deal kindSort messageLayout messageSize messageParts messageTests dueTests firstTests isOpen openTests laterTests rightFirstEffect rightFirstTests rightFirst leftEffect leftTests leftStep rightLastEffect rightLastTests rightLast padded sideSize keptS keptM keptY scratchSize keptTests blinderTests solverTests coinsOf scratchParts regularTests jointSum solverFirstEffect solverFirstTests solverFirst blinderFirstEffect blinderFirstTests blinderFirst solverSecondEffect solverSecondTests solverSecond blinderSecondEffect blinderSecondTests blinderSecond solverLastEffect solverLastTests solverLast blinderLastEffect blinderLastTests blinderLast dropRight dropSolver dropBlinder said runFirst runLater here halfRole half ℕ-discrete
 taken = (refl, refl, refl, refl, refl)
@@ -97,7 +103,8 @@ after-2 i ti =
     ∙ ap (λ (t : Terms). units (t .q) (t .m) * units (t .q) (t .m)) (s .2)
     ∙ ap (λ (u : ℕ). u * u) four-units
 
-pub solver-after-2 : (completions (view (after halfway .log) 1) ((1 ∷ []) ∷ (1 ∷ []) ∷ []) ≡ 16) × (completions (view (after halfway .log) 1) ((2 ∷ []) ∷ (3 ∷ []) ∷ []) ≡ 16)
+pub solver-after-2 : (completions (view (after halfway .log) 1) ((1 ∷ []) ∷ (1 ∷ []) ∷ []) ≡ 16)
+    × (completions (view (after halfway .log) 1) ((2 ∷ []) ∷ (3 ∷ []) ∷ []) ≡ 16)
 solver-after-2 = (after-2 _ (taken .0), after-2 _ (taken .1))
 
 -- the blinder after message 1: 5 ^ 1
@@ -106,7 +113,8 @@ after-1 i ti =
     let s = stages .3 in
     numbers-at halfway halfway-kept 4 (s .0) .blinder-after-1 (s .1) (s .3) i (subst (λ (t : Terms). Taken solver t i) (sym (s .2)) ti) ∙ ap (λ (t : Terms). t .q ^ (t .m * t .m)) (s .2)
 
-pub blinder-after-1 : (completions (view (after halfway .log) 4) ((2 ∷ []) ∷ (3 ∷ []) ∷ []) ≡ 5) × (completions (view (after halfway .log) 4) ((4 ∷ []) ∷ (0 ∷ []) ∷ []) ≡ 5)
+pub blinder-after-1 : (completions (view (after halfway .log) 4) ((2 ∷ []) ∷ (3 ∷ []) ∷ []) ≡ 5)
+    × (completions (view (after halfway .log) 4) ((4 ∷ []) ∷ (0 ∷ []) ∷ []) ≡ 5)
 blinder-after-1 = (after-1 _ (taken .3), after-1 _ (taken .4))
 
 -- and after message 3: one
@@ -115,7 +123,8 @@ after-3 i ti =
     let s = stages .4 in
     numbers-at dropping dropping-kept 4 (s .0) .blinder-after-3 (s .1) (s .3) i (subst (λ (t : Terms). Taken solver t i) (sym (s .2)) ti)
 
-pub blinder-after-3 : (completions (view (after dropping .log) 4) ((2 ∷ []) ∷ (3 ∷ []) ∷ []) ≡ 1) × (completions (view (after dropping .log) 4) ((4 ∷ []) ∷ (0 ∷ []) ∷ []) ≡ 1)
+pub blinder-after-3 : (completions (view (after dropping .log) 4) ((2 ∷ []) ∷ (3 ∷ []) ∷ []) ≡ 1)
+    × (completions (view (after dropping .log) 4) ((4 ∷ []) ∷ (0 ∷ []) ∷ []) ≡ 1)
 blinder-after-3 = (after-3 _ (taken .3), after-3 _ (taken .4))
 
 -- ---- finished
@@ -136,6 +145,7 @@ after-4 i ti =
     numbers-at calls premises 1 (s .0) .solver-after-4 (s .1) (s .3) i (subst (λ (t : Terms). Taken blinder t i) (sym (s .2)) ti)
 
 -- the solver at the end: z is 3. One for the blinder's own input and for M 2, y 3, whose z is 4; none for M 1, y 2, whose z is 0
-pub solver-ended : (completions (view (after calls .log) 1) ((1 ∷ []) ∷ (1 ∷ []) ∷ []) ≡ 1) × (completions (view (after calls .log) 1) ((2 ∷ []) ∷ (3 ∷ []) ∷ []) ≡ 1)
+pub solver-ended : (completions (view (after calls .log) 1) ((1 ∷ []) ∷ (1 ∷ []) ∷ []) ≡ 1)
+    × (completions (view (after calls .log) 1) ((2 ∷ []) ∷ (3 ∷ []) ∷ []) ≡ 1)
     × (completions (view (after calls .log) 1) ((1 ∷ []) ∷ (2 ∷ []) ∷ []) ≡ 0)
 solver-ended = (after-4 _ (taken .0) ∙ pairs-are .0, after-4 _ (taken .1) ∙ pairs-are .1, after-4 _ (taken .2) ∙ pairs-are .2)

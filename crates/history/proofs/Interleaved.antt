@@ -1,5 +1,13 @@
--- Two products and a system interleaved, a drop, and slots dealt again, computed: the premises of demand 2 hold of the list, and each of its fields is met by a part
--- of it. Assumes nothing.
+-- Two products and a system interleaved, a drop, and slots dealt again, computed: the premises of demand 2 hold of the list, and each field of the claim is met by
+-- it or by a part of it (`singular` by proofs/Example, `singular-here`).
+--   calls                     the list; answering, halfway, served, dropping: what comes before a point of it
+--   premises, earlier         its premises hold, and those of its parts
+--   first-product, second-product, the-system   shares and z, as numbers
+--   blinder-taken, left-taken                   a blinder's and a left end's first step
+--   right-taken, blinder-goes-on, drop-taken    later steps and a drop
+--   blinder-home, dealt-again                   an open session's half; a tape dealt over one that has served
+--   stood-halfway                               all four roles' real fillings, with messages under way
+-- Assumes nothing.
 use mathlib.Core.Path.{_≡_, refl, sym, ap, ap₂, _∙_, subst, subst₂}
 use mathlib.Core.Bool.{true}
 use mathlib.Core.List.{List, [], _∷_, _++_}
@@ -274,7 +282,8 @@ newest-done (did x ∷ l) n e h = go (ℕ-discrete (x .name) n) h (newest-done l
     same : some x ≡ some e → x ≡ e
     same h = cc
 
-    go : (c : Dec (x .name ≡ n)) → choose c (some x) (newest l n) ≡ some e → (newest l n ≡ some e → WasDone e l × (e .name ≡ n)) → WasDone e (did x ∷ l) × (e .name ≡ n)
+    go : (c : Dec (x .name ≡ n)) → choose c (some x) (newest l n) ≡ some e → (newest l n ≡ some e → WasDone e l × (e .name ≡ n))
+        → WasDone e (did x ∷ l) × (e .name ≡ n)
     go (yes p) h rec = (inl (same h), subst (λ (e : Did). e .name ≡ n) (same h) p)
     go (no p) h rec = let r = rec h in (inr (r .0), r .1)
 
@@ -306,8 +315,12 @@ sent-last o role t kind n a h hr ht hk = go (newest (o .log) n) refl h
 -- ---- steps and dealings that keep to the rules
 
 -- before the blinder and the second left begin
-answering-facts : (sentIn (newest (after answering .log) 1) ≡ some (msg 1 (system-terms 2) (3 ∷ 1 ∷ []))) × (view (after answering .log) 1 .role ≡ solver) × (view (after answering .log) 1 .terms ≡ system-terms 2)
-    × (sentIn (newest (after answering .log) 2) ≡ some (msg 1 (ten-terms 3) (6 ∷ 4 ∷ []))) × (view (after answering .log) 2 .role ≡ right) × (view (after answering .log) 2 .terms ≡ ten-terms 3)
+answering-facts : (sentIn (newest (after answering .log) 1) ≡ some (msg 1 (system-terms 2) (3 ∷ 1 ∷ [])))
+    × (view (after answering .log) 1 .role ≡ solver)
+    × (view (after answering .log) 1 .terms ≡ system-terms 2)
+    × (sentIn (newest (after answering .log) 2) ≡ some (msg 1 (ten-terms 3) (6 ∷ 4 ∷ [])))
+    × (view (after answering .log) 2 .role ≡ right)
+    × (view (after answering .log) 2 .terms ≡ ten-terms 3)
     × Lies (place (after answering .log) first 1) first (a-system 2) none × Lies (place (after answering .log) first 2) first (a-ten 3) none
     × Taken blinder (system-terms 2) ((1 ∷ []) ∷ (1 ∷ []) ∷ []) × Taken left (ten-terms 3) ((3 ∷ 7 ∷ []) ∷ [])
     × (scratchSize (system-terms 2) ≡ 3) × (length (after answering .state .scratches 3) ≡ 4) × (length (residuesOf 5 (2 ∷ 1 ∷ 2 ∷ [])) ≡ 3)
@@ -339,11 +352,18 @@ left-taken =
     (f .9, sent-last (after answering) left (ten-terms 3) 1 2 _ (f .3) (f .4) (f .5) refl, omega (arith, f .15), omega arith, omega (arith, f .16))
 
 -- halfway: message 2 of the first product and message 3 of the system are under way
-halfway-facts : (sentIn (newest (after halfway .log) 3) ≡ some (msg 2 (product-terms 1) (4 ∷ 2 ∷ 3 ∷ []))) × (view (after halfway .log) 3 .role ≡ left) × (view (after halfway .log) 3 .terms ≡ product-terms 1)
-    × (sentIn (newest (after halfway .log) 1) ≡ some (msg 3 (system-terms 2) (4 ∷ []))) × (view (after halfway .log) 1 .role ≡ solver) × (view (after halfway .log) 1 .terms ≡ system-terms 2)
+halfway-facts : (sentIn (newest (after halfway .log) 3) ≡ some (msg 2 (product-terms 1) (4 ∷ 2 ∷ 3 ∷ [])))
+    × (view (after halfway .log) 3 .role ≡ left)
+    × (view (after halfway .log) 3 .terms ≡ product-terms 1)
+    × (sentIn (newest (after halfway .log) 1) ≡ some (msg 3 (system-terms 2) (4 ∷ [])))
+    × (view (after halfway .log) 1 .role ≡ solver)
+    × (view (after halfway .log) 1 .terms ≡ system-terms 2)
     × Lies (place (after halfway .log) first 0) second (a-product 1) (some 0) × Lies (place (after halfway .log) first 1) first (a-system 2) (some 4)
     × (view (after halfway .log) 0 .terms ≡ product-terms 1) × (view (after halfway .log) 4 .terms ≡ system-terms 2)
-    × (dueIn (after halfway .state .sessions 0) ≡ 2) × (dueIn (after halfway .state .sessions 4) ≡ 3) × (lentTo (after halfway .log) 4 ≡ 3) × (messageSize 4 (system-terms 2) ≡ 2)
+    × (dueIn (after halfway .state .sessions 0) ≡ 2)
+    × (dueIn (after halfway .state .sessions 4) ≡ 3)
+    × (lentTo (after halfway .log) 4 ≡ 3)
+    × (messageSize 4 (system-terms 2) ≡ 2)
     × (view (after halfway .log) 4 .role ≡ blinder)
 unfolding sumTo tabulate zeros addMod subMod matAdd matSub dotTo dot matMul both parts join cols beside noDivisor isPrime inverseBy inverse swapAt swapRows scaleRow clearColumn pivotFrom pivot step eliminateFrom eliminate regular solution dealB sendY sendX sendR rightShare dealV solverShare sendF sendW sendC sumMatrix over writtenAt given clear judgeBy judge isKept residueOf residuesOf drawn wordsRead drawTests within columns allBelow fieldFits sidesFit shapeTests termsTests inputTests roomTests isSlot slotWords poolWith headerWords bodySize tapeSize statusOf withStatus spent body matrices wordsInUse wordsSpent slotTests halfTests tapeTests bodyTests drawSize drawnParts dealtB dealtV isFree dealTests dealtOver dealtEffect deal kindSort messageLayout messageSize messageParts messageTests dueTests firstTests isOpen openTests laterTests rightFirstEffect rightFirstTests rightFirst leftEffect leftTests leftStep rightLastEffect rightLastTests rightLast padded sideSize keptS keptM keptY scratchSize keptTests blinderTests solverTests coinsOf scratchParts regularTests jointSum solverFirstEffect solverFirstTests solverFirst blinderFirstEffect blinderFirstTests blinderFirst solverSecondEffect solverSecondTests solverSecond blinderSecondEffect blinderSecondTests blinderSecond solverLastEffect solverLastTests solverLast blinderLastEffect blinderLastTests blinderLast dropRight dropSolver dropBlinder said runFirst runLater here halfRole half ℕ-discrete
 halfway-facts = (refl, refl, refl, refl, refl, refl, (refl, refl, refl), (refl, refl, refl), refl, refl, refl, refl, refl, refl, refl)
