@@ -6,7 +6,7 @@
 --   blinder-taken, left-taken                   a blinder's and a left end's first step
 --   right-taken, blinder-goes-on, drop-taken    later steps and a drop
 --   blinder-home, dealt-again                   an open session's half; a tape dealt over one that has served
---   stood-halfway                               all four roles' real fillings, with messages under way
+--   stood-halfway                               what either end holds completes the other's view, with messages under way
 -- Assumes nothing.
 use mathlib.Core.Path.{_≡_, refl, sym, ap, ap₂, _∙_, subst, subst₂}
 use mathlib.Core.Bool.{true}
