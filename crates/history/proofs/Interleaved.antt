@@ -6,7 +6,7 @@
 --   blinder-taken, left-taken                   a blinder's and a left end's first step
 --   right-taken, blinder-goes-on, drop-taken    later steps and a drop
 --   blinder-home, dealt-again                   an open session's half; a tape dealt over one that has served
---   stood-halfway                               all four roles' real fillings, with messages under way
+--   stood-halfway, stood-ended                  what either end holds completes the other's view, also with messages under way
 -- Assumes nothing.
 use mathlib.Core.Path.{_≡_, refl, sym, ap, ap₂, _∙_, subst, subst₂}
 use mathlib.Core.Bool.{true}
@@ -435,7 +435,7 @@ drop-taken =
     demand-2 sizes start lent three-slots dropping dropping-kept .later-taken solver-drop second 0 0 6 (d .0) (d .1) (role-there second first (d .0) (a-system 4) (d .2) (d .3))
     (λ e. other-role e (λ e. cc)) (omega (arith, dropping-facts .1))
 
--- ---- what stands behind the views, halfway
+-- ---- what stands behind the views
 
 -- left of the second product is session 5 and right session 2, which awaits message 2; the blinder, session 4, awaits message 3
 halfway-ends : Ends-here (after halfway) left 5 2 3 ((6 ∷ 4 ∷ []) ∷ []) ((6 ∷ 4 ∷ []) ∷ []) [] ((9 ∷ 8 ∷ 7 ∷ 8 ∷ 3 ∷ 3 ∷ []) ∷ [])
@@ -457,16 +457,26 @@ turned o r n n′ e c = record { begun = c .other-begun; other-begun = c .begun;
 turned-far : (v v′ : View) → SoFar v v′ → SoFar v′ v
 turned-far v v′ f = record { there = f .back; back = f .there }
 
--- all four roles
-pub stood-halfway : Stood (view (after halfway .log) 5) (view (after halfway .log) 2) × Stood (view (after halfway .log) 2) (view (after halfway .log) 5)
-    × Stood (view (after halfway .log) 4) (view (after halfway .log) 1) × Stood (view (after halfway .log) 1) (view (after halfway .log) 4)
-stood-halfway =
-    let p = paired (after halfway) left 5 2 3 _ _ _ _ (halfway-ends .0) in
-    let f = so-far (after halfway) left 5 2 3 _ _ _ _ (halfway-ends .0) refl refl in
-    let p′ = paired (after halfway) blinder 4 1 2 _ _ _ _ (halfway-ends .1) in
-    let f′ = so-far (after halfway) blinder 4 1 2 _ _ _ _ (halfway-ends .1) refl refl in (
-      halfway-right .stood left 5 2 p f,
-      halfway-right .stood right 2 5 (turned (after halfway) left 5 2 refl p) (turned-far _ _ f),
-      halfway-right .stood blinder 4 1 p′ f′,
-      halfway-right .stood solver 1 4 (turned (after halfway) blinder 4 1 refl p′) (turned-far _ _ f′),
-    )
+-- from both sides
+stood-both : (o : World) → Demand2 sizes o → (r : Role) (n n′ i : ℕ) (a sent′ b sent : List (List ℕ)) → facing (facing r) ≡ r → Ends-here o r n n′ i a sent′ b sent
+    → a ≡ take (length a) sent′ → b ≡ take (length b) sent → Stood (view (o .log) n) (view (o .log) n′) × Stood (view (o .log) n′) (view (o .log) n)
+stood-both o d r n n′ i a sent′ b sent e h ea eb =
+    let p = paired o r n n′ i a sent′ b sent h in
+    let f = so-far o r n n′ i a sent′ b sent h ea eb in
+    (d .stood r n n′ p f, d .stood (facing r) n′ n (turned o r n n′ e p) (turned-far _ _ f))
+
+-- all four roles, with messages under way
+pub stood-halfway : (Stood (view (after halfway .log) 5) (view (after halfway .log) 2) × Stood (view (after halfway .log) 2) (view (after halfway .log) 5))
+    × (Stood (view (after halfway .log) 4) (view (after halfway .log) 1) × Stood (view (after halfway .log) 1) (view (after halfway .log) 4))
+stood-halfway = (
+  stood-both (after halfway) halfway-right left 5 2 3 _ _ _ _ refl (halfway-ends .0) refl refl,
+  stood-both (after halfway) halfway-right blinder 4 1 2 _ _ _ _ refl (halfway-ends .1) refl refl,
+)
+
+-- and at the end
+pub stood-ended : (Stood (view (after calls .log) 3) (view (after calls .log) 0) × Stood (view (after calls .log) 0) (view (after calls .log) 3))
+    × (Stood (view (after calls .log) 4) (view (after calls .log) 1) × Stood (view (after calls .log) 1) (view (after calls .log) 4))
+stood-ended = (
+  stood-both (after calls) right-here left 3 0 1 _ _ _ _ refl (ends .0) refl refl,
+  stood-both (after calls) right-here blinder 4 1 2 _ _ _ _ refl (ends .2) refl refl,
+)
