@@ -35,7 +35,7 @@ use Rattle.protocol.specs.System.{padded, sideSize, keptS, keptM, keptY, scratc
 use Rattle.protocol.specs.Drop.{dropRight, dropSolver, dropBlinder}
 use Rattle.protocol.specs.View.{View, facing, kindsSent, Finished}
 use Rattle.protocol.specs.Completion.{said, completions, Counted, solutionFor, answerSeen}
-use Rattle.history.specs.Ends.{Session, isBegun, dueIn, roleIn, right-first, left-only, solver-first, blinder-first, right-last, solver-second, solver-last, blinder-second, blinder-last, right-drop, solver-drop, blinder-drop, goes-on, runFirst, runLater, Step}
+use Rattle.history.specs.Ends.{Session, isBegun, dueIn, roleIn, right-first, left-only, solver-first, blinder-first, right-last, solver-second, solver-last, blinder-second, blinder-last, right-drop, solver-drop, blinder-drop, Step, goes-on, runFirst, runLater}
 use Rattle.history.specs.Log.{Party, first, second, opposite, Call, dealing, beginning, continuing, Dealing, Did, Entry, dealt, did, World, begunIn, slotOf, run, halfRole, holds, here, WasDealt, numberOf, Distinct, Premises}
 use Rattle.history.specs.Contents.{half}
 use Rattle.history.specs.Seen.{view, as-answered}

@@ -1,5 +1,13 @@
--- Two products and a system interleaved, a drop, and slots dealt again, computed: the premises of demand 2 hold of the list, and each of its fields is met by a part
--- of it. Assumes nothing.
+-- Two products and a system interleaved, a drop, and slots dealt again, computed: the premises of demand 2 hold of the list, and each field of the claim is met by
+-- it or by a part of it (`singular` by proofs/Example, `singular-here`).
+--   calls                     the list; answering, halfway, served, dropping: what comes before a point of it
+--   premises, earlier         its premises hold, and those of its parts
+--   first-product, second-product, the-system   shares and z, as numbers
+--   blinder-taken, left-taken                   a blinder's and a left end's first step
+--   right-taken, blinder-goes-on, drop-taken    later steps and a drop
+--   blinder-home, dealt-again                   an open session's half; a tape dealt over one that has served
+--   stood-halfway, stood-ended                  what either end holds completes the other's view, also with messages under way
+-- Assumes nothing.
 use mathlib.Core.Path.{_≡_, refl, sym, ap, ap₂, _∙_, subst, subst₂}
 use mathlib.Core.Bool.{true}
 use mathlib.Core.List.{List, [], _∷_, _++_}
@@ -30,8 +38,8 @@ use Rattle.protocol.specs.System.{padded, sideSize, keptS, keptM, keptY, scratc
 use Rattle.protocol.specs.Drop.{dropRight, dropSolver, dropBlinder}
 use Rattle.protocol.specs.View.{View, facing}
 use Rattle.protocol.specs.Completion.{said, Taken}
-use Rattle.history.specs.Ends.{Session, dueIn, right-first, left-only, solver-first, blinder-first, right-last, solver-second, solver-last, blinder-second, blinder-last, solver-drop, begins, goes-on, runFirst, runLater, runStep, First, Step}
-use Rattle.history.specs.Log.{Party, first, second, opposite, Call, dealing, beginning, continuing, Dealing, Did, Entry, dealt, did, World, begunIn, slotOf, advanceDealing, advanceStep, tryStep, advance, run, halfRole, holds, here, Premises, choose, party-eq, roleBy, Place, untouched, place, WasDone, lentTo}
+use Rattle.history.specs.Ends.{Session, Step, dueIn, right-first, left-only, solver-first, blinder-first, right-last, solver-second, solver-last, blinder-second, blinder-last, solver-drop, begins, goes-on, runFirst, runLater, runStep, First, Later}
+use Rattle.history.specs.Log.{Party, first, second, opposite, Call, dealing, beginning, continuing, tryStep, begunIn, Dealing, Did, Entry, dealt, did, World, slotOf, advanceDealing, advanceStep, advance, run, halfRole, holds, here, Premises, choose, party-eq, roleBy, Place, untouched, place, WasDone, lentTo}
 use Rattle.history.specs.Contents.{half}
 use Rattle.history.specs.Seen.{view}
 use Rattle.history.specs.Right.{newest, result, Paired, AddTo, OnlySolution, Demand2, DealtNow, HasServed, TakenNow, TermsOf, SentTo, FairLater, SoFar, Stood}
@@ -42,11 +50,18 @@ use Rattle.history.proofs.Example.{sizes, start, lent, product-terms, s
 -- ---- the list
 
 -- the second product: q 10, X of two rows, Y of two columns
-abbrev ten-terms : (tape : ℕ) → Terms
+abbrev pub ten-terms : (tape : ℕ) → Terms
 ten-terms i = record { session = record { 0 = 9 }; tape = record { 0 = i }; q = 10; m = 2; k = 1; p = 2 }
 
 abbrev a-ten : (tape : ℕ) → Request
 a-ten i = productRequest (record { 0 = i }) 10 2 1 2 (6 ∷ 1 ∷ 8 ∷ 5 ∷ 9 ∷ 0 ∷ 3 ∷ 7 ∷ [])
+
+-- a first step, which begins session n (the list names it so: n is said for the reader), and a later step or drop of session n
+abbrev begin : (n : ℕ) → Party → (index scratch : ℕ) → Terms → First → Call
+begin n w i b t k = beginning w i b t k
+
+abbrev go-on : (n : ℕ) → Party → (index scratch : ℕ) → Later → Call
+go-on n w i b k = continuing w i b n k
 
 -- Newest first in each part. Three tapes are dealt. The right ends of both products and the solver begin: sessions 0, 2 and 1. Left of the first product
 -- answers: session 3
@@ -56,12 +71,12 @@ blinder-begins = blinder-first (1 ∷ []) (1 ∷ []) (2 ∷ 1 ∷ 2 ∷ []) (msg
 abbrev left-answers : First
 left-answers = left-only (3 ∷ 7 ∷ []) (2 ∷ 4 ∷ 6 ∷ 8 ∷ []) (msg 1 (ten-terms 3) (6 ∷ 4 ∷ [])) 6 4
 
-abbrev answering : List Call
+abbrev pub answering : List Call
 answering =
-    beginning second 0 0 (product-terms 1) (left-only (3 ∷ 5 ∷ []) (5 ∷ []) (msg 1 (product-terms 1) (3 ∷ 3 ∷ [])) 3 1)
-    ∷ beginning second 2 0 (ten-terms 3) (right-first (4 ∷ 9 ∷ []) 2)
-    ∷ beginning second 1 0 (system-terms 2) (solver-first (2 ∷ []) (3 ∷ []) 2)
-    ∷ beginning first 0 0 (product-terms 1) (right-first (2 ∷ 6 ∷ []) 2)
+    begin 3 second 0 0 (product-terms 1) (left-only (3 ∷ 5 ∷ []) (5 ∷ []) (msg 1 (product-terms 1) (3 ∷ 3 ∷ [])) 3 1)
+    ∷ begin 2 second 2 0 (ten-terms 3) (right-first (4 ∷ 9 ∷ []) 2)
+    ∷ begin 1 second 1 0 (system-terms 2) (solver-first (2 ∷ []) (3 ∷ []) 2)
+    ∷ begin 0 first 0 0 (product-terms 1) (right-first (2 ∷ 6 ∷ []) 2)
     ∷ dealing first 13 2 (a-ten 3)
     ∷ dealing first 13 1 (a-system 2)
     ∷ dealing second 13 0 (a-product 1)
@@ -70,18 +85,18 @@ answering =
 -- the blinder and the other left begin, sessions 4 and 5, and the solver goes on; a dealing where right's half is still in use is refused
 abbrev to-halfway : List Call
 to-halfway =
-    continuing second 1 0 1 (solver-second (msg 2 (system-terms 2) (3 ∷ 0 ∷ 2 ∷ [])) 1)
-    ∷ beginning first 2 0 (ten-terms 3) left-answers
+    go-on 1 second 1 0 (solver-second (msg 2 (system-terms 2) (3 ∷ 0 ∷ 2 ∷ [])) 1)
+    ∷ begin 5 first 2 0 (ten-terms 3) left-answers
     ∷ dealing first 13 0 (a-system 4)
-    ∷ beginning first 1 3 (system-terms 2) blinder-begins
+    ∷ begin 4 first 1 3 (system-terms 2) blinder-begins
     ∷ []
 
-abbrev halfway : List Call
+abbrev pub halfway : List Call
 halfway = to-halfway ++ answering
 
 -- the first product ends
 abbrev to-served : List Call
-to-served = continuing first 0 0 0 (right-last (msg 2 (product-terms 1) (4 ∷ 2 ∷ 3 ∷ [])) 1) ∷ []
+to-served = go-on 0 first 0 0 (right-last (msg 2 (product-terms 1) (4 ∷ 2 ∷ 3 ∷ [])) 1) ∷ []
 
 abbrev served : List Call
 served = to-served ++ halfway
@@ -89,28 +104,28 @@ served = to-served ++ halfway
 -- its slots are dealt again, for a system, whose solver begins: session 6. The blinder goes on
 abbrev to-dropping : List Call
 to-dropping =
-    continuing first 1 3 4 (blinder-second (msg 3 (system-terms 2) (4 ∷ [])) 2)
-    ∷ beginning second 0 0 (system-terms 4) (solver-first (2 ∷ []) (3 ∷ []) 2)
+    go-on 4 first 1 3 (blinder-second (msg 3 (system-terms 2) (4 ∷ [])) 2)
+    ∷ begin 6 second 0 0 (system-terms 4) (solver-first (2 ∷ []) (3 ∷ []) 2)
     ∷ dealing first 13 0 (a-system 4)
     ∷ []
 
-abbrev dropping : List Call
+abbrev pub dropping : List Call
 dropping = to-dropping ++ served
 
 -- that solver drops its session, and the other product and the system end
 abbrev to-end : List Call
 to-end =
-    continuing first 1 3 4 (blinder-last (msg 5 (system-terms 2) (1 ∷ [])) 1)
-    ∷ continuing second 2 0 2 (right-last (msg 2 (ten-terms 3) (9 ∷ 8 ∷ 7 ∷ 8 ∷ 3 ∷ 3 ∷ [])) 4)
-    ∷ continuing second 1 0 1 (solver-last (msg 4 (system-terms 2) (1 ∷ 4 ∷ [])) 1)
-    ∷ continuing second 0 0 6 solver-drop
+    go-on 4 first 1 3 (blinder-last (msg 5 (system-terms 2) (1 ∷ [])) 1)
+    ∷ go-on 2 second 2 0 (right-last (msg 2 (ten-terms 3) (9 ∷ 8 ∷ 7 ∷ 8 ∷ 3 ∷ 3 ∷ [])) 4)
+    ∷ go-on 1 second 1 0 (solver-last (msg 4 (system-terms 2) (1 ∷ 4 ∷ [])) 1)
+    ∷ go-on 6 second 0 0 solver-drop
     ∷ []
 
-abbrev calls : List Call
+abbrev pub calls : List Call
 calls = to-end ++ dropping
 
 -- what stands after such a list
-abbrev after : List Call → World
+abbrev pub after : List Call → World
 after cs = run sizes start lent cs
 
 pub all-answers : answers calls ≡ 0 ∷ 0 ∷ 0 ∷ 0 ∷ 0 ∷ 0 ∷ 0 ∷ 0 ∷ 0 ∷ 0 ∷ 6 ∷ 0 ∷ 0 ∷ 0 ∷ 0 ∷ 0 ∷ 0 ∷ 0 ∷ 0 ∷ []
@@ -132,7 +147,7 @@ calm (suc (suc zero)) d r = other-role r (λ e. cc)
 calm (suc (suc (suc zero))) d r = omega (arith, d)
 calm (suc (suc (suc (suc n)))) d r = no-session answering 4 (suc (suc (suc (suc n)))) refl (omega arith) d r
 
-premises : Premises sizes (after calls .log)
+pub premises : Premises sizes (after calls .log)
 unfolding sumTo tabulate zeros addMod subMod matAdd matSub dotTo dot matMul both parts join cols beside noDivisor isPrime inverseBy inverse swapAt swapRows scaleRow clearColumn pivotFrom pivot step eliminateFrom eliminate regular solution dealB sendY sendX sendR rightShare dealV solverShare sendF sendW sendC sumMatrix over writtenAt given clear judgeBy judge isKept residueOf residuesOf drawn wordsRead drawTests within columns allBelow fieldFits sidesFit shapeTests termsTests inputTests roomTests isSlot slotWords poolWith headerWords bodySize tapeSize statusOf withStatus spent body matrices wordsInUse wordsSpent slotTests halfTests tapeTests bodyTests drawSize drawnParts dealtB dealtV isFree dealTests dealtOver dealtEffect deal kindSort messageLayout messageSize messageParts messageTests dueTests firstTests isOpen openTests laterTests rightFirstEffect rightFirstTests rightFirst leftEffect leftTests leftStep rightLastEffect rightLastTests rightLast padded sideSize keptS keptM keptY scratchSize keptTests blinderTests solverTests coinsOf scratchParts regularTests jointSum solverFirstEffect solverFirstTests solverFirst blinderFirstEffect blinderFirstTests blinderFirst solverSecondEffect solverSecondTests solverSecond blinderSecondEffect blinderSecondTests blinderSecond solverLastEffect solverLastTests solverLast blinderLastEffect blinderLastTests blinderLast dropRight dropSolver dropBlinder said runFirst runLater here halfRole half ℕ-discrete
 premises = (
   distinct (after calls .log) refl,
@@ -158,17 +173,17 @@ premises = (
 )
 
 -- what holds of a list held of its earlier part
+step-back : (w : Party) (i b n : ℕ) (k : Step) (o : World) → Premises sizes (tryStep sizes w i b n k o .log) → Premises sizes (o .log)
+step-back w i b n k o = go (runStep k (o .state .sessions n) (slotOf sizes (o .state .pools) w i) (o .state .scratches b))
+  where
+    go : (x : Outcome Session) → Premises sizes (advanceStep sizes w i b n k o x .log) → Premises sizes (o .log)
+    go (refused r) p = p
+    go (done e) p = (p .0, p .1 .1)
+
 earlier : (later cs : List Call) → Premises sizes (after (later ++ cs) .log) → Premises sizes (after cs .log)
 earlier [] cs p = p
 earlier (c ∷ later) cs p = earlier later cs (back c (after (later ++ cs)) p)
   where
-    step-back : (w : Party) (i b n : ℕ) (k : Step) (o : World) → Premises sizes (tryStep sizes w i b n k o .log) → Premises sizes (o .log)
-    step-back w i b n k o = go (runStep k (o .state .sessions n) (slotOf sizes (o .state .pools) w i) (o .state .scratches b))
-      where
-        go : (x : Outcome Session) → Premises sizes (advanceStep sizes w i b n k o x .log) → Premises sizes (o .log)
-        go (refused r) p = p
-        go (done e) p = (p .0, p .1 .1)
-
     back : (c : Call) (o : World) → Premises sizes (advance sizes o c .log) → Premises sizes (o .log)
     back (dealing holder len i r) o = go (deal (o .state .pools holder) (o .state .pools (opposite holder)) len i r)
       where
@@ -182,16 +197,16 @@ earlier (c ∷ later) cs p = earlier later cs (back c (after (later ++ cs)) p)
 pub right-here : Demand2 sizes (after calls)
 right-here = demand-2 sizes start lent three-slots calls premises
 
-dropping-kept : Premises sizes (after dropping .log)
+pub dropping-kept : Premises sizes (after dropping .log)
 dropping-kept = earlier to-end dropping premises
 
 served-kept : Premises sizes (after served .log)
 served-kept = earlier to-dropping served dropping-kept
 
-halfway-kept : Premises sizes (after halfway .log)
+pub halfway-kept : Premises sizes (after halfway .log)
 halfway-kept = earlier to-served halfway served-kept
 
-answering-kept : Premises sizes (after answering .log)
+pub answering-kept : Premises sizes (after answering .log)
 answering-kept = earlier to-halfway answering halfway-kept
 
 -- ---- product and system, at the end of the list
@@ -267,7 +282,8 @@ newest-done (did x ∷ l) n e h = go (ℕ-discrete (x .name) n) h (newest-done l
     same : some x ≡ some e → x ≡ e
     same h = cc
 
-    go : (c : Dec (x .name ≡ n)) → choose c (some x) (newest l n) ≡ some e → (newest l n ≡ some e → WasDone e l × (e .name ≡ n)) → WasDone e (did x ∷ l) × (e .name ≡ n)
+    go : (c : Dec (x .name ≡ n)) → choose c (some x) (newest l n) ≡ some e → (newest l n ≡ some e → WasDone e l × (e .name ≡ n))
+        → WasDone e (did x ∷ l) × (e .name ≡ n)
     go (yes p) h rec = (inl (same h), subst (λ (e : Did). e .name ≡ n) (same h) p)
     go (no p) h rec = let r = rec h in (inr (r .0), r .1)
 
@@ -299,8 +315,12 @@ sent-last o role t kind n a h hr ht hk = go (newest (o .log) n) refl h
 -- ---- steps and dealings that keep to the rules
 
 -- before the blinder and the second left begin
-answering-facts : (sentIn (newest (after answering .log) 1) ≡ some (msg 1 (system-terms 2) (3 ∷ 1 ∷ []))) × (view (after answering .log) 1 .role ≡ solver) × (view (after answering .log) 1 .terms ≡ system-terms 2)
-    × (sentIn (newest (after answering .log) 2) ≡ some (msg 1 (ten-terms 3) (6 ∷ 4 ∷ []))) × (view (after answering .log) 2 .role ≡ right) × (view (after answering .log) 2 .terms ≡ ten-terms 3)
+answering-facts : (sentIn (newest (after answering .log) 1) ≡ some (msg 1 (system-terms 2) (3 ∷ 1 ∷ [])))
+    × (view (after answering .log) 1 .role ≡ solver)
+    × (view (after answering .log) 1 .terms ≡ system-terms 2)
+    × (sentIn (newest (after answering .log) 2) ≡ some (msg 1 (ten-terms 3) (6 ∷ 4 ∷ [])))
+    × (view (after answering .log) 2 .role ≡ right)
+    × (view (after answering .log) 2 .terms ≡ ten-terms 3)
     × Lies (place (after answering .log) first 1) first (a-system 2) none × Lies (place (after answering .log) first 2) first (a-ten 3) none
     × Taken blinder (system-terms 2) ((1 ∷ []) ∷ (1 ∷ []) ∷ []) × Taken left (ten-terms 3) ((3 ∷ 7 ∷ []) ∷ [])
     × (scratchSize (system-terms 2) ≡ 3) × (length (after answering .state .scratches 3) ≡ 4) × (length (residuesOf 5 (2 ∷ 1 ∷ 2 ∷ [])) ≡ 3)
@@ -309,7 +329,7 @@ answering-facts : (sentIn (newest (after answering .log) 1) ≡ some (msg 1 (sys
 unfolding sumTo tabulate zeros addMod subMod matAdd matSub dotTo dot matMul both parts join cols beside noDivisor isPrime inverseBy inverse swapAt swapRows scaleRow clearColumn pivotFrom pivot step eliminateFrom eliminate regular solution dealB sendY sendX sendR rightShare dealV solverShare sendF sendW sendC sumMatrix over writtenAt given clear judgeBy judge isKept residueOf residuesOf drawn wordsRead drawTests within columns allBelow fieldFits sidesFit shapeTests termsTests inputTests roomTests isSlot slotWords poolWith headerWords bodySize tapeSize statusOf withStatus spent body matrices wordsInUse wordsSpent slotTests halfTests tapeTests bodyTests drawSize drawnParts dealtB dealtV isFree dealTests dealtOver dealtEffect deal kindSort messageLayout messageSize messageParts messageTests dueTests firstTests isOpen openTests laterTests rightFirstEffect rightFirstTests rightFirst leftEffect leftTests leftStep rightLastEffect rightLastTests rightLast padded sideSize keptS keptM keptY scratchSize keptTests blinderTests solverTests coinsOf scratchParts regularTests jointSum solverFirstEffect solverFirstTests solverFirst blinderFirstEffect blinderFirstTests blinderFirst solverSecondEffect solverSecondTests solverSecond blinderSecondEffect blinderSecondTests blinderSecond solverLastEffect solverLastTests solverLast blinderLastEffect blinderLastTests blinderLast dropRight dropSolver dropBlinder said runFirst runLater here halfRole half ℕ-discrete
 answering-facts = (refl, refl, refl, refl, refl, refl, (refl, refl, refl), (refl, refl, refl), refl, refl, refl, refl, refl, refl, refl, refl, refl)
 
-pub blinder-taken : TakenNow sizes (after answering) first 1 3 4 (begins (system-terms 2) blinder-begins)
+pub blinder-taken : TakenNow sizes (after answering) first 1 3 (begunIn (after answering .log)) (begins (system-terms 2) blinder-begins)
 blinder-taken =
     let f = answering-facts in
     let d = lies _ _ _ _ (f .6) in
@@ -323,7 +343,7 @@ blinder-taken =
       f .13,
     )
 
-pub left-taken : TakenNow sizes (after answering) first 2 0 5 (begins (ten-terms 3) left-answers)
+pub left-taken : TakenNow sizes (after answering) first 2 0 (begunIn (after answering .log)) (begins (ten-terms 3) left-answers)
 left-taken =
     let f = answering-facts in
     let d = lies _ _ _ _ (f .7) in
@@ -332,11 +352,18 @@ left-taken =
     (f .9, sent-last (after answering) left (ten-terms 3) 1 2 _ (f .3) (f .4) (f .5) refl, omega (arith, f .15), omega arith, omega (arith, f .16))
 
 -- halfway: message 2 of the first product and message 3 of the system are under way
-halfway-facts : (sentIn (newest (after halfway .log) 3) ≡ some (msg 2 (product-terms 1) (4 ∷ 2 ∷ 3 ∷ []))) × (view (after halfway .log) 3 .role ≡ left) × (view (after halfway .log) 3 .terms ≡ product-terms 1)
-    × (sentIn (newest (after halfway .log) 1) ≡ some (msg 3 (system-terms 2) (4 ∷ []))) × (view (after halfway .log) 1 .role ≡ solver) × (view (after halfway .log) 1 .terms ≡ system-terms 2)
+halfway-facts : (sentIn (newest (after halfway .log) 3) ≡ some (msg 2 (product-terms 1) (4 ∷ 2 ∷ 3 ∷ [])))
+    × (view (after halfway .log) 3 .role ≡ left)
+    × (view (after halfway .log) 3 .terms ≡ product-terms 1)
+    × (sentIn (newest (after halfway .log) 1) ≡ some (msg 3 (system-terms 2) (4 ∷ [])))
+    × (view (after halfway .log) 1 .role ≡ solver)
+    × (view (after halfway .log) 1 .terms ≡ system-terms 2)
     × Lies (place (after halfway .log) first 0) second (a-product 1) (some 0) × Lies (place (after halfway .log) first 1) first (a-system 2) (some 4)
     × (view (after halfway .log) 0 .terms ≡ product-terms 1) × (view (after halfway .log) 4 .terms ≡ system-terms 2)
-    × (dueIn (after halfway .state .sessions 0) ≡ 2) × (dueIn (after halfway .state .sessions 4) ≡ 3) × (lentTo (after halfway .log) 4 ≡ 3) × (messageSize 4 (system-terms 2) ≡ 2)
+    × (dueIn (after halfway .state .sessions 0) ≡ 2)
+    × (dueIn (after halfway .state .sessions 4) ≡ 3)
+    × (lentTo (after halfway .log) 4 ≡ 3)
+    × (messageSize 4 (system-terms 2) ≡ 2)
     × (view (after halfway .log) 4 .role ≡ blinder)
 unfolding sumTo tabulate zeros addMod subMod matAdd matSub dotTo dot matMul both parts join cols beside noDivisor isPrime inverseBy inverse swapAt swapRows scaleRow clearColumn pivotFrom pivot step eliminateFrom eliminate regular solution dealB sendY sendX sendR rightShare dealV solverShare sendF sendW sendC sumMatrix over writtenAt given clear judgeBy judge isKept residueOf residuesOf drawn wordsRead drawTests within columns allBelow fieldFits sidesFit shapeTests termsTests inputTests roomTests isSlot slotWords poolWith headerWords bodySize tapeSize statusOf withStatus spent body matrices wordsInUse wordsSpent slotTests halfTests tapeTests bodyTests drawSize drawnParts dealtB dealtV isFree dealTests dealtOver dealtEffect deal kindSort messageLayout messageSize messageParts messageTests dueTests firstTests isOpen openTests laterTests rightFirstEffect rightFirstTests rightFirst leftEffect leftTests leftStep rightLastEffect rightLastTests rightLast padded sideSize keptS keptM keptY scratchSize keptTests blinderTests solverTests coinsOf scratchParts regularTests jointSum solverFirstEffect solverFirstTests solverFirst blinderFirstEffect blinderFirstTests blinderFirst solverSecondEffect solverSecondTests solverSecond blinderSecondEffect blinderSecondTests blinderSecond solverLastEffect solverLastTests solverLast blinderLastEffect blinderLastTests blinderLast dropRight dropSolver dropBlinder said runFirst runLater here halfRole half ℕ-discrete
 halfway-facts = (refl, refl, refl, refl, refl, refl, (refl, refl, refl), (refl, refl, refl), refl, refl, refl, refl, refl, refl, refl)
@@ -408,7 +435,7 @@ drop-taken =
     demand-2 sizes start lent three-slots dropping dropping-kept .later-taken solver-drop second 0 0 6 (d .0) (d .1) (role-there second first (d .0) (a-system 4) (d .2) (d .3))
     (λ e. other-role e (λ e. cc)) (omega (arith, dropping-facts .1))
 
--- ---- what stands behind the views, halfway
+-- ---- what stands behind the views
 
 -- left of the second product is session 5 and right session 2, which awaits message 2; the blinder, session 4, awaits message 3
 halfway-ends : Ends-here (after halfway) left 5 2 3 ((6 ∷ 4 ∷ []) ∷ []) ((6 ∷ 4 ∷ []) ∷ []) [] ((9 ∷ 8 ∷ 7 ∷ 8 ∷ 3 ∷ 3 ∷ []) ∷ [])
@@ -430,16 +457,26 @@ turned o r n n′ e c = record { begun = c .other-begun; other-begun = c .begun;
 turned-far : (v v′ : View) → SoFar v v′ → SoFar v′ v
 turned-far v v′ f = record { there = f .back; back = f .there }
 
--- all four roles
-pub stood-halfway : Stood (view (after halfway .log) 5) (view (after halfway .log) 2) × Stood (view (after halfway .log) 2) (view (after halfway .log) 5)
-    × Stood (view (after halfway .log) 4) (view (after halfway .log) 1) × Stood (view (after halfway .log) 1) (view (after halfway .log) 4)
-stood-halfway =
-    let p = paired (after halfway) left 5 2 3 _ _ _ _ (halfway-ends .0) in
-    let f = so-far (after halfway) left 5 2 3 _ _ _ _ (halfway-ends .0) refl refl in
-    let p′ = paired (after halfway) blinder 4 1 2 _ _ _ _ (halfway-ends .1) in
-    let f′ = so-far (after halfway) blinder 4 1 2 _ _ _ _ (halfway-ends .1) refl refl in (
-      halfway-right .stood left 5 2 p f,
-      halfway-right .stood right 2 5 (turned (after halfway) left 5 2 refl p) (turned-far _ _ f),
-      halfway-right .stood blinder 4 1 p′ f′,
-      halfway-right .stood solver 1 4 (turned (after halfway) blinder 4 1 refl p′) (turned-far _ _ f′),
-    )
+-- from both sides
+stood-both : (o : World) → Demand2 sizes o → (r : Role) (n n′ i : ℕ) (a sent′ b sent : List (List ℕ)) → facing (facing r) ≡ r → Ends-here o r n n′ i a sent′ b sent
+    → a ≡ take (length a) sent′ → b ≡ take (length b) sent → Stood (view (o .log) n) (view (o .log) n′) × Stood (view (o .log) n′) (view (o .log) n)
+stood-both o d r n n′ i a sent′ b sent e h ea eb =
+    let p = paired o r n n′ i a sent′ b sent h in
+    let f = so-far o r n n′ i a sent′ b sent h ea eb in
+    (d .stood r n n′ p f, d .stood (facing r) n′ n (turned o r n n′ e p) (turned-far _ _ f))
+
+-- all four roles, with messages under way
+pub stood-halfway : (Stood (view (after halfway .log) 5) (view (after halfway .log) 2) × Stood (view (after halfway .log) 2) (view (after halfway .log) 5))
+    × (Stood (view (after halfway .log) 4) (view (after halfway .log) 1) × Stood (view (after halfway .log) 1) (view (after halfway .log) 4))
+stood-halfway = (
+  stood-both (after halfway) halfway-right left 5 2 3 _ _ _ _ refl (halfway-ends .0) refl refl,
+  stood-both (after halfway) halfway-right blinder 4 1 2 _ _ _ _ refl (halfway-ends .1) refl refl,
+)
+
+-- and at the end
+pub stood-ended : (Stood (view (after calls .log) 3) (view (after calls .log) 0) × Stood (view (after calls .log) 0) (view (after calls .log) 3))
+    × (Stood (view (after calls .log) 4) (view (after calls .log) 1) × Stood (view (after calls .log) 1) (view (after calls .log) 4))
+stood-ended = (
+  stood-both (after calls) right-here left 3 0 1 _ _ _ _ refl (ends .0) refl refl,
+  stood-both (after calls) right-here blinder 4 1 2 _ _ _ _ refl (ends .2) refl refl,
+)

@@ -21,6 +21,7 @@
 -- Rightness         demand 2
 -- Example           a list in which every kind of call is accepted and refused
 -- Interleaved       two products and a system interleaved: every field of demand 2 is met
+-- Counts            how many completions its views have
 pub mod Words
 pub mod Steps
 pub mod Facts
@@ -46,3 +47,4 @@ pub mod Stood
 pub mod Rightness
 pub mod Example
 pub mod Interleaved
+pub mod Counts

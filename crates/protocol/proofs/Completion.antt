@@ -4,13 +4,13 @@
 use mathlib.Core.Path.{_≡_, refl, sym, ap, ap₂, _∙_, subst}
 use mathlib.Core.Bool.{Bool, true}
 use mathlib.Core.List.{List, [], _∷_}
-use Prim.Native.Nat.{ℕ, _+_, _≤_}
+use Prim.Native.Nat.{ℕ, _+_, _*_, _≤_}
 use native.Mathlib.Omega.{arith}
 use lib.ListN.{length}
 use borrow.Author.Tests.{eqb-true}
 use Rattle.algebra.specs.Matrix.{Residues}
 use Rattle.algebra.specs.Count.{bit, eqList, parts, part, total}
-use Rattle.algebra.specs.Elimination.{regular}
+use Rattle.algebra.specs.Elimination.{regular, units}
 use Rattle.algebra.proofs.Tests.{and-left, and-right, is-false, eqList-eq, eqList-of}
 use Rattle.algebra.proofs.Parts.{Fits, none, _then_}
 use Rattle.protocol.specs.declared.SessionId.{SessionId}
@@ -25,7 +25,8 @@ use Rattle.protocol.proofs.Tests.{TermsFit}
 use Rattle.protocol.proofs.SystemEnds.{systemTerms}
 use Rattle.protocol.proofs.CompletionLaws.{halfSlot, viewOf, nothing-received}
 use Rattle.protocol.proofs.CompletionProduct.{left-one, right-one}
-use Rattle.protocol.proofs.CompletionSolver.{solver-open, solver-same}
+use Rattle.protocol.proofs.CompletionSolver.{solver-same}
+use Rattle.protocol.proofs.CompletionOpen.{solver-heard}
 use Rattle.protocol.proofs.CompletionBlinder.{blinder-started, blinder-heard, blinder-ended}
 
 -- ---- the views that can arise
@@ -69,7 +70,7 @@ pub record Arises (v : View) : Type 0 where
 
 -- ---- products
 
-never : {A : Type 0} {a b : Role} → a ≡ b → (a ≡ b → _≡_ {A = ℕ} 0 1) → A
+pub never : {A : Type 0} {a b : Role} → a ≡ b → (a ≡ b → _≡_ {A = ℕ} 0 1) → A
 never e f = absurd (omega (arith, f e))
 
 left-secret : (t : Terms) (input half : List (List ℕ)) (coins : List ℕ) (sent received : List (List ℕ)) → TermsFit product t
@@ -135,12 +136,17 @@ solver-secret session tape q n input half coins sent received terms fits s no-mo
 }
 solver-secret session tape q n input half coins sent received terms fits no-more (r before m) turn kept = absurd (omega (arith, turn))
 solver-secret session tape q n input half coins sent received terms fits (_before_ {a = b1} {as′ = later} r1 s) (_before_ {a = m2} r2 no-more) turn kept = record {
-  unfinished = λ u i j ci cj. solver-open session tape q n terms input coins b1 m2 later r1 half fits i j (ci .taken) (cj .taken);
+  unfinished = λ u i j ci cj. as-many half fits i (ci .taken) ∙ sym (as-many half fits j (cj .taken));
   finished-product = λ e. not-product e;
   finished-blinder = λ e. never e (λ e. cc);
   other-solution = λ e. never e (λ e. cc);
   finished-solver = λ e f. absurd (omega (arith, f));
 }
+  where
+    as-many : (half : List (List ℕ)) → Fits q (layout solver n n (n + 1)) half → (i : List (List ℕ)) → Taken blinder (systemTerms session tape q n) i
+        → completions (viewOf solver (systemTerms session tape q n) input half coins (b1 ∷ later) (m2 ∷ [])) i ≡ units q n * units q n
+    as-many half (_then_ {l = y0} ry (_then_ {l = b0} rb (_then_ {l = r} rr (_then_ {l = v} rv none)))) i ti =
+        solver-heard session tape q n terms input coins y0 b0 r v (ry then rb then rr then rv then none) b1 m2 later r1 r2 i ti
 solver-secret session tape q n input half coins sent received terms fits (r1 before no-more) (r2 before r4 before no-more) turn kept = absurd (omega (arith, turn))
 solver-secret session tape q n input half coins sent received terms (_then_ {l = y0} ry (_then_ {l = b0} rb (_then_ {l = r} rr (_then_ {l = v} rv none))))
     (_before_ {a = b1} r1 (_before_ {a = b3} {as′ = later} r3 s)) (_before_ {a = m2} r2 (_before_ {a = m4} r4 no-more)) turn kept = record {

@@ -3,17 +3,21 @@
 -- right-sends, left-sends   what the ends' steps send
 -- left-one                  left's view: exactly one completion for each input of right
 -- right-one                 right's view after message 2: exactly one for each input of left
-use mathlib.Core.Path.{_≡_, refl, _∙_}
+-- right-waiting             and before it, a number
+use mathlib.Core.Path.{_≡_, refl, sym, ap, _∙_}
+use mathlib.Core.Bool.{Bool, true}
 use mathlib.Core.List.{List, [], _∷_, append-nil}
-use Prim.Native.Nat.{ℕ, _*_, _<_}
+use Prim.Native.Nat.{ℕ, _+_, _*_, _^_, _<_}
 use native.Mathlib.Nat.{le-refl}
 use native.Mathlib.Omega.{arith}
-use Rattle.algebra.specs.Matrix.{Residues}
-use Rattle.algebra.specs.Count.{both, parts, part, join}
-use Rattle.algebra.specs.Product.{sendY, sendX, sendR}
+use Rattle.algebra.specs.Matrix.{Residues, matSub, matMul}
+use Rattle.algebra.specs.Count.{both, eqList, parts, part, join}
+use Rattle.algebra.specs.Product.{dealB, sendY, sendX, sendR}
 use Rattle.algebra.proofs.Views.{givesRight, givesLeft, rightCompletions, leftCompletions}
 use Rattle.algebra.proofs.Lists.{add-residues, sub-residues}
-use Rattle.algebra.proofs.Parts.{Fits, none, _then_}
+use Rattle.algebra.proofs.Matrix.{sub-sub}
+use Rattle.algebra.proofs.Tests.{eqList-eq, eqList-of}
+use Rattle.algebra.proofs.Parts.{Fits, none, _then_, parts-transfer, parts-all}
 use Rattle.algebra.proofs.Product.{left-secrecy, right-secrecy}
 use Rattle.protocol.specs.declared.Terms.{Terms}
 use Rattle.protocol.specs.Judge.{done}
@@ -155,3 +159,48 @@ module _ (t : Terms) (terms : TermsFit product t) (input : List (List ℕ)) (coi
       same-count (t .q) (t .m * t .k ∷ t .m * t .p ∷ t .m * t .p ∷ []) _ _ (right-same y0 b0 ry)
       ∙ right-secrecy (t .q) (t .m) (t .k) (t .p) (h0 t terms) y0 b0 y1-sent x1-received r1-received (part 0 i) r
       x1-residues r1-residues
+
+-- ---- right's view before message 2
+
+module _ (t : Terms) (terms : TermsFit product t) (input : List (List ℕ)) (coins : List ℕ) (sent i : List (List ℕ)) where
+  -- A0 is what X0 leaves
+  abbrev aOf : (y0 b0 x0 : List ℕ) → List ℕ
+  aOf y0 b0 x0 = matSub (t .q) (t .m * t .p) (matMul (t .q) (t .m) (t .k) (t .p) x0 y0) b0
+
+  abbrev dealtTest : (y0 b0 : List ℕ) → List (List ℕ) → Bool
+  dealtTest y0 b0 ls = eqList b0 (dealB (t .q) (t .m) (t .k) (t .p) (part 0 ls) y0 (part 1 ls))
+
+  waiting-same : (y0 b0 : List ℕ) → Residues (t .q) (t .k * t .p) y0 → (ls : List (List ℕ)) → Fits (t .q) (t .m * t .k ∷ t .m * t .p ∷ t .m * t .p ∷ []) ls
+      → isCompletion (viewOf right t input (y0 ∷ b0 ∷ []) coins sent []) i ls ≡ dealtTest y0 b0 ls
+  unfolding isCompletion both eqLists
+  waiting-same y0 b0 ry ls (_then_ {l = x0} rx (_then_ {l = a0} r (_then_ {l = u} ru none))) = rw (right-dealt t terms x0 y0 a0 rx ry r b0) (simp both-true)
+
+  pub right-waiting : (half : List (List ℕ)) → Fits (t .q) (layout right (t .m) (t .k) (t .p)) half
+      → completions (viewOf right t input half coins sent []) i ≡ t .q ^ (t .m * t .k + t .m * t .p)
+  unfolding completions dealB
+  right-waiting half (_then_ {l = y0} ry (_then_ {l = b0} rb none)) =
+      same-count (t .q) (t .m * t .k ∷ t .m * t .p ∷ t .m * t .p ∷ []) _ _ (waiting-same y0 b0 ry)
+      ∙ parts-transfer (t .q) (t .m * t .k ∷ t .m * t .p ∷ t .m * t .p ∷ []) (t .m * t .k ∷ t .m * t .p ∷ []) (dealtTest y0 b0) (λ ls. true)
+      (λ ls. part 0 ls ∷ part 2 ls ∷ []) (λ ls. part 0 ls ∷ aOf y0 b0 (part 0 ls) ∷ part 1 ls ∷ [])
+      (record { fits = λ ls f e. to-fits ls f; passes = λ ls f e. refl; back = to-back })
+      (record { fits = λ ls f e. from-fits ls f; passes = λ ls f e. from-passes ls f; back = λ ls f e. from-back ls f })
+      ∙ parts-all (t .q) (t .m * t .k ∷ t .m * t .p ∷ [])
+    where
+      to-fits : (ls : List (List ℕ)) → Fits (t .q) (t .m * t .k ∷ t .m * t .p ∷ t .m * t .p ∷ []) ls → Fits (t .q) (t .m * t .k ∷ t .m * t .p ∷ []) (part 0 ls ∷ part 2 ls ∷ [])
+      to-fits ls (rx then r then ru then none) = rx then ru then none
+
+      to-back : (ls : List (List ℕ)) → Fits (t .q) (t .m * t .k ∷ t .m * t .p ∷ t .m * t .p ∷ []) ls → dealtTest y0 b0 ls ≡ true
+          → part 0 ls ∷ aOf y0 b0 (part 0 ls) ∷ part 2 ls ∷ [] ≡ ls
+      to-back ls (_then_ {l = x0} rx (_then_ {l = a0} r (_then_ {l = u} ru none))) e =
+          ap (λ (a : List ℕ). x0 ∷ a ∷ u ∷ [])
+          (ap (matSub (t .q) (t .m * t .p) (matMul (t .q) (t .m) (t .k) (t .p) x0 y0)) (eqList-eq _ _ e) ∙ sub-sub (h0 t terms) (matMul (t .q) (t .m) (t .k) (t .p) x0 y0) r)
+
+      from-fits : (ls : List (List ℕ)) → Fits (t .q) (t .m * t .k ∷ t .m * t .p ∷ []) ls
+          → Fits (t .q) (t .m * t .k ∷ t .m * t .p ∷ t .m * t .p ∷ []) (part 0 ls ∷ aOf y0 b0 (part 0 ls) ∷ part 1 ls ∷ [])
+      from-fits ls (rx then ru then none) = rx then sub-residues (h0 t terms) (t .m * t .p) _ _ then ru then none
+
+      from-passes : (ls : List (List ℕ)) → Fits (t .q) (t .m * t .k ∷ t .m * t .p ∷ []) ls → dealtTest y0 b0 (part 0 ls ∷ aOf y0 b0 (part 0 ls) ∷ part 1 ls ∷ []) ≡ true
+      from-passes ls f = eqList-of (sym (sub-sub (h0 t terms) (matMul (t .q) (t .m) (t .k) (t .p) (part 0 ls) y0) rb))
+
+      from-back : (ls : List (List ℕ)) → Fits (t .q) (t .m * t .k ∷ t .m * t .p ∷ []) ls → part 0 ls ∷ part 1 ls ∷ [] ≡ ls
+      from-back ls (rx then ru then none) = refl

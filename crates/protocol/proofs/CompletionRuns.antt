@@ -1,8 +1,11 @@
 -- Completions of small views, computed from the definitions: the dealer and the steps run on every tape and coins. Assumes nothing.
 -- product-view   right's, after message 2: one completion for each input of left
 -- system-view    the blinder's, after message 5: one for an input of the solver with the solution seen, none for another
+-- early          the same views while the session is unfinished
 use mathlib.Core.Path.{_≡_, refl}
 use mathlib.Core.List.{[], _∷_}
+use Prim.Native.Nat.{ℕ}
+use lib.ListN.{take}
 use Rattle.algebra.specs.Matrix.{sumTo, tabulate, zeros, addMod, subMod, matAdd, matSub, dotTo, dot, matMul}
 use Rattle.algebra.specs.Count.{sumLists, count, countParts, both, eqList, parts, join}
 use Rattle.algebra.specs.Columns.{cols, beside}
@@ -52,3 +55,14 @@ pub small-counts : completions product-view ((0 ∷ []) ∷ []) ∷ completions 
     ∷ completions system-view ((1 ∷ []) ∷ (2 ∷ []) ∷ []) ∷ completions system-view ((1 ∷ []) ∷ (0 ∷ []) ∷ []) ∷ [] ≡ 1 ∷ 1 ∷ 1 ∷ 0 ∷ []
 unfolding sumTo tabulate zeros addMod subMod matAdd matSub dotTo dot matMul both eqList parts join cols beside noDivisor isPrime inverseBy inverse swapAt swapRows scaleRow clearColumn pivotFrom pivot step eliminateFrom eliminate regular solution dealB sendY sendX sendR rightShare dealV solverShare sendF sendW sendC sumMatrix given clear judgeBy judge isKept residueOf residuesOf drawn wordsRead drawTests within columns allBelow fieldFits sidesFit shapeTests termsTests inputTests roomTests over writtenAt isSlot slotWords poolWith headerWords bodySize tapeSize statusOf withStatus spent body matrices wordsInUse wordsSpent slotTests halfTests tapeTests bodyTests drawSize drawnParts dealtB dealtV isFree dealTests dealtOver dealtEffect deal kindSort messageLayout messageSize messageParts messageTests dueTests firstTests isOpen openTests laterTests rightFirstEffect rightFirstTests rightFirst leftEffect leftTests leftStep rightLastEffect rightLastTests rightLast padded sideSize keptS keptM keptY scratchSize keptTests blinderTests solverTests coinsOf scratchParts regularTests jointSum solverFirstEffect solverFirstTests solverFirst blinderFirstEffect blinderFirstTests blinderFirst solverSecondEffect solverSecondTests solverSecond blinderSecondEffect blinderSecondTests blinderSecond solverLastEffect solverLastTests solverLast blinderLastEffect blinderLastTests blinderLast sumLists count countParts wordsFor said andThen hearing rightMessages leftMessages solverMessages blinderMessages eqLists dealing holds dealtTogether isCompletion completions
 small-counts = refl
+
+-- ---- while the session is unfinished
+
+-- the same view when only the first messages have come
+abbrev early : View → (received sent : ℕ) → View
+early v n k = record { role = v .role; terms = v .terms; input = v .input; half = v .half; coins = v .coins; sent = take k (v .sent); received = take n (v .received) }
+
+-- right's before message 2: 2 ^ (1 + 1), whatever X is (proofs/CompletionNumbers has the numbers of all views)
+pub early-counts : completions (early product-view 0 1) ((0 ∷ []) ∷ []) ∷ completions (early product-view 0 1) ((1 ∷ []) ∷ []) ∷ [] ≡ 4 ∷ 4 ∷ []
+unfolding sumTo tabulate zeros addMod subMod matAdd matSub dotTo dot matMul both eqList parts join cols beside noDivisor isPrime inverseBy inverse swapAt swapRows scaleRow clearColumn pivotFrom pivot step eliminateFrom eliminate regular solution dealB sendY sendX sendR rightShare dealV solverShare sendF sendW sendC sumMatrix given clear judgeBy judge isKept residueOf residuesOf drawn wordsRead drawTests within columns allBelow fieldFits sidesFit shapeTests termsTests inputTests roomTests over writtenAt isSlot slotWords poolWith headerWords bodySize tapeSize statusOf withStatus spent body matrices wordsInUse wordsSpent slotTests halfTests tapeTests bodyTests drawSize drawnParts dealtB dealtV isFree dealTests dealtOver dealtEffect deal kindSort messageLayout messageSize messageParts messageTests dueTests firstTests isOpen openTests laterTests rightFirstEffect rightFirstTests rightFirst leftEffect leftTests leftStep rightLastEffect rightLastTests rightLast padded sideSize keptS keptM keptY scratchSize keptTests blinderTests solverTests coinsOf scratchParts regularTests jointSum solverFirstEffect solverFirstTests solverFirst blinderFirstEffect blinderFirstTests blinderFirst solverSecondEffect solverSecondTests solverSecond blinderSecondEffect blinderSecondTests blinderSecond solverLastEffect solverLastTests solverLast blinderLastEffect blinderLastTests blinderLast sumLists count countParts wordsFor said andThen hearing rightMessages leftMessages solverMessages blinderMessages eqLists dealing holds dealtTogether isCompletion completions
+early-counts = refl

@@ -1,7 +1,7 @@
--- The completions of the solver's view: as many for any two inputs of the blinder while the session is unfinished, and, once it is finished, for any two whose
--- solutions are both zero or both not. Assumes nothing.
--- solver-open   after message 2
--- solver-same   after message 4
+-- The completions of the solver's view of a finished session: as many for any two inputs of the blinder whose solutions are both zero or both not.
+-- Assumes nothing.
+-- solver-ended   they are as many as the pairs P, Q of algebra's proofs/Pairs
+-- solver-same    as many for two inputs
 use mathlib.Core.Path.{_≡_, refl, sym, ap, _∙_, subst}
 use mathlib.Core.Bool.{Bool, true}
 use mathlib.Core.Logic.{_↔_}
@@ -15,7 +15,7 @@ use Rattle.algebra.specs.Inverse.{hasInverse}
 use Rattle.algebra.specs.Prime.{isPrime}
 use Rattle.algebra.specs.Elimination.{regular, solution}
 use Rattle.algebra.specs.Product.{sendY, sendX, sendR}
-use Rattle.algebra.specs.System.{solverShare, sendF, sendW, sendC}
+use Rattle.algebra.specs.System.{solverShare, sendF, sendW, sendC, sumMatrix, sumVector}
 use Rattle.algebra.proofs.Views.{SolverView, givesSolver, solverCompletions}
 use Rattle.algebra.proofs.Lists.{add-residues, sub-residues}
 use Rattle.algebra.proofs.Tests.{and-left, and-right, and-both, same-test}
@@ -23,7 +23,8 @@ use Rattle.algebra.proofs.Parts.{Fits, none, _then_, parts-join}
 use Rattle.algebra.proofs.Prime.{prime-test}
 use Rattle.algebra.proofs.Elimination.{regular-inverse, solution-solves}
 use Rattle.algebra.proofs.Inverse.{hq}
-use Rattle.algebra.proofs.Solver.{HonestSolver, solver-view}
+use Rattle.algebra.proofs.Solver.{HonestSolver, completions-are-pairs, solver-view}
+use Rattle.algebra.proofs.Pairs.{pairs}
 use Rattle.protocol.specs.declared.SessionId.{SessionId}
 use Rattle.protocol.specs.declared.TapeId.{TapeId}
 use Rattle.protocol.specs.declared.Terms.{Terms}
@@ -39,7 +40,7 @@ use Rattle.protocol.proofs.SystemEnds.{systemTerms, columns-are}
 use Rattle.protocol.proofs.Tests.{TermsFit}
 use Rattle.protocol.proofs.CompletionDealt.{solver-dealt, blinder-held}
 use Rattle.protocol.proofs.CompletionLaws.{first-of, second-of, third-of, fourth-of, same-count, both-same, dealt-alone, message-fits, first-test, halfSlot, viewOf}
-use Rattle.protocol.proofs.CompletionSystem.{taken-pair, solver-sends-two, blinder-sends-one, blinder-sends-all}
+use Rattle.protocol.proofs.CompletionSystem.{taken-pair, solver-sends-two, blinder-sends-all}
 
 -- the tests of the dealer's rules, P, X1, R1, W and c, in algebra's order
 shuffle : (b v q p x1 r1 w c : Bool) → both (both q (both b v)) (both p (both (both x1 (both r1 true)) (both (both w (both c true)) true)))
@@ -84,34 +85,6 @@ module _ (session : SessionId) (tape : TapeId) (q n : ℕ) (terms : TermsFit sys
   solves a a′ b b′ h =
       let ra = add-residues (hq big) (n * n) a a′ in
       solution-solves (prime-test q prime) n ra (add-residues (hq big) (n * 1) b b′) (regular-inverse (prime-test q prime) n ra ∙ h)
-
-  -- ---- after message 2
-
-  module _ (input : List (List ℕ)) (coins b1 m2 : List ℕ) (sent : List (List ℕ)) (r1 : Residues q (messageSize 1 t) b1) where
-    -- what the blinder sends first is the same for any two inputs
-    open-same : (i j : List (List ℕ)) → Taken blinder t i → Taken blinder t j → (y0 b0 r v : List ℕ) → Residues q (n * (n + 1)) y0 → Residues q (n * n) r → (ls : List (List ℕ))
-        → Fits q (n * n ∷ n * (n + 1) ∷ n * n ∷ n * n ∷ n * n ∷ n * (n + 1) ∷ []) ls
-        → isCompletion (viewOf solver t input (y0 ∷ b0 ∷ r ∷ v ∷ []) coins (b1 ∷ sent) (m2 ∷ [])) i ls
-        ≡ isCompletion (viewOf solver t input (y0 ∷ b0 ∷ r ∷ v ∷ []) coins (b1 ∷ sent) (m2 ∷ [])) j ls
-    unfolding isCompletion
-    open-same i j ti tj y0 b0 r v ry rr ls (_then_ {l = x0} rx (_then_ {l = a0} ra (_then_ {l = qm} rq (_then_ {l = g} rg (_then_ {l = pm} rp (_then_ {l = u0} ru none)))))) =
-        both-same _ _ _ (λ d. both-same (regular q n pm) _ _ (λ p. ap (eqLists (m2 ∷ [])) (sends i ti d p ∙ sym (sends j tj d p))))
-      where
-        dealt : Judged Dealt
-        dealt = dealing system t (x0 ∷ y0 ∷ a0 ∷ qm ∷ r ∷ g ∷ [])
-
-        sends : (i : List (List ℕ)) → Taken blinder t i → dealtTogether solver t dealt (y0 ∷ b0 ∷ r ∷ v ∷ []) (x0 ∷ a0 ∷ qm ∷ g ∷ []) ≡ true → regular q n pm ≡ true
-            → take 1 (blinderMessages t (dealtSlot blinder t dealt) i (b1 ∷ sent) (wordsFor q (join (pm ∷ u0 ∷ []))))
-            ≡ join (sendX q n n (n + 1) pm x0 ∷ sendR q n n (n + 1) pm (part 0 (parts (messageLayout 1 n n (n + 1)) b1)) u0 a0 ∷ []) ∷ []
-        sends i ti d p =
-            blinder-sends-one session tape q n 1 terms x0 a0 qm g _
-            (blinder-held t terms x0 y0 a0 qm r g rx ry ra rq rr rg refl b0 v d) i ti pm u0 b1 rp ru p r1 sent
-
-    pub solver-open : (half : List (List ℕ)) → Fits q (layout solver n n (n + 1)) half → (i j : List (List ℕ)) → Taken blinder t i → Taken blinder t j
-        → completions (viewOf solver t input half coins (b1 ∷ sent) (m2 ∷ [])) i ≡ completions (viewOf solver t input half coins (b1 ∷ sent) (m2 ∷ [])) j
-    unfolding completions
-    solver-open half (_then_ {l = y0} ry (_then_ {l = b0} rb (_then_ {l = r} rr (_then_ {l = v} rv none)))) i j ti tj =
-        same-count q _ _ _ (open-same i j ti tj y0 b0 r v ry rr)
 
   -- ---- after message 4
 
@@ -247,16 +220,27 @@ module _ (session : SessionId) (tape : TapeId) (q n : ℕ) (terms : TermsFit sys
           side-length : length (part 1 input) ≡ n * 1
           side-length = taken-pair t input own .side .size ∙ side-one
 
+      -- the completions are algebra's, and as many as pairs P, Q that blind the joint system as W + V and c + s do
+      counted : (i : List (List ℕ)) → Taken blinder t i
+          → completions (viewOf solver t input (y0 ∷ b0 ∷ r ∷ v ∷ []) coins (b1 ∷ b3 ∷ sent) (m2 ∷ m4 ∷ [])) i ≡ solverCompletions q n 1 (seen y0 b0 r v) (part 0 i) (part 1 i)
+      unfolding completions solverCompletions
+      counted i ti = same-count q _ _ _ (end-same i ti y0 b0 r v (first-of fits) (third-of fits))
+
+      pub solver-ended : (i : List (List ℕ)) → Taken blinder t i
+          → completions (viewOf solver t input (y0 ∷ b0 ∷ r ∷ v ∷ []) coins (b1 ∷ b3 ∷ sent) (m2 ∷ m4 ∷ [])) i
+          ≡ pairs q n 1 (matAdd q (n * n) (part 0 input) (part 0 i)) (matAdd q (n * 1) (part 1 input) (part 1 i)) (sumMatrix q n (part 0 (cut 4 m4)) v)
+          (sumVector q n 1 (part 1 (cut 4 m4)) (solverShare q n 1 (part 0 (cut 2 m2)) y0 (part 1 (cut 2 m2)) b0))
+      solver-ended i ti = counted i ti ∙ completions-are-pairs big (seen y0 b0 r v) (part 0 input) (part 1 input) (part 0 i) (part 1 i) honest
+
       pub solver-same : (i j : List (List ℕ)) → Taken blinder t i → Taken blinder t j
           → hasInverse q n (matAdd q (n * n) (part 0 input) (part 0 i)) ≡ true → hasInverse q n (matAdd q (n * n) (part 0 input) (part 0 j)) ≡ true
           → (solution q n (matAdd q (n * n) (part 0 input) (part 0 i)) (matAdd q (n * 1) (part 1 input) (part 1 i)) ≡ zeros (n * 1))
           ↔ (solution q n (matAdd q (n * n) (part 0 input) (part 0 j)) (matAdd q (n * 1) (part 1 input) (part 1 j)) ≡ zeros (n * 1))
           → completions (viewOf solver t input (y0 ∷ b0 ∷ r ∷ v ∷ []) coins (b1 ∷ b3 ∷ sent) (m2 ∷ m4 ∷ [])) i
           ≡ completions (viewOf solver t input (y0 ∷ b0 ∷ r ∷ v ∷ []) coins (b1 ∷ b3 ∷ sent) (m2 ∷ m4 ∷ [])) j
-      unfolding completions solverCompletions
       solver-same i j ti tj hi hj w =
           let s = solves (part 0 input) (part 0 i) (part 1 input) (part 1 i) hi in
           let s′ = solves (part 0 input) (part 0 j) (part 1 input) (part 1 j) hj in
-          same-count q _ _ _ (end-same i ti y0 b0 r v (first-of fits) (third-of fits))
+          counted i ti
           ∙ solver-view (seen y0 b0 r v) (part 0 input) (part 1 input) (part 0 i) (part 1 i) _ (part 0 j) (part 1 j) _ prime honest hi hj (s .0) (s′ .0) (s .1) (s′ .1) w
-          ∙ sym (same-count q _ _ _ (end-same j tj y0 b0 r v (first-of fits) (third-of fits)))
+          ∙ sym (counted j tj)
