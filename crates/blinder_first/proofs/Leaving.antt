@@ -19,6 +19,7 @@ use Rattle.protocol.specs.Drawing.{wordsRead}
 use Rattle.protocol.specs.Tape.{Slot, blinder, slotWords, poolWith, matrices, wordsInUse}
 use Rattle.protocol.specs.Message.{Message, messageParts}
 use Rattle.protocol.specs.System.{padded, noBlinder, scratchSize, scratchParts, coinsOf, blinderFirstEffect, blinderFirstTests, blinderFirst}
+use Rattle.protocol.specs.Step.{answerReply}
 use Rattle.checks.specs.InOrder.{judged}
 use Rattle.session.specs.Leaves.{Leaves, leaves}
 use Rattle.session.proofs.Shape.{unknowns}
@@ -49,7 +50,7 @@ module _ (t : Terms) (s : Slot) (scratch mm y words : List ℕ) (a : Message) (s
       → scratch′ ≡ over (coinsOf t words) scratch
       → sent′ ≡ over (firstSent (t .q) (t .m) (t .p) (slotWords s) (a .residues) (coinsOf t words)) sent
       → _≡_ {A = Leaves BlinderSession}
-      (record { answer = Accepted count; session = x; head = record { kind = 2; terms = t }; pool = pool′; scratch = scratch′; sent = sent′; result = [] })
+      (record { answer = answerReply (Accepted count); session = x; head = record { kind = 2; terms = t }; pool = pool′; scratch = scratch′; sent = sent′; result = [] })
       (leaves noBlinder s scratch sent [] (blinderFirst t s (length scratch) mm y words a (length sent)))
   unfolding blinderFirst blinderFirstEffect over
   first-done h fits e c x p k o =

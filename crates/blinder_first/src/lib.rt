@@ -37,6 +37,7 @@ ghost use Rattle.protocol.specs.Drawing.{residuesOf, wordsRead, drawTests};
 ghost use Rattle.protocol.specs.Tape.{blinder, slotAt, tapeSize, wordsInUse};
 ghost use Rattle.protocol.specs.System.{noBlinder, scratchSize, coinsOf, blinderFirstTests, blinderFirst};
 ghost use Rattle.checks.specs.InOrder.{checked, judged, after};
+ghost use Rattle.protocol.specs.Step.{answerReply};
 ghost use Rattle.session.specs.Leaves.{Leaves, leaves};
 ghost use Rattle.blinder_first.specs.Groups.{firstLengths, firstWords, firstRegular};
 ghost use Rattle.blinder_first.specs.Shape.{FirstShape, Eliminable, firstSent};
@@ -200,7 +201,7 @@ pub fn blinder_first(
     out: &mut [u32],
 ) -> BlinderAnswer
     ensures { λ r. ⌜ _≡_ {A = Leaves BlinderSession}
-        (record { answer = r .answer; session = r .session; head = r .head; pool = now (pool .exit); scratch = now (scratch .exit); sent = now (out .exit); result = [] })
+        (record { answer = answerReply (r .answer); session = r .session; head = r .head; pool = now (pool .exit); scratch = now (scratch .exit); sent = now (out .exit); result = [] })
         (leaves noBlinder (slotAt (now (pool .entry)) size index) (now (scratch .entry)) (now (out .entry)) []
         (blinderFirst t (slotAt (now (pool .entry)) size index) (length (now (scratch .entry))) (now (mm .entry)) (now (y .entry)) (now (words .entry))
         (record { head = a; residues = now (residues .entry) }) (length (now (out .entry))))) ⌝ }

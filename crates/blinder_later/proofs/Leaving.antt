@@ -20,6 +20,7 @@ use Rattle.protocol.specs.Bounds.{sidesFit, system, columns}
 use Rattle.protocol.specs.Tape.{Slot, blinder, slotWords, poolWith, matrices, wordsSpent}
 use Rattle.protocol.specs.Message.{Message, noMessage, messageLayout, messageParts}
 use Rattle.protocol.specs.System.{sideSize, scratchSize, closedBlinder, blinderLastEffect, blinderLastTests, blinderLast}
+use Rattle.protocol.specs.Step.{answerReply}
 use Rattle.checks.specs.InOrder.{judged}
 use Rattle.session.specs.Leaves.{Leaves, leaves}
 use Rattle.session.proofs.Shape.{unknowns}
@@ -48,7 +49,7 @@ module _ (x : BlinderSession) (s : Slot) (scratch : List ℕ) (a : Message) (out
       → out′ ≡ over (matMul (x .terms .q) (x .terms .m) (x .terms .m) (x .terms .p - x .terms .m)
       (take (x .terms .m * x .terms .m) (drop (7 + (x .terms .m * x .terms .m + x .terms .m * x .terms .p)) (slotWords s))) (a .residues)) out
       → _≡_ {A = Leaves BlinderSession}
-      (record { answer = Accepted 0; session = y; head = h; pool = pool′; scratch = scratch′; sent = []; result = out′ })
+      (record { answer = answerReply (Accepted 0); session = y; head = h; pool = pool′; scratch = scratch′; sent = []; result = out′ })
       (leaves x s scratch [] out (blinderLast x s scratch a (length out)))
   unfolding blinderLast blinderLastEffect over columns
   last-done h fits e y n p k o =

@@ -24,6 +24,7 @@ ghost use Rattle.algebra.specs.Matrix.{zeros, matMul};
 ghost use Rattle.algebra.specs.Words.{over};
 ghost use Rattle.protocol.specs.Tape.{blinder, slotAt, wordsSpent};
 ghost use Rattle.protocol.specs.System.{scratchSize, blinderLast};
+ghost use Rattle.protocol.specs.Step.{answerReply};
 ghost use Rattle.session.specs.Leaves.{Leaves, leaves};
 ghost use Rattle.blinder_later.specs.Shape.{LastShape};
 
@@ -57,7 +58,7 @@ pub fn blinder_last(
     out: &mut [u32],
 ) -> BlinderAnswer
     ensures { λ r. ⌜ _≡_ {A = Leaves BlinderSession}
-        (record { answer = r .answer; session = r .session; head = r .head; pool = now (pool .exit); scratch = now (scratch .exit); sent = []; result = now (out .exit) })
+        (record { answer = answerReply (r .answer); session = r .session; head = r .head; pool = now (pool .exit); scratch = now (scratch .exit); sent = []; result = now (out .exit) })
         (leaves s (slotAt (now (pool .entry)) size index) (now (scratch .entry)) [] (now (out .entry))
         (blinderLast s (slotAt (now (pool .entry)) size index) (now (scratch .entry)) (record { head = a; residues = now (residues .entry) }) (length (now (out .entry))))) ⌝ }
 {

@@ -20,6 +20,7 @@ use Rattle.protocol.specs.Bounds.{sidesFit, system, columns}
 use Rattle.protocol.specs.Tape.{Slot, isSlot, blinder, slotWords, matrices}
 use Rattle.protocol.specs.Message.{Message, messageLayout, messageParts}
 use Rattle.protocol.specs.System.{keptM, keptY, scratchParts, blinderSecondEffect, blinderSecondTests, blinderSecond}
+use Rattle.protocol.specs.Step.{answerReply}
 use Rattle.checks.specs.InOrder.{judged}
 use Rattle.session.specs.Leaves.{Leaves, leaves}
 use Rattle.session.proofs.Shape.{unknowns}
@@ -66,7 +67,7 @@ module _ (x : BlinderSession) (s : Slot) (scratch : List ℕ) (a : Message) (sen
       → length (a .residues) ≡ x .terms .m * x .terms .m
       → sent′ ≡ over (secondSent (x .terms .q) (x .terms .m) (x .terms .p - x .terms .m) (slotWords s) scratch (keptM x) (keptY x) (a .residues)) sent
       → _≡_ {A = Leaves BlinderSession}
-      (record { answer = Accepted 0; session = record { terms = x .terms; due = 5; mm = x .mm; y = x .y }; head = record { kind = 4; terms = x .terms }; pool = s .pool; scratch = scratch; sent = sent′; result = [] })
+      (record { answer = answerReply (Accepted 0); session = record { terms = x .terms; due = 5; mm = x .mm; y = x .y }; head = record { kind = 4; terms = x .terms }; pool = s .pool; scratch = scratch; sent = sent′; result = [] })
       (leaves x s scratch sent [] (blinderSecond x s scratch a (length sent)))
   unfolding blinderSecond blinderSecondEffect over columns
   second-done h inside fits e o =

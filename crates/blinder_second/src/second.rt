@@ -18,6 +18,7 @@ ghost use lib.ListN.{length};
 ghost use Rattle.algebra.specs.Words.{over};
 ghost use Rattle.protocol.specs.Tape.{slotAt};
 ghost use Rattle.protocol.specs.System.{keptM, keptY, blinderSecond};
+ghost use Rattle.protocol.specs.Step.{answerReply};
 ghost use Rattle.session.specs.Leaves.{Leaves, leaves};
 ghost use Rattle.blinder_second.specs.Shape.{Lent, SecondShape, secondSent};
 
@@ -101,7 +102,7 @@ pub fn blinder_second(
     out: &mut [u32],
 ) -> BlinderAnswer
     ensures { λ r. ⌜ _≡_ {A = Leaves BlinderSession}
-        (record { answer = r .answer; session = r .session; head = r .head; pool = now (pool .entry); scratch = now (scratch .entry); sent = now (out .exit); result = [] })
+        (record { answer = answerReply (r .answer); session = r .session; head = r .head; pool = now (pool .entry); scratch = now (scratch .entry); sent = now (out .exit); result = [] })
         (leaves s (slotAt (now (pool .entry)) size index) (now (scratch .entry)) (now (out .entry)) []
         (blinderSecond s (slotAt (now (pool .entry)) size index) (now (scratch .entry)) (record { head = a; residues = now (residues .entry) }) (length (now (out .entry))))) ⌝ }
 {

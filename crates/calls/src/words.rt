@@ -16,9 +16,10 @@ use protocol::TapeId;
 use protocol::Terms;
 use vectors::write_copy;
 ghost use mathlib.Core.Path.{_≡_};
-ghost use Prim.Native.Nat.{_≤_};
+ghost use Prim.Native.Nat.{_%_, _≤_};
 ghost use lib.ListN.{length};
 ghost use Rattle.protocol.specs.Judge.{refusalNumber};
+ghost use Rattle.protocol.specs.Step.{answerNumber, answerRead};
 
 pub fn number_of(r: Refusal) -> u32
     ensures { λ n. ⌜ n ≡ refusalNumber r ⌝ }
@@ -38,7 +39,9 @@ pub fn number_of(r: Refusal) -> u32
 }
 
 // 0, or the number of the refusal.
-pub fn answered(a: Answer) -> u32 {
+pub fn answered(a: Answer) -> u32
+    ensures { λ r. ⌜ r ≡ answerNumber a ⌝ }
+{
     match a {
         Answer::Accepted(_) => 0,
         Answer::Refused(r) => number_of(r),
@@ -46,13 +49,18 @@ pub fn answered(a: Answer) -> u32 {
 }
 
 // A count as a word.
-pub fn low(n: usize) -> u32 {
+pub fn low(n: usize) -> u32
+    ensures { λ r. ⌜ r ≡ n % 4294967296 ⌝ }
+{
     (n % 4294967296) as u32
 }
 
-fn read_in(a: Answer) -> u32 {
+// The words read, and 0 at a refusal.
+fn read_in(a: Answer) -> usize
+    ensures { λ r. ⌜ r ≡ answerRead a ⌝ }
+{
     match a {
-        Answer::Accepted(n) => low(n),
+        Answer::Accepted(n) => n,
         Answer::Refused(_) => 0,
     }
 }
@@ -91,7 +99,7 @@ pub fn put_count(n: u32, h: Head, out: &mut [u32])
 pub fn put_report(a: Answer, h: Head, out: &mut [u32])
     requires { ⌜ 8 ≤ length (now out) ⌝ }
 {
-    put_count(read_in(a), h, out);
+    put_count(low(read_in(a)), h, out);
 }
 
 pub fn right_of(w: &[u32]) -> RightSession

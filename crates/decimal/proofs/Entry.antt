@@ -24,7 +24,7 @@ use Rattle.protocol.specs.Bounds.{within, roomTests}
 use Rattle.protocol.specs.declared.Numeral.{Numeral}
 use Rattle.protocol.specs.declared.Numeral.the-variants.{Empty, Value, Wrong}
 use Rattle.protocol.specs.Line.{withByte, endByte, prepend, endNumber, numbers, numbersOf, numbersInto}
-use Rattle.protocol.proofs.Judge.{accepts, same-refusal, some-number}
+use Rattle.protocol.proofs.Judge.{accepts, same-refusal, not-zero}
 use Rattle.decimal.specs.declared.Tally.{Tally}
 use Rattle.decimal.specs.declared.Tally.the-variants as tally
 use Rattle.decimal.specs.declared.Count.{Count}
@@ -155,6 +155,6 @@ into-done room s xs e h = rw e (accepts _ xs (le-leb (length xs) room h, tt))
 -- what the answer tells determines it
 pub count-same : (r s : Count) → countReply r ≡ countReply s → r ≡ s
 count-same (count.Words n) (count.Words m) e = ap count.Words (ap (λ (x : Reply ℕ). x .values) e)
-count-same (count.Words n) (count.Refused s) e = absurd (omega (arith, some-number s, ap (λ (x : Reply ℕ). x .number) e))
-count-same (count.Refused r) (count.Words m) e = absurd (omega (arith, some-number r, ap (λ (x : Reply ℕ). x .number) e))
+count-same (count.Words n) (count.Refused s) e = absurd (omega (arith, not-zero s, ap (λ (x : Reply ℕ). x .number) e))
+count-same (count.Refused r) (count.Words m) e = absurd (omega (arith, not-zero r, ap (λ (x : Reply ℕ). x .number) e))
 count-same (count.Refused r) (count.Refused s) e = ap count.Refused (same-refusal r s (ap (λ (x : Reply ℕ). x .number) e))

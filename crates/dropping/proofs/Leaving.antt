@@ -8,6 +8,7 @@ use Rattle.protocol.specs.Judge.{Test, done, judge}
 use Rattle.protocol.specs.Tape.{Slot, poolWith}
 use Rattle.protocol.specs.Message.{noMessage}
 use Rattle.protocol.specs.Drop.{dropped}
+use Rattle.protocol.specs.Step.{answerReply}
 use Rattle.checks.specs.InOrder.{judged}
 use Rattle.session.specs.Leaves.{Leaves, leaves}
 use Rattle.session.proofs.Leaving.{accepted-leaves}
@@ -17,7 +18,7 @@ pub drop-done : {S : Type 0} (x y : S) (s : Slot) (scratch words zeroed : List �
     → pool′ ≡ poolWith s words
     → scratch′ ≡ over zeroed scratch
     → _≡_ {A = Leaves S}
-    (record { answer = Accepted 0; session = y; head = noMessage .head; pool = pool′; scratch = scratch′; sent = []; result = [] })
+    (record { answer = answerReply (Accepted 0); session = y; head = noMessage .head; pool = pool′; scratch = scratch′; sent = []; result = [] })
     (leaves x s scratch [] [] (judge ts (dropped y words zeroed)))
 unfolding over
 drop-done x y s scratch words zeroed ts h p k = rw (p, k) (sym (accepted-leaves x s scratch [] [] ts (dropped y words zeroed) h))

@@ -28,6 +28,7 @@ ghost use Rattle.protocol.specs.Tape.{slotAt, slotWords, poolWith, tapeSize, wo
 ghost use Rattle.protocol.specs.Message.{noMessage};
 ghost use Rattle.protocol.specs.Drop.{dropRight, dropSolver, dropBlinder};
 ghost use Rattle.session.specs.Ends.{role, sort};
+ghost use Rattle.protocol.specs.Step.{answerReply};
 ghost use Rattle.session.specs.Leaves.{Leaves, leaves};
 
 // What a drop answers, and the session as it then is.
@@ -58,7 +59,7 @@ fn spend_at(end: End, t: Terms, pool: &mut [u32], size: usize, index: usize)
 
 pub fn right_drop(pool: &mut [u32], size: usize, index: usize, s: RightSession) -> RightDropped
     ensures { λ r. ⌜ _≡_ {A = Leaves RightSession}
-        (record { answer = r .answer; session = r .session; head = noMessage .head; pool = now (pool .exit); scratch = []; sent = []; result = [] })
+        (record { answer = answerReply (r .answer); session = r .session; head = noMessage .head; pool = now (pool .exit); scratch = []; sent = []; result = [] })
         (leaves s (slotAt (now (pool .entry)) size index) [] [] [] (dropRight s (slotAt (now (pool .entry)) size index))) ⌝ }
 {
     let t = s.terms;
@@ -78,7 +79,7 @@ pub fn right_drop(pool: &mut [u32], size: usize, index: usize, s: RightSession) 
 
 pub fn solver_drop(pool: &mut [u32], size: usize, index: usize, s: SolverSession) -> SolverDropped
     ensures { λ r. ⌜ _≡_ {A = Leaves SolverSession}
-        (record { answer = r .answer; session = r .session; head = noMessage .head; pool = now (pool .exit); scratch = []; sent = []; result = [] })
+        (record { answer = answerReply (r .answer); session = r .session; head = noMessage .head; pool = now (pool .exit); scratch = []; sent = []; result = [] })
         (leaves s (slotAt (now (pool .entry)) size index) [] [] [] (dropSolver s (slotAt (now (pool .entry)) size index))) ⌝ }
 {
     let t = s.terms;
@@ -109,7 +110,7 @@ pub fn blinder_drop(
     s: BlinderSession,
 ) -> BlinderDropped
     ensures { λ r. ⌜ _≡_ {A = Leaves BlinderSession}
-        (record { answer = r .answer; session = r .session; head = noMessage .head; pool = now (pool .exit); scratch = now (scratch .exit); sent = []; result = [] })
+        (record { answer = answerReply (r .answer); session = r .session; head = noMessage .head; pool = now (pool .exit); scratch = now (scratch .exit); sent = []; result = [] })
         (leaves s (slotAt (now (pool .entry)) size index) (now (scratch .entry)) [] [] (dropBlinder s (slotAt (now (pool .entry)) size index) (now (scratch .entry)))) ⌝ }
 {
     let t = s.terms;

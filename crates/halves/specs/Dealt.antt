@@ -3,20 +3,21 @@ use mathlib.Core.List.{List, [], _∷_, _++_}
 use Prim.Native.Nat.{ℕ, _*_}
 use Rattle.algebra.specs.Count.{part, parts, join}
 use Rattle.algebra.specs.Product.{dealB}
-use Rattle.protocol.specs.declared.Answer.{Answer}
-use Rattle.protocol.specs.Judge.{Judged}
+use Rattle.protocol.specs.Judge.{Judged, Reply}
+use Rattle.protocol.specs.Step.{answerReply}
 use Rattle.protocol.specs.Drawing.{residuesOf}
 use Rattle.protocol.specs.Tape.{headerWords, READY}
 use Rattle.protocol.specs.Deal.{Request, firstHalf, secondHalf, drawnParts, dealtB, dealtV, Dealt, dealAnswer, firstAfter, secondAfter}
 
 pub record Pools : Type 0 where
-  pub answer : Answer
+  -- its number, and the words read
+  pub answer : Reply ℕ
   pub first : List ℕ
   pub second : List ℕ
 
 -- from the pools as they were
 abbrev pub pools : (first second : List ℕ) → Judged Dealt → Pools
-pools first second d = record { answer = dealAnswer d; first = firstAfter first d; second = secondAfter second d }
+pools first second d = record { answer = answerReply (dealAnswer d); first = firstAfter first d; second = secondAfter second d }
 
 -- X0, Y0 and A0
 abbrev pub masksOf : (q m k p : ℕ) → List ℕ → List (List ℕ)

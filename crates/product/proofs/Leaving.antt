@@ -18,6 +18,7 @@ use Rattle.protocol.specs.Drawing.{drawn, wordsRead}
 use Rattle.protocol.specs.Tape.{Slot, left, right, poolWith, slotWords, matrices, wordsInUse, wordsSpent}
 use Rattle.protocol.specs.Message.{Message, noMessage, messageLayout, messageParts}
 use Rattle.protocol.specs.Product.{noRight, rightFirstEffect, rightFirstTests, rightFirst, leftEffect, leftTests, leftStep, rightLastEffect, rightLastTests, rightLast}
+use Rattle.protocol.specs.Step.{answerReply}
 use Rattle.checks.specs.InOrder.{judged}
 use Rattle.session.specs.Leaves.{Leaves, leaves}
 use Rattle.session.proofs.Leaving.{accepted-leaves}
@@ -38,7 +39,7 @@ pub first-done : (t : Terms) (s : Slot) (y sent : List ℕ) {pool′ sent′ : L
     → pool′ ≡ poolWith s (wordsInUse (slotWords s))
     → sent′ ≡ over (sendY (t .q) (t .m) (t .k) (t .p) y (part 0 (matrices right t (slotWords s)))) sent
     → _≡_ {A = Leaves RightSession}
-    (record { answer = Accepted 0; session = record { terms = t; due = 2 }; head = record { kind = 1; terms = t }; pool = pool′; scratch = []; sent = sent′; result = [] })
+    (record { answer = answerReply (Accepted 0); session = record { terms = t; due = 2 }; head = record { kind = 1; terms = t }; pool = pool′; scratch = []; sent = sent′; result = [] })
     (leaves noRight s [] sent [] (rightFirst t s y (length sent)))
 unfolding rightFirst rightFirstEffect join over
 first-done t s y sent h p o = rw (p, o) (sym (accepted-leaves noRight s [] sent [] _ (rightFirstEffect t s y) h ∙ simp append-nil))
@@ -53,7 +54,7 @@ module _ (t : Terms) (s : Slot) (x words : List ℕ) (a : Message) (sent share :
       ++ sendR (t .q) (t .m) (t .k) (t .p) x (a .residues) (drawn (t .q) (t .m * t .p) words) (part 1 (matrices left t (slotWords s)))) sent
       → share′ ≡ over (drawn (t .q) (t .m * t .p) words) share
       → _≡_ {A = Leaves Unit}
-      (record { answer = Accepted count; session = tt; head = record { kind = 2; terms = t }; pool = pool′; scratch = []; sent = sent′; result = share′ })
+      (record { answer = answerReply (Accepted count); session = tt; head = record { kind = 2; terms = t }; pool = pool′; scratch = []; sent = sent′; result = share′ })
       (leaves tt s [] sent share (leftStep t s x words a (length sent) (length share)))
   unfolding leftStep leftEffect join over
   left-done h y r p o u = rw (r, p, o, u) (sym (accepted-leaves tt s [] sent share _ (leftEffect t s x words a) h ∙ simp (append-nil, y)))
@@ -66,7 +67,7 @@ module _ (x : RightSession) (s : Slot) (a : Message) (share : List ℕ) where
       → share′ ≡ over (rightShare (x .terms .q) (x .terms .m) (x .terms .k) (x .terms .p) (take (x .terms .m * x .terms .k) (a .residues)) (part 0 (matrices right (x .terms) (slotWords s)))
       (drop (x .terms .m * x .terms .k) (a .residues)) (part 1 (matrices right (x .terms) (slotWords s)))) share
       → _≡_ {A = Leaves RightSession}
-      (record { answer = Accepted 0; session = record { terms = x .terms; due = 0 }; head = noMessage .head; pool = pool′; scratch = []; sent = []; result = share′ })
+      (record { answer = answerReply (Accepted 0); session = record { terms = x .terms; due = 0 }; head = noMessage .head; pool = pool′; scratch = []; sent = []; result = share′ })
       (leaves x s [] [] share (rightLast x s a (length share)))
   unfolding rightLast rightLastEffect over
   last-done h e p u =

@@ -31,6 +31,7 @@ ghost use Rattle.protocol.specs.Bounds.{sidesFit, product};
 ghost use Rattle.protocol.specs.Tape.{right, slotAt, tapeSize, matrices, wordsInUse};
 ghost use Rattle.protocol.specs.Product.{noRight, rightFirstTests, rightFirst};
 ghost use Rattle.checks.specs.InOrder.{checked, judged};
+ghost use Rattle.protocol.specs.Step.{answerReply};
 ghost use Rattle.session.specs.Leaves.{Leaves, leaves};
 ghost use Rattle.product.specs.Groups.{firstNumbers, firstWords};
 ghost use Rattle.product.specs.Shape.{Masks};
@@ -89,7 +90,7 @@ pub fn right_first(
     out: &mut [u32],
 ) -> RightAnswer
     ensures { λ r. ⌜ _≡_ {A = Leaves RightSession}
-        (record { answer = r .answer; session = r .session; head = r .head; pool = now (pool .exit); scratch = []; sent = now (out .exit); result = [] })
+        (record { answer = answerReply (r .answer); session = r .session; head = r .head; pool = now (pool .exit); scratch = []; sent = now (out .exit); result = [] })
         (leaves noRight (slotAt (now (pool .entry)) size index) [] (now (out .entry)) []
         (rightFirst t (slotAt (now (pool .entry)) size index) (now (y .entry)) (length (now (out .entry))))) ⌝ }
 {

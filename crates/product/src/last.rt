@@ -27,6 +27,7 @@ ghost use Rattle.protocol.specs.Bounds.{sidesFit, product};
 ghost use Rattle.protocol.specs.Tape.{right, slotAt, matrices, wordsSpent};
 ghost use Rattle.protocol.specs.Product.{rightLastTests, rightLast};
 ghost use Rattle.checks.specs.InOrder.{checked, judged};
+ghost use Rattle.protocol.specs.Step.{answerReply};
 ghost use Rattle.session.specs.Leaves.{Leaves, leaves};
 ghost use Rattle.product.specs.Groups.{turnTests, lastNumbers};
 ghost use Rattle.product.specs.Shape.{LastShape};
@@ -115,7 +116,7 @@ pub fn right_last(
     share: &mut [u32],
 ) -> RightAnswer
     ensures { λ r. ⌜ _≡_ {A = Leaves RightSession}
-        (record { answer = r .answer; session = r .session; head = r .head; pool = now (pool .exit); scratch = []; sent = []; result = now (share .exit) })
+        (record { answer = answerReply (r .answer); session = r .session; head = r .head; pool = now (pool .exit); scratch = []; sent = []; result = now (share .exit) })
         (leaves s (slotAt (now (pool .entry)) size index) [] [] (now (share .entry))
         (rightLast s (slotAt (now (pool .entry)) size index) (record { head = a; residues = now (residues .entry) }) (length (now (share .entry))))) ⌝ }
 {

@@ -32,6 +32,7 @@ ghost use Rattle.protocol.specs.Bounds.{sidesFit, product};
 ghost use Rattle.protocol.specs.Tape.{left, slotAt, tapeSize, matrices, wordsSpent};
 ghost use Rattle.protocol.specs.Product.{leftTests, leftStep};
 ghost use Rattle.checks.specs.InOrder.{checked, judged};
+ghost use Rattle.protocol.specs.Step.{answerReply};
 ghost use Rattle.session.specs.Leaves.{Leaves, leaves};
 ghost use Rattle.product.specs.Groups.{leftLengths, leftWords};
 ghost use Rattle.product.specs.Shape.{Masks, LeftShape};
@@ -161,7 +162,7 @@ pub fn left_step(
     share: &mut [u32],
 ) -> LeftAnswer
     ensures { λ r. ⌜ _≡_ {A = Leaves Unit}
-        (record { answer = r .answer; session = tt; head = r .head; pool = now (pool .exit); scratch = []; sent = now (out .exit); result = now (share .exit) })
+        (record { answer = answerReply (r .answer); session = tt; head = r .head; pool = now (pool .exit); scratch = []; sent = now (out .exit); result = now (share .exit) })
         (leaves tt (slotAt (now (pool .entry)) size index) [] (now (out .entry)) (now (share .entry))
         (leftStep t (slotAt (now (pool .entry)) size index) (now (x .entry)) (now (words .entry)) (record { head = a; residues = now (residues .entry) })
         (length (now (out .entry))) (length (now (share .entry))))) ⌝ }

@@ -15,9 +15,8 @@ use Rattle.algebra.specs.Product.{rightShare}
 use Rattle.algebra.proofs.Lists.{length-tabulate, zeros-at, sub-residues}
 use Rattle.protocol.specs.declared.Terms.{Terms}
 use Rattle.protocol.specs.declared.Head.{Head}
-use Rattle.protocol.specs.declared.Answer.{Answer}
 use Rattle.protocol.specs.declared.RightSession.{RightSession}
-use Rattle.protocol.specs.Judge.{done}
+use Rattle.protocol.specs.Judge.{done, Reply}
 use Rattle.protocol.specs.Drawing.{drawn}
 use Rattle.protocol.specs.Tape.{Slot, slotAt, poolWith}
 use Rattle.protocol.specs.Deal.{deal, productRequest}
@@ -130,7 +129,7 @@ module _ (t : Terms) (x y d l : List ℕ) (ok : judged (rehearsalTests (inputOf 
 
   -- ---- dealing
 
-  module _ (n : ℕ) (a0 b0 a1 b1 : List ℕ) (r0 : Answer) (en : n ≡ size) (ea : a0 ≡ zeros size) (eb : b0 ≡ zeros size)
+  module _ (n : ℕ) (a0 b0 a1 b1 : List ℕ) (r0 : Reply ℕ) (en : n ≡ size) (ea : a0 ≡ zeros size) (eb : b0 ≡ zeros size)
       (e0 : _≡_ {A = Pools} (record { answer = r0; first = a1; second = b1 })
       (pools a0 b0 (deal a0 b0 n 0 (productRequest (t .tape) (t .q) (t .m) (t .k) (t .p) d)))) where
     dealt-pools : pools a0 b0 (deal a0 b0 n 0 (productRequest (t .tape) (t .q) (t .m) (t .k) (t .p) d)) ≡ pools (zeros size) (zeros size) (done (dealtRun i))
@@ -145,7 +144,7 @@ module _ (t : Terms) (x y d l : List ℕ) (ok : judged (rehearsalTests (inputOf 
 
     -- ---- step 1
 
-    module _ (y0 y1 b2 : List ℕ) (r1 : Answer) (s1 : RightSession) (h1 : Head) (ey : length y0 ≡ messageSize 1 t)
+    module _ (y0 y1 b2 : List ℕ) (r1 : Reply ℕ) (s1 : RightSession) (h1 : Head) (ey : length y0 ≡ messageSize 1 t)
         (e1 : _≡_ {A = Leaves RightSession} (record { answer = r1; session = s1; head = h1; pool = b2; scratch = []; sent = y1; result = [] })
         (leaves noRight (slotAt b1 n 0) [] y0 [] (rightFirst t (slotAt b1 n 0) y (length y0)))) where
       left-1 : leaves noRight (slotAt b1 n 0) [] y0 [] (rightFirst t (slotAt b1 n 0) y (length y0)) ≡ leaves noRight b [] y0 [] (done (one t a b calls))
@@ -164,7 +163,7 @@ module _ (t : Terms) (x y d l : List ℕ) (ok : judged (rehearsalTests (inputOf 
 
       -- ---- step 2
 
-      module _ (x0 x1 u0 u a2 : List ℕ) (r2 : Answer) (h2 : Head) (ex : length x0 ≡ messageSize 2 t) (eu : length u0 ≡ t .m * t .p)
+      module _ (x0 x1 u0 u a2 : List ℕ) (r2 : Reply ℕ) (h2 : Head) (ex : length x0 ≡ messageSize 2 t) (eu : length u0 ≡ t .m * t .p)
           (e2 : _≡_ {A = Leaves Unit} (record { answer = r2; session = tt; head = h2; pool = a2; scratch = []; sent = x1; result = u })
           (leaves tt (slotAt a1 n 0) [] x0 u0 (leftStep t (slotAt a1 n 0) x l (record { head = h1; residues = y1 }) (length x0) (length u0)))) where
         left-2 : leaves tt (slotAt a1 n 0) [] x0 u0 (leftStep t (slotAt a1 n 0) x l (record { head = h1; residues = y1 }) (length x0) (length u0))
@@ -181,7 +180,7 @@ module _ (t : Terms) (x y d l : List ℕ) (ok : judged (rehearsalTests (inputOf 
 
         -- ---- step 3
 
-        module _ (v0 v b3 : List ℕ) (r3 : Answer) (s3 : RightSession) (h3 : Head) (ev : length v0 ≡ t .m * t .p)
+        module _ (v0 v b3 : List ℕ) (r3 : Reply ℕ) (s3 : RightSession) (h3 : Head) (ev : length v0 ≡ t .m * t .p)
             (e3 : _≡_ {A = Leaves RightSession} (record { answer = r3; session = s3; head = h3; pool = b3; scratch = []; sent = []; result = v })
             (leaves s1 (slotAt b2 n 0) [] [] v0 (rightLast s1 (slotAt b2 n 0) (record { head = h2; residues = x1 }) (length v0)))) where
           left-3 : leaves s1 (slotAt b2 n 0) [] [] v0 (rightLast s1 (slotAt b2 n 0) (record { head = h2; residues = x1 }) (length v0))

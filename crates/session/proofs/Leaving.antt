@@ -10,7 +10,7 @@ use Rattle.protocol.specs.declared.Answer.the-variants.{Refused}
 use Rattle.protocol.specs.Judge.{Test, refused, done, judge}
 use Rattle.protocol.specs.Tape.{Slot}
 use Rattle.protocol.specs.Message.{noMessage}
-use Rattle.protocol.specs.Step.{Effect}
+use Rattle.protocol.specs.Step.{answerReply, Effect}
 use Rattle.checks.specs.InOrder.{judged}
 use Rattle.checks.proofs.InOrder.{refused-by, accepted-by}
 use Rattle.session.specs.Leaves.{Leaves, leaves}
@@ -18,7 +18,7 @@ use Rattle.session.specs.Leaves.{Leaves, leaves}
 -- everything is as it was
 abbrev pub kept : {S : Type 0} → Refusal → S → Slot → (scratch sent result : List ℕ) → Leaves S
 kept r x s scratch sent result = record {
-  answer = Refused r;
+  answer = answerReply (Refused r);
   session = x;
   head = noMessage .head;
   pool = s .pool;

@@ -2,13 +2,14 @@
 use mathlib.Core.List.{List}
 use Prim.Native.Nat.{ℕ}
 use Rattle.algebra.specs.Words.{over}
-use Rattle.protocol.specs.declared.Answer.{Answer}
 use Rattle.protocol.specs.declared.Head.{Head}
+use Rattle.protocol.specs.Judge.{Reply}
 use Rattle.protocol.specs.Tape.{Slot}
-use Rattle.protocol.specs.Step.{Outcome, answerAfter, sessionAfter, poolAfter, scratchAfter, sentAfter, resultAfter}
+use Rattle.protocol.specs.Step.{answerReply, Outcome, answerAfter, sessionAfter, poolAfter, scratchAfter, sentAfter, resultAfter}
 
 pub record Leaves (S : Type 0) : Type 0 where
-  pub answer : Answer
+  -- its number, and the words read
+  pub answer : Reply ℕ
   pub session : S
   pub head : Head
   pub pool : List ℕ
@@ -20,7 +21,7 @@ pub record Leaves (S : Type 0) : Type 0 where
 -- from the session, the slot and the lent slices as they were
 abbrev pub leaves : {S : Type 0} → S → Slot → (scratch sent result : List ℕ) → Outcome S → Leaves S
 leaves x s scratch sent result o = record {
-  answer = answerAfter o;
+  answer = answerReply (answerAfter o);
   session = sessionAfter x o;
   head = sentAfter o .head;
   pool = poolAfter s o;

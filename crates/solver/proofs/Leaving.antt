@@ -24,6 +24,7 @@ use Rattle.protocol.specs.Bounds.{columns}
 use Rattle.protocol.specs.Tape.{Slot, isSlot, solver, poolWith, slotWords, matrices, wordsInUse, wordsSpent}
 use Rattle.protocol.specs.Message.{Message, messageLayout, messageSize, messageParts}
 use Rattle.protocol.specs.System.{noSolver, padded, sideSize, keptS, jointSum, solverFirstEffect, solverFirstTests, solverFirst, solverSecondEffect, solverSecondTests, solverSecond, solverLastEffect, solverLastTests, solverLast}
+use Rattle.protocol.specs.Step.{answerReply}
 use Rattle.checks.specs.InOrder.{judged}
 use Rattle.session.specs.Leaves.{Leaves, leaves}
 use Rattle.session.proofs.Leaving.{accepted-leaves}
@@ -35,7 +36,7 @@ pub first-done : (t : Terms) (s : Slot) (l x sent : List ℕ) {pool′ sent′ :
     → pool′ ≡ poolWith s (wordsInUse (slotWords s))
     → sent′ ≡ over (sendY (t .q) (t .m) (t .m) (t .p) (beside (t .m) (t .m) (columns (t .m) (t .p)) l x) (part 0 (matrices solver t (slotWords s)))) sent
     → _≡_ {A = Leaves SolverSession}
-    (record { answer = Accepted 0; session = record { terms = t; due = 2; s = zeros 16 }; head = record { kind = 1; terms = t }; pool = pool′; scratch = []; sent = sent′; result = [] })
+    (record { answer = answerReply (Accepted 0); session = record { terms = t; due = 2; s = zeros 16 }; head = record { kind = 1; terms = t }; pool = pool′; scratch = []; sent = sent′; result = [] })
     (leaves noSolver s [] sent [] (solverFirst t s l x (length sent)))
 unfolding solverFirst solverFirstEffect join over
 first-done t s l x sent h p o = rw (p, o) (sym (accepted-leaves noSolver s [] sent [] _ (solverFirstEffect t s l x) h ∙ simp append-nil))
@@ -79,7 +80,7 @@ module _ (x : SolverSession) (s : Slot) (a : Message) where
       → kept′ ≡ padded 16 (lastCols (x .terms .m) (columns (x .terms .m) (x .terms .p)) (shareOf (x .terms) (slotWords s) (a .residues)))
       → sent′ ≡ over (sendF (x .terms .q) (x .terms .m) (columns (x .terms .m) (x .terms .p)) (part 2 (matrices solver (x .terms) (slotWords s))) (shareOf (x .terms) (slotWords s) (a .residues))) sent
       → _≡_ {A = Leaves SolverSession}
-      (record { answer = Accepted 0; session = record { terms = x .terms; due = 4; s = kept′ }; head = record { kind = 3; terms = x .terms }; pool = s .pool; scratch = []; sent = sent′; result = [] })
+      (record { answer = answerReply (Accepted 0); session = record { terms = x .terms; due = 4; s = kept′ }; head = record { kind = 3; terms = x .terms }; pool = s .pool; scratch = []; sent = sent′; result = [] })
       (leaves x s [] sent [] (solverSecond x s a (length sent)))
   unfolding solverSecond solverSecondTests solverSecondEffect receiving messageSize messageLayout join over
   second-done sent h inside e n k o =
@@ -104,7 +105,7 @@ module _ (x : SolverSession) (s : Slot) (a : Message) where
       → pool′ ≡ poolWith s (wordsSpent solver (x .terms) (slotWords s))
       → sent′ ≡ cond (regular (x .terms .q) (x .terms .m) (sumOf (x .terms) (slotWords s) (a .residues))) (over (solution (x .terms .q) (x .terms .m) (sumOf (x .terms) (slotWords s) (a .residues)) (sideOf (x .terms) (a .residues) (x .s))) sent) sent
       → _≡_ {A = Leaves SolverSession}
-      (record { answer = lastAnswer found; session = closedTerms (x .terms); head = lastHead (x .terms) found; pool = pool′; scratch = []; sent = sent′; result = [] })
+      (record { answer = answerReply (lastAnswer found); session = closedTerms (x .terms); head = lastHead (x .terms) found; pool = pool′; scratch = []; sent = sent′; result = [] })
       (leaves x s [] sent [] (solverLast x s a (length sent)))
   unfolding solverLast solverLastTests solverLastEffect receiving messageSize messageLayout sideSize join over
   last-done sent true h e n r p o =

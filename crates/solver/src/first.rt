@@ -35,6 +35,7 @@ ghost use Rattle.protocol.specs.Bounds.{sidesFit, system, columns};
 ghost use Rattle.protocol.specs.Tape.{solver, slotAt, tapeSize, matrices, wordsInUse};
 ghost use Rattle.protocol.specs.System.{noSolver, solverFirstTests, solverFirst};
 ghost use Rattle.checks.specs.InOrder.{checked, judged};
+ghost use Rattle.protocol.specs.Step.{answerReply};
 ghost use Rattle.session.specs.Leaves.{Leaves, leaves};
 ghost use Rattle.solver.specs.Groups.{firstNumbers, firstWords};
 ghost use Rattle.solver.specs.Shape.{FirstShape};
@@ -120,7 +121,7 @@ pub fn solver_first(
     out: &mut [u32],
 ) -> SolverAnswer
     ensures { λ r. ⌜ _≡_ {A = Leaves SolverSession}
-        (record { answer = r .answer; session = r .session; head = r .head; pool = now (pool .exit); scratch = []; sent = now (out .exit); result = [] })
+        (record { answer = answerReply (r .answer); session = r .session; head = r .head; pool = now (pool .exit); scratch = []; sent = now (out .exit); result = [] })
         (leaves noSolver (slotAt (now (pool .entry)) size index) [] (now (out .entry)) []
         (solverFirst t (slotAt (now (pool .entry)) size index) (now (l .entry)) (now (x .entry)) (length (now (out .entry))))) ⌝ }
 {

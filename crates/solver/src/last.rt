@@ -25,6 +25,7 @@ ghost use Rattle.algebra.specs.Prime.{isPrime};
 ghost use Rattle.algebra.specs.Words.{over};
 ghost use Rattle.protocol.specs.Tape.{solver, slotAt, wordsSpent};
 ghost use Rattle.protocol.specs.System.{solverLast};
+ghost use Rattle.protocol.specs.Step.{answerReply};
 ghost use Rattle.session.specs.Leaves.{Leaves, leaves};
 ghost use Rattle.solver.specs.Formulas.{sumOf, sideOf, lastAnswer, lastHead, closedTerms};
 ghost use Rattle.solver.specs.Shape.{LaterShape};
@@ -96,7 +97,7 @@ pub fn solver_last(
     out: &mut [u32],
 ) -> SolverAnswer
     ensures { λ r. ⌜ _≡_ {A = Leaves SolverSession}
-        (record { answer = r .answer; session = r .session; head = r .head; pool = now (pool .exit); scratch = []; sent = now (out .exit); result = [] })
+        (record { answer = answerReply (r .answer); session = r .session; head = r .head; pool = now (pool .exit); scratch = []; sent = now (out .exit); result = [] })
         (leaves s (slotAt (now (pool .entry)) size index) [] (now (out .entry)) []
         (solverLast s (slotAt (now (pool .entry)) size index) (record { head = a; residues = now (residues .entry) }) (length (now (out .entry))))) ⌝ }
 {

@@ -22,6 +22,7 @@ ghost use Rattle.algebra.specs.Words.{over};
 ghost use Rattle.protocol.specs.Bounds.{columns, sidesFit, system};
 ghost use Rattle.protocol.specs.Tape.{solver, slotAt, matrices};
 ghost use Rattle.protocol.specs.System.{padded, solverSecond};
+ghost use Rattle.protocol.specs.Step.{answerReply};
 ghost use Rattle.session.specs.Leaves.{Leaves, leaves};
 ghost use Rattle.solver.specs.Formulas.{shareOf};
 ghost use Rattle.solver.specs.Shape.{LaterShape};
@@ -98,7 +99,7 @@ pub fn solver_second(
     out: &mut [u32],
 ) -> SolverAnswer
     ensures { λ r. ⌜ _≡_ {A = Leaves SolverSession}
-        (record { answer = r .answer; session = r .session; head = r .head; pool = now (pool .entry); scratch = []; sent = now (out .exit); result = [] })
+        (record { answer = answerReply (r .answer); session = r .session; head = r .head; pool = now (pool .entry); scratch = []; sent = now (out .exit); result = [] })
         (leaves s (slotAt (now (pool .entry)) size index) [] (now (out .entry)) []
         (solverSecond s (slotAt (now (pool .entry)) size index) (record { head = a; residues = now (residues .entry) }) (length (now (out .entry))))) ⌝ }
 {

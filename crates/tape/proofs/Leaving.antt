@@ -10,6 +10,7 @@ use Rattle.protocol.specs.Judge.{refused, done}
 use Rattle.protocol.specs.Drawing.{wordsRead}
 use Rattle.protocol.specs.Tape.{slotAt, slotWords, poolWith}
 use Rattle.protocol.specs.Deal.{Request, firstHalf, secondHalf, drawSize, drawnParts, dealtB, dealtV, dealTests, dealtOver, dealtEffect, deal}
+use Rattle.protocol.specs.Step.{answerReply}
 use Rattle.checks.specs.InOrder.{judged}
 use Rattle.checks.proofs.InOrder.{refused-by, accepted-by}
 use Rattle.halves.specs.Dealt.{Pools, pools, firstHalfWords, secondHalfWords}
@@ -17,7 +18,7 @@ use Rattle.halves.proofs.Words.{slot-over}
 
 module _ (first second : List ℕ) (size index : ℕ) (r : Request) where
   pub deal-refused : {e : Refusal} → judged (dealTests (slotAt first size index) (slotAt second size index) r) ≡ refused e
-      → _≡_ {A = Pools} (record { answer = Refused e; first = first; second = second }) (pools first second (deal first second size index r))
+      → _≡_ {A = Pools} (record { answer = answerReply (Refused e); first = first; second = second }) (pools first second (deal first second size index r))
   unfolding deal
   deal-refused h = ap (pools first second) (sym (refused-by _ _ h))
 
@@ -27,7 +28,7 @@ module _ (first second : List ℕ) (size index : ℕ) (r : Request) where
       → read ≡ wordsRead (r .q) (drawSize r) (r .words)
       → first′ ≡ writtenAt (index * size) (firstHalfWords r) first
       → second′ ≡ writtenAt (index * size) (secondHalfWords r) second
-      → _≡_ {A = Pools} (record { answer = Accepted read; first = first′; second = second′ }) (pools first second (deal first second size index r))
+      → _≡_ {A = Pools} (record { answer = answerReply (Accepted read); first = first′; second = second′ }) (pools first second (deal first second size index r))
   unfolding deal dealtEffect dealtOver firstHalfWords secondHalfWords
   deal-done h in-first in-second fits-first fits-second e f s =
       rw (e, f ∙ sym (slot-over first size index (firstHalfWords r) in-first fits-first), s ∙ sym (slot-over second size index (secondHalfWords r) in-second fits-second))

@@ -8,6 +8,7 @@ use protocol::Answer;
 use protocol::TapeId;
 ghost use mathlib.Core.Path.{_≡_};
 ghost use Rattle.protocol.specs.Deal.{productRequest, systemRequest, deal};
+ghost use Rattle.protocol.specs.Step.{answerReply};
 ghost use Rattle.halves.specs.Dealt.{Pools, pools};
 
 // One slot size and one index serve both pools. Left's half goes into the first, right's into the second.
@@ -23,7 +24,7 @@ pub fn deal_product(
     p: u32,
     words: &[u32],
 ) -> Answer
-    ensures { λ r. ⌜ _≡_ {A = Pools} (record { answer = r; first = now (first .exit); second = now (second .exit) })
+    ensures { λ r. ⌜ _≡_ {A = Pools} (record { answer = answerReply r; first = now (first .exit); second = now (second .exit) })
         (pools (now (first .entry)) (now (second .entry)) (deal (now (first .entry)) (now (second .entry)) size index (productRequest tape q m k p (now (words .entry))))) ⌝ }
 {
     let checked = tests::product(first, second, size, index, tape, q, m, k, p, words);
@@ -46,7 +47,7 @@ pub fn deal_system(
     n: u32,
     words: &[u32],
 ) -> Answer
-    ensures { λ r. ⌜ _≡_ {A = Pools} (record { answer = r; first = now (first .exit); second = now (second .exit) })
+    ensures { λ r. ⌜ _≡_ {A = Pools} (record { answer = answerReply r; first = now (first .exit); second = now (second .exit) })
         (pools (now (first .entry)) (now (second .entry)) (deal (now (first .entry)) (now (second .entry)) size index (systemRequest tape q n (now (words .entry))))) ⌝ }
 {
     let checked = tests::system(first, second, size, index, tape, q, n, words);

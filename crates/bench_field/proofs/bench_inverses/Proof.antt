@@ -1,12 +1,11 @@
 -- `bench_field::bench_inverses` is safe: the modulus is prime, and each a is below it. Assumes nothing.
-use mathlib.Core.Path.{_≡_, sym, ap, _∙_}
+use mathlib.Core.Path.{_≡_}
 use mathlib.Core.Bool.{true}
 use Prim.Native.Nat.{_+_, _-_, _≤_}
 use native.Mathlib.Omega.{arith}
 use borrow.Author.Needs.{needs}
 use Rattle.algebra.specs.Prime.{isPrime}
-use Rattle.field.specs.Field.{made}
-use Rattle.field.proofs.FieldLaws.{prime-modulus}
+use Rattle.field.proofs.FieldLaws.{field-told, prime-modulus}
 use Rattle.bench_field.proofs.bench_inverses.Statement.{statement}
 use Rattle.bench_field.proofs.bench_inverses.Tie as tie
 
@@ -30,7 +29,7 @@ returns c = search needs
 
 loop-holds : tie.Need-loop-holds Inv-loop μ-loop
 loop-holds c =
-    (prime-modulus _ _ (sym (c .before .before .before .of-system .ensures) ∙ ap made (c .before .answer .given .1)), omega arith)
+    (prime-modulus _ _ (field-told (c .before .answer .given .1) (c .before .before .before .of-system .ensures)), omega arith)
 
 returns-2 : tie.Need-returns-2 Inv-loop μ-loop
 returns-2 c = search needs
