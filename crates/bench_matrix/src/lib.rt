@@ -1,8 +1,7 @@
 // What bench/matrix.c times: the inner product, the product, and a product with two matrices taken away. Each answers 0 or does nothing
 // where its arguments don't fit.
+use field::Field;
 ghost use Rattle.bench_matrix.specs.Fits.{Fits};
-
-const LARGEST: u32 = 2147483647;
 
 #[no_mangle]
 pub extern "C" fn bench_inner(q: u32, x: &[u32], y: &[u32]) -> u32 {
@@ -10,7 +9,7 @@ pub extern "C" fn bench_inner(q: u32, x: &[u32], y: &[u32]) -> u32 {
     if q == 0 {
         return 0;
     }
-    if LARGEST < q {
+    if Field::LARGEST < q {
         return 0;
     }
     if 2048 < k {
@@ -29,7 +28,7 @@ fn fits(q: u32, m: usize, k: usize, p: usize, x: usize, y: usize, out: usize) ->
     if q == 0 {
         return false;
     }
-    if LARGEST < q {
+    if Field::LARGEST < q {
         return false;
     }
     if p == 0 {

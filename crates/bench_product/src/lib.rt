@@ -1,4 +1,5 @@
 // What bench/product.c times: the steps of a product session with the number 9 on the tape 4 in the first slot of its pool, and message lines.
+use field::Field;
 use line::Received;
 use line::Written;
 use product::left_step;
@@ -144,7 +145,7 @@ pub extern "C" fn bench_inner(q: u32, x: &[u32], y: &[u32]) -> u32 {
     if q == 0 {
         return 0;
     }
-    if 2147483647 < q {
+    if Field::LARGEST < q {
         return 0;
     }
     if 2048 < k {

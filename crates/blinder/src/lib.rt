@@ -2,6 +2,7 @@
 //   BlinderAnswer               what each of them answers
 //   opened, closed              its sessions, which keep M and y
 //   scratch_size                how many residues P and U0 have
+// No function here is for hosts.
 use checks::times;
 use protocol::Answer;
 use protocol::BlinderSession;

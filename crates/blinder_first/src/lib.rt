@@ -1,4 +1,5 @@
 // Step 2: the blinder takes M and y, draws P and U0, and sends X1 = P + X0 and R1 = P × Y1 − U0 − A0.
+// For hosts: blinder_first.
 use blinder::BlinderAnswer;
 use blinder::closed;
 use blinder::opened;

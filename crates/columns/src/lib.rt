@@ -1,4 +1,5 @@
 // Columns of a matrix, and two matrices side by side, over slices, row by row. The words past the count keep their value.
+// No function here is for hosts.
 use vectors::write_copy;
 ghost use mathlib.Core.Path.{_≡_};
 ghost use mathlib.Core.List.{_++_};

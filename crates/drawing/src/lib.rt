@@ -1,6 +1,7 @@
 // Residues drawn from raw words. No other crate knows how a word becomes a residue.
 //   read  how many words are read for n residues, or that they are too few
 //   draw  the residues, over the start of a lent slice
+// No function here is for hosts.
 ghost use mathlib.Core.Path.{_≡_};
 ghost use Prim.Native.Nat.{_*_, _/_, _%_, _<_, _≤_};
 ghost use lib.ListN.{length};

@@ -1,8 +1,9 @@
 // Dropping: an open session closes, and its tape is spent; a blinder's scratch is zeroed with it.
-//   right_drop, solver_drop, blinder_drop   for hosts: they take any numbers and slices
+//   right_drop, solver_drop, blinder_drop   the drops of the three ends that keep a session
 //   check                                   the tests of a drop
 // A drop is given its pool, the size of the pool's slots and the index of its own; the blinder's its scratch; and the session.
-pub mod check;
+// For hosts: right_drop, solver_drop, blinder_drop.
+mod check;
 
 use blinder::closed;
 use blinder::scratch_size;

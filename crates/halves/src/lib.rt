@@ -2,6 +2,7 @@
 // past it as they are.
 //   product  the halves of left and right
 //   system   the halves of blinder and solver
+// No function here is for hosts.
 use protocol::TapeId;
 ghost use mathlib.Core.Path.{_≡_};
 ghost use mathlib.Core.List.{_++_, [], _∷_};
@@ -74,7 +75,7 @@ fn write_b(q: u32, m: usize, k: usize, p: usize, first: &[u32], second: &mut [u3
     let b = 7 + k * p;
     let end = a + n;
     let mut b0 = [0u32; 1024];
-    matrix::formula::write_deal(
+    matrix::write_deal(
         q,
         m,
         k,
@@ -84,7 +85,7 @@ fn write_b(q: u32, m: usize, k: usize, p: usize, first: &[u32], second: &mut [u3
         &first[a..end],
         &mut b0,
     );
-    vectors::entries::write_copy(n, &b0, &mut second[b..]);
+    vectors::write_copy(n, &b0, &mut second[b..]);
 }
 
 // The headers, then X0 and A0 in the first words, Y0 and B0 in the second. The answer is how many words were read.
@@ -145,7 +146,7 @@ fn write_v(q: u32, n: usize, first: &[u32], first_at: usize, second: &mut [u32],
     let v = second_at + nn;
     let end = g + nn;
     let mut sum = [0u32; 256];
-    matrix::formula::write_masked(
+    matrix::write_masked(
         q,
         n,
         n,
@@ -155,7 +156,7 @@ fn write_v(q: u32, n: usize, first: &[u32], first_at: usize, second: &mut [u32],
         &first[g..end],
         &mut sum,
     );
-    vectors::entries::write_copy(nn, &sum, &mut second[v..]);
+    vectors::write_copy(nn, &sum, &mut second[v..]);
 }
 
 // Both halves of a system's tape. The answer is how many words were read.

@@ -1,33 +1,29 @@
 // Matrices modulo q, stored row by row in slices of words. Results are written over the first words of a lent slice;
 // the words past the count keep their value.
-//   Matrix   a matrix's sides, and the bounds of 01 on them
+//   Matrix   the bounds on sides, residues and unknowns
 //   sum      a sum of products that may pass 64 bits
 //   inner    the inner product
 //   pairs    the product of matrices of narrow words, two columns at once
 //   product  the product of an m by k and a k by p matrix
 //   formula  a product with other matrices added and taken away: what the sessions write
-pub mod formula;
-pub mod inner;
-pub mod pairs;
-pub mod product;
-pub mod sum;
+// No function here is for hosts.
+mod formula;
+mod inner;
+mod pairs;
+mod product;
+mod sum;
 
 pub use formula::write_deal;
 pub use formula::write_masked;
 pub use formula::write_reply;
 pub use formula::write_share;
 pub use inner::inner_product;
-pub use product::add_product;
 pub use product::write_product;
 ghost use mathlib.Core.Path.{_≡_};
-ghost use Prim.Native.Nat.{_*_};
-ghost use Rattle.protocol.specs.Bounds.{sidesFit, product};
+ghost use Rattle.protocol.specs.Bounds.{within, mostUnknowns, sidesFit, product, system};
 
-// The sides of a matrix.
-pub struct Matrix {
-    pub rows: u32,
-    pub columns: u32,
-}
+// What the bounds on matrices belong to.
+pub struct Matrix {}
 
 impl Matrix {
     // m and p, where an m by k and a k by p matrix are multiplied.
@@ -38,6 +34,9 @@ impl Matrix {
 
     // The residues of either matrix.
     pub const MOST_RESIDUES: u32 = 2048;
+
+    // The unknowns of a system.
+    pub const MOST_UNKNOWNS: u32 = 16;
 
     // Whether an m by k and a k by p matrix can be multiplied.
     pub fn sides_fit(m: u32, k: u32, p: u32) -> bool
@@ -70,10 +69,29 @@ impl Matrix {
         true
     }
 
-    // How many residues it has.
-    pub fn size(self) -> usize
-        ensures { λ r. ⌜ r ≡ self .rows * self .columns ⌝ }
+    // Whether a system may have n unknowns.
+    pub fn unknowns_fit(n: u32) -> bool
+        ensures { λ r. ⌜ r ≡ within 1 mostUnknowns n ⌝ }
     {
-        self.rows as usize * self.columns as usize
+        if n < 1 {
+            return false;
+        }
+        if Matrix::MOST_UNKNOWNS < n {
+            return false;
+        }
+        true
+    }
+
+    // Whether these are the sides of a system: n, n and n + 1.
+    pub fn system_sides_fit(m: u32, k: u32, p: u32) -> bool
+        ensures { λ r. ⌜ r ≡ sidesFit system m k p ⌝ }
+    {
+        if !Matrix::unknowns_fit(m) {
+            return false;
+        }
+        if k != m {
+            return false;
+        }
+        p == m + 1
     }
 }

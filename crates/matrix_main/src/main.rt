@@ -3,9 +3,8 @@
 ghost use Prim.Native.Nat.{_*_, _<_, _≤_};
 ghost use lib.ListN.{length};
 ghost use Rattle.matrix.specs.Inner.{Shape};
+use field::Field;
 use matrix::Matrix;
-
-const LARGEST: u32 = 2147483647;
 
 fn put(n: u32) {
     io::write_all(1, b",");
@@ -234,16 +233,16 @@ fn show_modulus(q: u32, bound: u32)
 fn main() {
     show_fits();
     let most = [2147483646u32; 2048];
-    show_inner(LARGEST, &most, &most);
-    show_product(b"1x2048x1", LARGEST, 1, 2048, 1, &most, &most);
-    show_product(b"32x64x32", LARGEST, 32, 64, 32, &most, &most);
+    show_inner(Field::LARGEST, &most, &most);
+    show_product(b"1x2048x1", Field::LARGEST, 1, 2048, 1, &most, &most);
+    show_product(b"32x64x32", Field::LARGEST, 32, 64, 32, &most, &most);
     let over = [4294967295u32; 2048];
-    show_inner(LARGEST, &over, &over);
-    show_product(b"1x2048x1", LARGEST, 1, 2048, 1, &over, &over);
+    show_inner(Field::LARGEST, &over, &over);
+    show_product(b"1x2048x1", Field::LARGEST, 1, 2048, 1, &over, &over);
     show_modulus(1, 1);
     show_modulus(2, 2);
     show_modulus(7, 7);
     show_modulus(65537, 65537);
-    show_modulus(2147483647, 2147483647);
+    show_modulus(Field::LARGEST, Field::LARGEST);
     show_modulus(7, 4294967295);
 }

@@ -1,17 +1,22 @@
 // The checks of a message by its head and the count of its residues.
-//   kind_known, kind_field_fits, kind_sides_fit   its kind, its modulus and its sides
-//   message_size, side_size                       how many residues it has
-//   check_head                                    what a message shows by itself, all but its residues: 1, 2, 3 and 4
+//   kind_known, kind_field, kind_sides_fit   its kind, its modulus and its sides
+//   message_size, side_size                  how many residues it has
+//   check_head                               what a message shows by itself, all but its residues: 1, 2, 3 and 4
+// No function here is for hosts.
 use checks::Check;
+use field::Field;
+use field::FieldAnswer;
+use field::refusal_in;
 use matrix::Matrix;
 use protocol::Head;
 use protocol::Refusal;
 use protocol::Terms;
 ghost use mathlib.Core.Path.{_≡_};
 ghost use Prim.Native.Nat.{_+_, _*_, _≤_};
-ghost use Rattle.protocol.specs.Bounds.{within, fieldFits, sidesFit, system};
+ghost use Rattle.protocol.specs.Bounds.{within, sidesFit};
 ghost use Rattle.protocol.specs.Message.{kindSort, messageSize};
 ghost use Rattle.protocol.specs.System.{sideSize};
+ghost use Rattle.field.specs.Field.{made, sortFieldOf};
 ghost use Rattle.checks.specs.InOrder.{checked, verdict};
 ghost use Rattle.message.specs.Groups.{headTests, messageSizes};
 
@@ -27,32 +32,14 @@ pub fn kind_known(kind: u32) -> bool
     true
 }
 
-// Kinds 3 to 5 are of systems, whose modulus is prime.
-pub fn kind_field_fits(kind: u32, q: u32) -> bool
-    ensures { λ r. ⌜ r ≡ fieldFits (kindSort kind) q ⌝ }
+// The field of a message's modulus. Kinds 3 to 5 are of systems, whose modulus is prime.
+pub fn kind_field(kind: u32, q: u32) -> FieldAnswer
+    ensures { λ r. ⌜ made r ≡ sortFieldOf (kindSort kind) q ⌝ }
 {
     if kind <= 2 {
-        return true;
+        return Field::new(q);
     }
-    field::is_prime(q)
-}
-
-pub fn system_sides_fit(m: u32, k: u32, p: u32) -> bool
-    ensures { λ r. ⌜ r ≡ sidesFit system m k p ⌝ }
-{
-    if m < 1 {
-        return false;
-    }
-    if 16 < m {
-        return false;
-    }
-    if k != m {
-        return false;
-    }
-    if p != m + 1 {
-        return false;
-    }
-    true
+    Field::of_system(q)
 }
 
 pub fn kind_sides_fit(kind: u32, m: u32, k: u32, p: u32) -> bool
@@ -61,7 +48,7 @@ pub fn kind_sides_fit(kind: u32, m: u32, k: u32, p: u32) -> bool
     if kind <= 2 {
         return Matrix::sides_fit(m, k, p);
     }
-    system_sides_fit(m, k, p)
+    Matrix::system_sides_fit(m, k, p)
 }
 
 // How many residues x, y, c, s, t and z have.
@@ -95,7 +82,7 @@ pub fn message_size(kind: u32, t: Terms) -> usize
 }
 
 // Its own numbers, with `count` residues.
-pub fn check_sizes(a: Head, count: usize) -> Check
+fn check_sizes(a: Head, count: usize) -> Check
     ensures { λ r. ⌜ checked r ≡ verdict (messageSizes a count) ⌝ }
 {
     let t = a.terms;
@@ -124,11 +111,9 @@ pub fn check_head(a: Head, count: usize) -> Check
     if !kind_known(a.kind) {
         return Check::Refused(Refusal::Form);
     }
-    if !checks::modulus_fits(t.q) {
-        return Check::Refused(Refusal::Modulus);
-    }
-    if !kind_field_fits(a.kind, t.q) {
-        return Check::Refused(Refusal::Composite);
-    }
+    let field = kind_field(a.kind, t.q);
+    let FieldAnswer::Ready(_) = field else {
+        return Check::Refused(refusal_in(field));
+    };
     check_sizes(a, count)
 }

@@ -18,7 +18,7 @@ use session::tape::check_tape;
 use session::tape::take_up;
 use steps::no_head;
 use vectors::all_below;
-use vectors::residues::subtract_residues;
+use vectors::subtract_residues;
 ghost use mathlib.Core.Path.{_≡_};
 ghost use mathlib.Core.Bool.{true};
 ghost use mathlib.Core.List.{[]};

@@ -3,9 +3,7 @@ use crate::LeftAnswer;
 use checks::Check;
 use checks::answer_of;
 use checks::times;
-use drawing::Reading;
 use drawing::draw;
-use drawing::read;
 use matrix::write_reply;
 use message::message_size;
 use protocol::Answer;
@@ -16,9 +14,10 @@ use session::End;
 use session::lowest::need;
 use session::lowest::worst;
 use session::tape::spend;
+use steps::check_coins;
 use steps::no_head;
+use vectors::add_residues;
 use vectors::all_below;
-use vectors::residues::add_residues;
 ghost use mathlib.Core.Path.{_≡_};
 ghost use mathlib.Core.Bool.{true};
 ghost use mathlib.Core.List.{[], _++_};
@@ -27,7 +26,7 @@ ghost use lib.ListN.{length};
 ghost use Rattle.algebra.specs.Count.{part};
 ghost use Rattle.algebra.specs.Words.{over};
 ghost use Rattle.algebra.specs.Product.{sendX, sendR};
-ghost use Rattle.protocol.specs.Drawing.{residuesOf, drawn, wordsRead, drawTests};
+ghost use Rattle.protocol.specs.Drawing.{residuesOf, drawn, wordsRead};
 ghost use Rattle.protocol.specs.Bounds.{sidesFit, product};
 ghost use Rattle.protocol.specs.Tape.{left, slotAt, tapeSize, matrices, wordsSpent};
 ghost use Rattle.protocol.specs.Product.{leftTests, leftStep};
@@ -56,17 +55,6 @@ fn check_words(t: Terms, x: &[u32], a: Head, residues: &[u32], slot: &[u32]) -> 
     let received = steps::check_words(End::Left, 1, t, a, slot, residues);
     let input = need(Refusal::Residue, all_below(t.q, x));
     worst(received, input)
-}
-
-// Enough raw words are kept for n coins.
-pub fn check_coins(q: u32, n: usize, words: &[u32]) -> Check
-    requires { ⌜ 0 < q ⌝ }
-    ensures { λ r. ⌜ checked r ≡ judged (drawTests q n (now (words .entry))) ⌝ }
-{
-    match read(q, n, words) {
-        Reading::Enough(_) => Check::Passed,
-        Reading::Dry => Check::Refused(Refusal::Dry),
-    }
 }
 
 fn check(

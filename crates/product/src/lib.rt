@@ -3,9 +3,10 @@
 //   first, left, last         the three steps: right_first, left_step, right_last
 // A step is given its pool, the size of the pool's slots and the index of its own; its terms or its session; its inputs; the message that
 // it takes, a head and residues; and last the slices that it writes.
-pub mod first;
-pub mod last;
-pub mod left;
+// For hosts: right_first, left_step, right_last.
+mod first;
+mod last;
+mod left;
 
 pub use first::right_first;
 pub use last::right_last;

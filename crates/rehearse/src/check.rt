@@ -2,13 +2,13 @@
 use checks::Check;
 use checks::times;
 use matrix::Matrix;
-use product::left::check_coins;
 use protocol::Refusal;
 use protocol::Terms;
 use session::End;
 use session::lowest::need;
 use session::lowest::worst;
 use session::numbers::check_modulus;
+use steps::check_coins;
 use vectors::all_below;
 ghost use mathlib.Core.Path.{_≡_};
 ghost use Prim.Native.Nat.{_+_, _*_, _≤_, _<_};

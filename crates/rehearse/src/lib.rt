@@ -2,6 +2,7 @@
 //   rehearse  the entry
 //   check     what the run's calls need of what the lines say
 //   perform   the run: dealing, and the three steps
+// For hosts: rehearse.
 mod check;
 mod perform;
 

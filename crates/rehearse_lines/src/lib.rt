@@ -1,6 +1,7 @@
 // The bytes of a rehearsal.
 //   input  the five lines that it reads
 //   print  the lines that it prints
+// No function here is for hosts.
 pub mod input;
 pub mod print;
 

@@ -1,5 +1,5 @@
--- The ends as the code names them. Assumes nothing.
-use Rattle.protocol.specs.Bounds.{Sort}
+-- The ends as the code names them, and their sorts; `joint`, where a message and a session have one modulus. Assumes nothing.
+use Rattle.protocol.specs.Bounds.{Sort, product, system}
 use Rattle.protocol.specs.Tape.{Role, left, right, blinder, solver, sortOf}
 use Rattle.session.specs.declared.End.{End}
 use Rattle.session.specs.declared.End.the-variants.{Left, Right, Blinder, Solver}
@@ -13,3 +13,8 @@ role Solver = solver
 -- the sort of session that the end belongs to
 abbrev pub sort : End → Sort
 sort end = sortOf (role end)
+
+-- the sort that a modulus of both has to fit
+abbrev pub joint : Sort → Sort → Sort
+joint product s = s
+joint system s = system

@@ -3,6 +3,7 @@
 //   lowest      the lowest of several refusals
 //   numbers     the checks of a session's and a message's numbers
 //   tape        a half in its slot
+// No function here is for hosts.
 pub mod lowest;
 pub mod numbers;
 pub mod tape;

@@ -3,48 +3,57 @@ use crate::End;
 use crate::lowest::need;
 use crate::lowest::worst;
 use checks::Check;
-use checks::modulus_fits;
 use checks::times;
+use field::Field;
+use field::FieldAnswer;
+use field::refusal_in;
 use matrix::Matrix;
-use message::kind_field_fits;
+use message::kind_field;
 use message::kind_known;
 use message::kind_sides_fit;
 use message::message_size;
-use message::system_sides_fit;
 use protocol::Head;
 use protocol::Refusal;
 use protocol::Terms;
 ghost use mathlib.Core.Path.{_≡_};
 ghost use mathlib.Core.List.{_++_};
 ghost use mathlib.Core.Bool.{true};
-ghost use Rattle.algebra.specs.Count.{both};
-ghost use Rattle.protocol.specs.Bounds.{fieldFits, sidesFit};
+ghost use Rattle.protocol.specs.Bounds.{sidesFit};
 ghost use Rattle.protocol.specs.Tape.{tapeSize};
 ghost use Rattle.protocol.specs.Message.{kindSort};
+ghost use Rattle.field.specs.Field.{made, sortFieldOf, fieldJudged};
 ghost use Rattle.checks.specs.InOrder.{checked, judged};
-ghost use Rattle.session.specs.Ends.{role, sort};
+ghost use Rattle.session.specs.Ends.{role, sort, joint};
 ghost use Rattle.session.specs.Groups.{modulusTests, kindTests, numberTests, placeTests, idTests, countTests, sameTests};
 
 // ---- the modulus
 
-// The modulus of a system is prime.
-fn field_fits(end: End, q: u32) -> bool
-    ensures { λ r. ⌜ r ≡ fieldFits (sort end) q ⌝ }
+// The field of a session's modulus: that of a system is prime.
+fn end_field(end: End, q: u32) -> FieldAnswer
+    ensures { λ r. ⌜ made r ≡ sortFieldOf (sort end) q ⌝ }
 {
     match end {
-        End::Left => true,
-        End::Right => true,
-        End::Blinder => field::is_prime(q),
-        End::Solver => field::is_prime(q),
+        End::Left => Field::new(q),
+        End::Right => Field::new(q),
+        End::Blinder => Field::of_system(q),
+        End::Solver => Field::of_system(q),
     }
+}
+
+// The refusal is handed on where no field was made.
+fn check_field(answer: FieldAnswer) -> Check
+    ensures { λ r. ⌜ checked r ≡ fieldJudged answer ⌝ }
+{
+    let FieldAnswer::Ready(_) = answer else {
+        return Check::Refused(refusal_in(answer));
+    };
+    Check::Passed
 }
 
 pub fn check_modulus(end: End, q: u32) -> Check
     ensures { λ r. ⌜ checked r ≡ judged (modulusTests (sort end) q) ⌝ }
 {
-    let range = need(Refusal::Modulus, modulus_fits(q));
-    let prime = need(Refusal::Composite, field_fits(end, q));
-    worst(range, prime)
+    check_field(end_field(end, q))
 }
 
 pub fn check_kind(a: Head) -> Check
@@ -52,19 +61,18 @@ pub fn check_kind(a: Head) -> Check
 {
     let t = a.terms;
     let kind = need(Refusal::Form, kind_known(a.kind));
-    let range = need(Refusal::Modulus, modulus_fits(t.q));
-    let prime = need(Refusal::Composite, kind_field_fits(a.kind, t.q));
-    worst(kind, worst(range, prime))
+    let modulus = check_field(kind_field(a.kind, t.q));
+    worst(kind, modulus)
 }
 
-// A message's kind and the session, both with one modulus.
-fn fields_fit(kind: u32, end: End, q: u32) -> bool
-    ensures { λ r. ⌜ r ≡ both (fieldFits (kindSort kind) q) (fieldFits (sort end) q) ⌝ }
+// The field of a message and a session with one modulus.
+fn joint_field(kind: u32, end: End, q: u32) -> FieldAnswer
+    ensures { λ r. ⌜ made r ≡ sortFieldOf (joint (kindSort kind) (sort end)) q ⌝ }
 {
     if kind <= 2 {
-        return field_fits(end, q);
+        return end_field(end, q);
     }
-    field::is_prime(q)
+    Field::of_system(q)
 }
 
 // A message's kind and modulus, and the session's modulus. Where both are one number, it is tested once.
@@ -76,9 +84,8 @@ pub fn check_moduli(a: Head, end: End, q: u32) -> Check
         return worst(check_kind(a), check_modulus(end, q));
     }
     let kind = need(Refusal::Form, kind_known(a.kind));
-    let range = need(Refusal::Modulus, modulus_fits(q));
-    let prime = need(Refusal::Composite, fields_fit(a.kind, end, q));
-    worst(kind, worst(range, prime))
+    let modulus = check_field(joint_field(a.kind, end, q));
+    worst(kind, modulus)
 }
 
 // ---- sizes
@@ -89,8 +96,8 @@ fn sides_fit(end: End, m: u32, k: u32, p: u32) -> bool
     match end {
         End::Left => Matrix::sides_fit(m, k, p),
         End::Right => Matrix::sides_fit(m, k, p),
-        End::Blinder => system_sides_fit(m, k, p),
-        End::Solver => system_sides_fit(m, k, p),
+        End::Blinder => Matrix::system_sides_fit(m, k, p),
+        End::Solver => Matrix::system_sides_fit(m, k, p),
     }
 }
 

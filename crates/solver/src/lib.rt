@@ -5,10 +5,11 @@
 //   second, last   steps 3 and 5: solver_second, solver_last
 // A step is given its pool, the size of the pool's slots and the index of its own; its terms or its session; its inputs; the message that
 // it takes, a head and residues; and last the slice that it writes.
-pub mod first;
-pub mod last;
-pub mod later;
-pub mod second;
+// For hosts: solver_first, solver_second, solver_last.
+mod first;
+mod last;
+mod later;
+mod second;
 
 use checks::Check;
 pub use first::solver_first;
@@ -32,7 +33,7 @@ pub struct SolverAnswer {
 }
 
 // The session where a first step is refused.
-pub fn no_session() -> SolverSession
+fn no_session() -> SolverSession
     ensures { λ r. ⌜ r ≡ noSolver ⌝ }
 {
     let head = no_head();
@@ -46,7 +47,7 @@ pub fn no_session() -> SolverSession
 }
 
 // A refused step answers the session as it was.
-pub fn refused(c: Check, session: SolverSession) -> SolverAnswer
+fn refused(c: Check, session: SolverSession) -> SolverAnswer
     ensures { λ r. ⌜ (r .answer ≡ answerOf c) × (r .session ≡ session) × (r .head ≡ noMessage .head) ⌝ }
 {
     SolverAnswer {

@@ -3,8 +3,12 @@
 //   check_words    the words of its half and of the message: refusals 6 to 8
 //   check_closed   where the session is closed
 //   is_slot        the slot lies in its pool
+//   check_coins    enough raw words are kept: refusal 9
 //   no_head        the head where nothing is sent
+// No function here is for hosts.
 use checks::Check;
+use drawing::Reading;
+use drawing::read;
 use protocol::Head;
 use protocol::Refusal;
 use protocol::SessionId;
@@ -23,10 +27,11 @@ use session::tape::check_tape;
 use vectors::all_below;
 ghost use mathlib.Core.Path.{_≡_};
 ghost use mathlib.Core.Bool.{true};
-ghost use Prim.Native.Nat.{_/_, _≤_};
+ghost use Prim.Native.Nat.{_/_, _≤_, _<_};
 ghost use lib.Dec.{ltb};
 ghost use lib.ListN.{length};
 ghost use Rattle.protocol.specs.Bounds.{sidesFit};
+ghost use Rattle.protocol.specs.Drawing.{drawTests};
 ghost use Rattle.protocol.specs.Tape.{tapeSize};
 ghost use Rattle.protocol.specs.Message.{noMessage};
 ghost use Rattle.checks.specs.InOrder.{checked, judged};
@@ -90,6 +95,17 @@ pub fn check_closed(a: Head, count: usize, pool: usize, size: usize, index: usiz
     let slot = need(Refusal::Size, is_slot(pool, size, index));
     let turn = need(Refusal::Turn, false);
     worst(kind, worst(head, worst(slot, turn)))
+}
+
+// Enough raw words are kept for n coins.
+pub fn check_coins(q: u32, n: usize, words: &[u32]) -> Check
+    requires { ⌜ 0 < q ⌝ }
+    ensures { λ r. ⌜ checked r ≡ judged (drawTests q n (now (words .entry))) ⌝ }
+{
+    match read(q, n, words) {
+        Reading::Enough(_) => Check::Passed,
+        Reading::Dry => Check::Refused(Refusal::Dry),
+    }
 }
 
 pub fn no_head() -> Head

@@ -1,6 +1,8 @@
 // Tapes: the words of a half, and the dealer, who writes both halves of a tape into one slot of two pools.
 //   deal_product  the halves of left and right
 //   deal_system   the halves of blinder and solver
+//   tests         the dealer's tests
+// For hosts: deal_product, deal_system.
 mod tests;
 
 use checks::Check;

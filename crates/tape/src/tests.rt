@@ -1,6 +1,9 @@
 // The dealer's tests, before it writes: first those on numbers, then those on words.
 use checks::Check;
 use drawing::Reading;
+use field::Field;
+use field::FieldAnswer;
+use field::refusal_in;
 use matrix::Matrix;
 use protocol::Refusal;
 use protocol::TapeId;
@@ -9,7 +12,7 @@ ghost use Prim.Native.Nat.{_+_, _*_, _≤_, _<_};
 ghost use lib.Dec.{leb};
 ghost use lib.ListN.{length, drop};
 ghost use Rattle.algebra.specs.Elimination.{regular};
-ghost use Rattle.protocol.specs.Bounds.{product, system, sidesFit, shapeTests};
+ghost use Rattle.protocol.specs.Bounds.{product, system, shapeTests};
 ghost use Rattle.protocol.specs.Drawing.{residuesOf, drawn};
 ghost use Rattle.protocol.specs.Tape.{left, right, blinder, solver, tapeSize, slotAt};
 ghost use Rattle.protocol.specs.Deal.{isFree, productRequest, systemRequest, dealTests};
@@ -20,9 +23,10 @@ ghost use Rattle.halves.specs.Shape.{Mask, readBoth};
 fn product_shape(tape: u32, q: u32, m: u32, k: u32, p: u32) -> Check
     ensures { λ r. ⌜ checked r ≡ verdict (shapeTests product tape q m k p) ⌝ }
 {
-    if !checks::modulus_fits(q) {
-        return Check::Refused(Refusal::Modulus);
-    }
+    let field = Field::new(q);
+    let FieldAnswer::Ready(_) = field else {
+        return Check::Refused(refusal_in(field));
+    };
     if !Matrix::sides_fit(m, k, p) {
         return Check::Refused(Refusal::Size);
     }
@@ -33,14 +37,14 @@ fn product_shape(tape: u32, q: u32, m: u32, k: u32, p: u32) -> Check
 }
 
 // The words of a left and of a right half.
-pub fn left_size(m: u32, k: u32, p: u32) -> usize
+fn left_size(m: u32, k: u32, p: u32) -> usize
     requires { ⌜ (m * k ≤ 2048) × (m * p ≤ 1024) ⌝ }
     ensures { λ r. ⌜ r ≡ tapeSize left m k p ⌝ }
 {
     7 + checks::times(m, k) + checks::times(m, p)
 }
 
-pub fn right_size(m: u32, k: u32, p: u32) -> usize
+fn right_size(m: u32, k: u32, p: u32) -> usize
     requires { ⌜ (k * p ≤ 2048) × (m * p ≤ 1024) ⌝ }
     ensures { λ r. ⌜ r ≡ tapeSize right m k p ⌝ }
 {
@@ -95,7 +99,7 @@ fn marks(first: u32, second: u32) -> Check
 }
 
 // How many residues are drawn: X0, Y0 and A0.
-pub fn masks_size(m: u32, k: u32, p: u32) -> usize
+fn masks_size(m: u32, k: u32, p: u32) -> usize
     requires { ⌜ (m * k ≤ 2048) × (k * p ≤ 2048) × (m * p ≤ 1024) ⌝ }
     ensures { λ r. ⌜ r ≡ m * k + (k * p + m * p) ⌝ }
 {
@@ -151,28 +155,14 @@ pub fn product(
 
 // ---- a system
 
-fn unknowns_fit(n: u32) -> bool
-    ensures { λ r. ⌜ r ≡ sidesFit system n n (n + 1) ⌝ }
-{
-    if n < 1 {
-        return false;
-    }
-    if 16 < n {
-        return false;
-    }
-    true
-}
-
 fn system_shape(tape: u32, q: u32, n: u32) -> Check
     ensures { λ r. ⌜ checked r ≡ verdict (shapeTests system tape q n n (n + 1)) ⌝ }
 {
-    if !checks::modulus_fits(q) {
-        return Check::Refused(Refusal::Modulus);
-    }
-    if !field::is_prime(q) {
-        return Check::Refused(Refusal::Composite);
-    }
-    if !unknowns_fit(n) {
+    let field = Field::of_system(q);
+    let FieldAnswer::Ready(_) = field else {
+        return Check::Refused(refusal_in(field));
+    };
+    if !Matrix::unknowns_fit(n) {
         return Check::Refused(Refusal::Size);
     }
     if tape < 1 {
@@ -182,7 +172,7 @@ fn system_shape(tape: u32, q: u32, n: u32) -> Check
 }
 
 // The words of a blinder's and of a solver's half.
-pub fn blinder_size(n: u32) -> usize
+fn blinder_size(n: u32) -> usize
     requires { ⌜ n ≤ 16 ⌝ }
     ensures { λ r. ⌜ r ≡ tapeSize blinder n n (n + 1) ⌝ }
 {
@@ -190,7 +180,7 @@ pub fn blinder_size(n: u32) -> usize
     7 + nn + checks::times(n, n + 1) + nn + nn
 }
 
-pub fn solver_size(n: u32) -> usize
+fn solver_size(n: u32) -> usize
     requires { ⌜ n ≤ 16 ⌝ }
     ensures { λ r. ⌜ r ≡ tapeSize solver n n (n + 1) ⌝ }
 {

@@ -3,8 +3,9 @@
 //   rest     the rest of a division, mostly without one
 //   residues words below a bound, and sum and difference of residues: several words at a time
 //   entries  sum, difference, negative, copy and zeros, entry by entry, of any words
-pub mod entries;
-pub mod residues;
+// No function here is for hosts.
+mod entries;
+mod residues;
 pub mod rest;
 
 pub use entries::add_to;
@@ -14,4 +15,6 @@ pub use entries::write_difference;
 pub use entries::write_negative;
 pub use entries::write_sum;
 pub use entries::write_zeros;
+pub use residues::add_residues;
 pub use residues::all_below;
+pub use residues::subtract_residues;

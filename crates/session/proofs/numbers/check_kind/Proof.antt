@@ -1,7 +1,16 @@
 -- `session::numbers::check_kind` meets its contract. Assumes nothing.
+use mathlib.Core.Path.{_≡_, sym, ap, _∙_}
+use mathlib.Core.List.{[], _∷_}
 use borrow.Author.Needs.{needs}
+use Rattle.protocol.specs.declared.Refusal.the-variants.{Form}
+use Rattle.protocol.specs.Judge as tests
+use Rattle.protocol.specs.Bounds.{within}
+use Rattle.protocol.specs.Message.{kindSort}
+use Rattle.field.specs.Field.{fieldTests}
+use Rattle.field.proofs.FieldLaws.{tests-judged}
+use Rattle.checks.specs.InOrder.{judged}
 use Rattle.session.specs.Groups.{kindTests}
-use Rattle.session.proofs.Join.{judged-cons}
+use Rattle.session.proofs.Join.{also}
 use Rattle.session.proofs.numbers.check_kind.Statement.{statement}
 use Rattle.session.proofs.numbers.check_kind.Tie as tie
 
@@ -11,28 +20,23 @@ kind-known-requires c κs = search needs
 need-requires : tie.Need-need-requires
 need-requires c κs = search needs
 
-modulus-fits-requires : tie.Need-modulus-fits-requires
-modulus-fits-requires c κs = search needs
+kind-field-requires : tie.Need-kind-field-requires
+kind-field-requires c κs = search needs
 
-need-requires-2 : tie.Need-need-requires-2
-need-requires-2 c κs = search needs
-
-kind-field-fits-requires : tie.Need-kind-field-fits-requires
-kind-field-fits-requires c κs = search needs
-
-need-requires-3 : tie.Need-need-requires-3
-need-requires-3 c κs = search needs
+check-field-requires : tie.Need-check-field-requires
+check-field-requires c κs = search needs
 
 worst-requires : tie.Need-worst-requires
 worst-requires c κs = search needs
 
-worst-requires-2 : tie.Need-worst-requires-2
-worst-requires-2 c κs = search needs
-
 returns : tie.Need-returns
-unfolding kindTests
+unfolding kindTests fieldTests
 returns c =
-    simp (c .worst2 .ensures, c .before .worst .ensures, c .before .before .before .before .before .before .need .ensures, c .before .before .before .before .need2 .ensures, c .before .before .need3 .ensures, c .before .before .before .before .before .before .before .kind-known .ensures, c .before .before .before .before .before .modulus-fits .ensures, c .before .before .before .kind-field-fits .ensures, judged-cons)
+    let a = c .before .before .before .before .before .before .args .a in
+    let field = c .before .before .kind-field in
+    also (tests.needs Form (within 1 5 (a .kind)) ∷ []) (fieldTests (kindSort (a .kind)) (a .terms .q)) (c .worst .ensures)
+    (c .before .before .before .need .ensures ∙ rw (c .before .before .before .before .kind-known .ensures))
+    (c .before .check-field .ensures ∙ tests-judged (kindSort (a .kind)) (a .terms .q) (field .result) (field .ensures))
 
 pub check-kind-spec : {M : Type 1} → statement M
 check-kind-spec =
@@ -40,10 +44,7 @@ check-kind-spec =
     (tie.spec
     kind-known-requires
     need-requires
-    modulus-fits-requires
-    need-requires-2
-    kind-field-fits-requires
-    need-requires-3
+    kind-field-requires
+    check-field-requires
     worst-requires
-    worst-requires-2
     returns)

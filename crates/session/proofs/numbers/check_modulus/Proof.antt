@@ -1,42 +1,24 @@
 -- `session::numbers::check_modulus` meets its contract. Assumes nothing.
-use mathlib.Core.Path.{_≡_, refl, sym, ap, _∙_}
-use mathlib.Core.List.{List, _++_}
-use Prim.Native.Nat.{ℕ, _+_, _*_, _-_, _/_, _%_, _≤_, _<_}
-use native.Mathlib.Omega.{arith}
-use lib.ListN.{length, getD, set, take, drop}
+use mathlib.Core.Path.{_≡_, _∙_}
 use borrow.Author.Needs.{needs}
-use Rattle.session.specs.Groups.{modulusTests, kindTests, numberTests, placeTests, idTests, countTests, sameTests}
-use Rattle.session.proofs.Join.{judged-join, judged-cons, judged-phases}
+use Rattle.field.specs.Field.{fieldTests}
+use Rattle.field.proofs.FieldLaws.{tests-judged}
+use Rattle.session.specs.Ends.{sort}
+use Rattle.session.specs.Groups.{modulusTests}
 use Rattle.session.proofs.numbers.check_modulus.Statement.{statement}
 use Rattle.session.proofs.numbers.check_modulus.Tie as tie
 
-modulus-fits-requires : tie.Need-modulus-fits-requires
-modulus-fits-requires c κs = search needs
+end-field-requires : tie.Need-end-field-requires
+end-field-requires c κs = search needs
 
-need-requires : tie.Need-need-requires
-need-requires c κs = search needs
-
-field-fits-requires : tie.Need-field-fits-requires
-field-fits-requires c κs = search needs
-
-need-requires-2 : tie.Need-need-requires-2
-need-requires-2 c κs = search needs
-
-worst-requires : tie.Need-worst-requires
-worst-requires c κs = search needs
+check-field-requires : tie.Need-check-field-requires
+check-field-requires c κs = search needs
 
 returns : tie.Need-returns
-unfolding modulusTests
+unfolding modulusTests fieldTests
 returns c =
-    simp (c .worst .ensures, c .before .before .before .need .ensures, c .before .need2 .ensures, c .before .before .before .before .modulus-fits .ensures, c .before .before .field-fits .ensures, judged-cons)
+    let a = c .before .before .args in
+    c .check-field .ensures ∙ tests-judged (sort (a .end)) (a .q) (c .before .end-field .result) (c .before .end-field .ensures)
 
 pub check-modulus-spec : {M : Type 1} → statement M
-check-modulus-spec =
-    tie.close
-    (tie.spec
-    modulus-fits-requires
-    need-requires
-    field-fits-requires
-    need-requires-2
-    worst-requires
-    returns)
+check-modulus-spec = tie.close (tie.spec end-field-requires check-field-requires returns)

@@ -1,12 +1,12 @@
--- `product::left::check_coins` meets its contract. Assumes nothing.
+-- `steps::check_coins` meets its contract. Assumes nothing.
 use mathlib.Core.Path.{sym, _∙_}
 use borrow.Author.Needs.{needs}
 use Rattle.protocol.specs.Drawing.{drawTests}
 use Rattle.protocol.specs.declared.Refusal.the-variants.{Dry}
 use Rattle.session.proofs.Join.{judged-true, judged-false}
 use Rattle.drawing.proofs.Then.{dry-few, enough-many}
-use Rattle.product.proofs.left.check_coins.Statement.{statement}
-use Rattle.product.proofs.left.check_coins.Tie as tie
+use Rattle.steps.proofs.check_coins.Statement.{statement}
+use Rattle.steps.proofs.check_coins.Tie as tie
 
 read-requires : tie.Need-read-requires
 read-requires c κs = search needs
