@@ -7,9 +7,7 @@ use blinder::scratch_size;
 use checks::Check;
 use checks::answer_of;
 use checks::times;
-use drawing::Reading;
 use drawing::draw;
-use drawing::read;
 use elimination::has_inverse;
 use matrix::write_reply;
 use message::message_size;
@@ -22,6 +20,7 @@ use session::End;
 use session::lowest::need;
 use session::lowest::worst;
 use session::tape::take_up;
+use steps::check_coins;
 use steps::check_numbers;
 use steps::no_head;
 use vectors::all_below;
@@ -85,9 +84,9 @@ fn check_drawn(t: Terms, mm: &[u32], words: &[u32]) -> Check
     requires { ⌜ Eliminable t (now mm) ⌝ }
     ensures { λ r. ⌜ checked r ≡ after (judged (drawTests (t .q) (scratchSize t) (now (words .entry)))) (judged (firstRegular t (now (mm .entry)) (now (words .entry)))) ⌝ }
 {
-    let reading = read(t.q, scratch_size(t), words);
-    let Reading::Enough(_) = reading else {
-        return Check::Refused(Refusal::Dry);
+    let coins = check_coins(t.q, scratch_size(t), words);
+    let Check::Passed = coins else {
+        return coins;
     };
     check_regular(t, mm, words)
 }
