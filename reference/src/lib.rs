@@ -1,7 +1,7 @@
-//! The scope once more, in plain Rust: what the engine's answers are compared with.
+//! The rules (docs/RULES.md) once more, in plain Rust: what the engine's answers are compared with.
 //!
-//! It is written from the scope's text. Matrices are rows of `u64`, every call first gathers its faults, lowest number first, and nothing is
-//! done for speed.
+//! It is written from the rules, not from the engine. Matrices are rows of `u64`, every call first gathers its faults, lowest number first,
+//! and nothing is done for speed.
 
 pub mod calls;
 pub mod dealer;

@@ -1,4 +1,4 @@
-//! The runs of the scope.
+//! The runs of RULES 9.3.
 
 use reference::dealer::deal_system;
 use reference::faults::{COMPOSITE, MODULUS, RESIDUE, SINGULAR, SIZE};

@@ -5,7 +5,7 @@ use mathlib.Core.List.{List, _++_}
 use Prim.Native.Nat.{ℕ}
 use lib.ListN.{length, take, drop}
 
--- words over the start of a list; what follows them stays (01: "the words past the count keep their value")
+-- words over the start of a list; what follows them stays (RULES 1.4)
 unfoldable pub over : List ℕ → List ℕ → List ℕ
 over ws l = ws ++ drop (length ws) l
 

@@ -186,7 +186,7 @@ fn write(
     count
 }
 
-// 01: "Blinder sends X1 = P + X0 and R1 = P × Y1 − U0 − A0."
+// Step 2 (RULES 5.4): X1 = P + X0 and R1 = P × Y1 − U0 − A0.
 pub fn blinder_first(
     pool: &mut [u32],
     size: usize,

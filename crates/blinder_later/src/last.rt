@@ -46,7 +46,7 @@ fn write(t: Terms, slot: &mut [u32], scratch: &mut [u32], found: &[u32], out: &m
     write_zeros(scratch_size(t), scratch);
 }
 
-// 01: "Blinder's answer is z = Q × t."
+// Step 6 (RULES 5.8): z = Q × t.
 pub fn blinder_last(
     pool: &mut [u32],
     size: usize,

@@ -90,7 +90,7 @@ fn write(s: BlinderSession, slot: &[u32], scratch: &[u32], f: &[u32], out: &mut 
     );
 }
 
-// 01: "Blinder, with U0 = [U', u], sends W = (U' − F) × Q + P × M × Q − G and c = u + P × y." The pool and the scratch stay as they are.
+// Step 4 (RULES 5.6): W = (U' − F) × Q + P × M × Q − G and c = u + P × y. The pool and the scratch stay as they are.
 pub fn blinder_second(
     pool: &[u32],
     size: usize,

@@ -1,5 +1,5 @@
--- A list of calls in which every kind of call is both accepted and refused, computed: its premises hold, so the claim speaks of such lists. It has 01's system,
--- the same with a singular sum, 01's product, dropped sessions, places that are dealt again, and one session number for all. Assumes nothing.
+-- A list of calls in which every kind of call is both accepted and refused, computed: its premises hold, so the claim speaks of such lists. It has the
+-- system of RULES 9.3, the same with a singular sum, its product, dropped sessions, places that are dealt again, and one session number for all. Assumes nothing.
 use mathlib.Core.Path.{_≡_, refl, sym, ap, ap₂, _∙_, subst, subst₂}
 use mathlib.Core.Logic.{_≢_, _⊎_, inl, inr}
 use mathlib.Core.Bool.{Bool, true, false, cond}
@@ -69,7 +69,7 @@ system-terms i = record { session = record { 0 = 9 }; tape = record { 0 = i }; q
 abbrev pub msg : ℕ → Terms → List ℕ → Message
 msg kind t residues = record { head = record { kind = kind; terms = t }; residues = residues }
 
--- 01's tapes
+-- the tapes of RULES 9.3
 abbrev pub a-product : (tape : ℕ) → Request
 a-product i = productRequest (record { 0 = i }) 7 1 2 1 (1 ∷ 4 ∷ 6 ∷ 3 ∷ 2 ∷ [])
 
@@ -102,7 +102,7 @@ singular =
     ∷ beginning second 1 3 (system-terms 5) (blinder-first (3 ∷ []) (1 ∷ []) (2 ∷ 1 ∷ 2 ∷ []) (msg 1 (system-terms 5) (3 ∷ 1 ∷ [])) 3)
     ∷ one
 
--- 01's system at the same place, the halves the other way round: sessions 2 and 3, on the same scratch
+-- the system of RULES 9.3 at the same place, the halves the other way round: sessions 2 and 3, on the same scratch
 abbrev two : List Call
 two =
     beginning second 1 0 (system-terms 7) (solver-first (2 ∷ []) (3 ∷ []) 2)
@@ -122,7 +122,7 @@ regular-run =
     ∷ beginning first 1 3 (system-terms 7) (blinder-first (1 ∷ []) (1 ∷ []) (2 ∷ 1 ∷ 2 ∷ []) (msg 1 (system-terms 7) (3 ∷ 1 ∷ [])) 3)
     ∷ two
 
--- 01's product: right is session 4 of the first party, left session 5 of the second
+-- the product of RULES 9.3: right is session 4 of the first party, left session 5 of the second
 abbrev with-product : List Call
 with-product =
     continuing first 0 0 4 right-drop
@@ -149,7 +149,7 @@ calls =
 abbrev end : World
 end = run sizes start lent calls
 
--- 01's number of each call's answer, 0 where it is accepted; newest first
+-- the number of each call's answer (RULES 8.2), 0 where it is accepted; newest first
 abbrev answerTo : World → Call → ℕ
 answerTo o (dealing holder len i r) = answerNumber (dealAnswer (deal (o .state .pools holder) (o .state .pools (opposite holder)) len i r))
 answerTo o (beginning w i b t k) = answerNumber (answerAfter (runFirst t k (slotOf sizes (o .state .pools) w i) (o .state .scratches b)))
@@ -332,7 +332,7 @@ of-this-list = demand-3 sizes start lent three-slots calls premises
 
 -- ---- what it says, for one
 
--- of the blinder of the second system, and of right in the first product: the other end's inputs of 01 are counted
+-- of the blinder of the second system, and of right in the first product: the other end's inputs of RULES 9.3 are counted
 blinder-counts : Counted (view (end .log) 3) ((2 ∷ []) ∷ (3 ∷ []) ∷ [])
 unfolding sumTo tabulate zeros addMod subMod matAdd matSub dotTo dot matMul both parts join cols beside noDivisor isPrime inverseBy inverse swapAt swapRows scaleRow clearColumn pivotFrom pivot step eliminateFrom eliminate regular solution dealB sendY sendX sendR rightShare dealV solverShare sendF sendW sendC sumMatrix over writtenAt given clear judgeBy judge isKept residueOf residuesOf drawn wordsRead drawTests within columns allBelow fieldFits sidesFit shapeTests termsTests inputTests roomTests isSlot slotWords poolWith headerWords bodySize tapeSize statusOf withStatus spent body matrices wordsInUse wordsSpent slotTests halfTests tapeTests bodyTests drawSize drawnParts dealtB dealtV isFree dealTests dealtOver dealtEffect deal kindSort messageLayout messageSize messageParts messageTests dueTests firstTests isOpen openTests laterTests rightFirstEffect rightFirstTests rightFirst leftEffect leftTests leftStep rightLastEffect rightLastTests rightLast padded sideSize keptS keptM keptY scratchSize keptTests blinderTests solverTests coinsOf scratchParts regularTests jointSum solverFirstEffect solverFirstTests solverFirst blinderFirstEffect blinderFirstTests blinderFirst solverSecondEffect solverSecondTests solverSecond blinderSecondEffect blinderSecondTests blinderSecond solverLastEffect solverLastTests solverLast blinderLastEffect blinderLastTests blinderLast dropRight dropSolver dropBlinder said runFirst runLater here halfRole half ℕ-discrete sumLists count eqList idMat areInverse hasInverse
 blinder-counts = record { taken = refl; sum = refl }
@@ -391,8 +391,8 @@ arrived o r n n′ i a b h la lb = record {
   back = h .8 ∙ sym (h .9);
 }
 
--- 01's product: left is session 5 and right session 4. 01's system: the blinder is session 3 and the solver session 2. The system with a singular sum: the
--- blinder is session 1 and the solver session 0
+-- RULES 9.3's product: left is session 5 and right session 4. Its system: the blinder is session 3 and the solver session 2. The system with a singular sum:
+-- the blinder is session 1 and the solver session 0
 product-met : Ends-here end left 5 4 4 ((3 ∷ 3 ∷ []) ∷ []) ((3 ∷ 3 ∷ []) ∷ []) ((4 ∷ 2 ∷ 3 ∷ []) ∷ []) ((4 ∷ 2 ∷ 3 ∷ []) ∷ [])
 unfolding sumTo tabulate zeros addMod subMod matAdd matSub dotTo dot matMul both parts join cols beside noDivisor isPrime inverseBy inverse swapAt swapRows scaleRow clearColumn pivotFrom pivot step eliminateFrom eliminate regular solution dealB sendY sendX sendR rightShare dealV solverShare sendF sendW sendC sumMatrix over writtenAt given clear judgeBy judge isKept residueOf residuesOf drawn wordsRead drawTests within columns allBelow fieldFits sidesFit shapeTests termsTests inputTests roomTests isSlot slotWords poolWith headerWords bodySize tapeSize statusOf withStatus spent body matrices wordsInUse wordsSpent slotTests halfTests tapeTests bodyTests drawSize drawnParts dealtB dealtV isFree dealTests dealtOver dealtEffect deal kindSort messageLayout messageSize messageParts messageTests dueTests firstTests isOpen openTests laterTests rightFirstEffect rightFirstTests rightFirst leftEffect leftTests leftStep rightLastEffect rightLastTests rightLast padded sideSize keptS keptM keptY scratchSize keptTests blinderTests solverTests coinsOf scratchParts regularTests jointSum solverFirstEffect solverFirstTests solverFirst blinderFirstEffect blinderFirstTests blinderFirst solverSecondEffect solverSecondTests solverSecond blinderSecondEffect blinderSecondTests blinderSecond solverLastEffect solverLastTests solverLast blinderLastEffect blinderLastTests blinderLast dropRight dropSolver dropBlinder said runFirst runLater here halfRole half ℕ-discrete
 product-met = (refl, refl, refl, refl, refl, refl, refl, refl, refl, refl)

@@ -1,4 +1,4 @@
--- DEMAND 3, in 01's words and order: what holds after every list of calls. proofs/Demand proves it.
+-- DEMAND 3 (RULES 10.3): what holds after every list of calls. proofs/Demand proves it.
 --   Empty                     the pools at the start
 --   Never, server, Ends       words of the claim about places, halves and sessions
 --   OnHalf, timesOf, times    words of the claim about steps
@@ -25,7 +25,7 @@ use Rattle.history.specs.Seen.{view, Stands}
 
 -- ---- the start
 
--- "It starts with two pools that have mark 0 at every place, whatever their other words, and with no session"
+-- every slot of both pools is empty; their other words are anything (RULES 10.2.1)
 abbrev pub Empty : (size : Party → ℕ) (start : Party → List ℕ) → Type 0
 Empty size start = (w : Party) (i : ℕ) → isSlot (slotOf size start w i) ≡ true → statusOf (slotWords (slotOf size start w i)) ≡ EMPTY
 
@@ -56,7 +56,7 @@ current [] n = absent
 current (dealt d ∷ l) n = current l n
 current (did e ∷ l) n = choose (ℕ-discrete (e .name) n) (e .effect .session) (current l n)
 
--- "A session ends by its last step, by a drop or by refusal 10 for W + V"; the solver's last step covers the refusal too. "Left's one step is both"
+-- the steps that end a session: each end's last, which for the solver may be refused by 10, and drops. Left's one step begins and ends it
 abbrev pub EndsFirst : First → Type 0
 EndsFirst (right-first y room) = ⊥
 EndsFirst (left-only x words a room shareRoom) = Unit
@@ -131,32 +131,30 @@ times n d l = timesBy ℕ-discrete (λ e. dueIn (e .on .sessions (e .name))) n d
 
 -- o: what stands after the list cs, on slots of `size` words, from the pools `start` and the scratches `lent`
 pub record Demand3 (size : Party → ℕ) (start : Party → List ℕ) (lent : ℕ → List ℕ) (cs : List Call) (o : World) : Type 0 where
-  -- 1. "After the list, a place where no dealing was accepted has its starting words ..
+  -- 1. a slot where nothing was dealt has its starting words, ..
   pub never : (w : Party) (i : ℕ) → isSlot (slotOf size start w i) ≡ true → Never i (o .log)
       → slotWords (slotOf size (o .state .pools) w i) ≡ slotWords (slotOf size start w i)
-  -- .. as has what follows a pool's last whole stretch."
+  -- .. and so has what follows a pool's last whole slot
   pub tails : (w : Party) → drop (length (start w) / size w * size w) (o .state .pools w) ≡ drop (length (start w) / size w * size w) (start w)
-  -- 2. "Elsewhere the last accepted dealing there counts. Until a first step is accepted on a half, its tape is what the rules above give from all that
-  -- the dealing was handed, with mark 1. From that step on it is the same with mark 2, and from its session's end on it has mark 3, zeros in all matrices
-  -- and its other words as dealt. Left's one step is both." And: "Words of the stretch past the tape are those from before the dealing." (`halfWords`)
+  -- 2. any other slot shows its latest accepted dealing: ready until a first step, in use while that step's session is open, spent from its end on;
+  -- behind the tape stands what stood there before that dealing (`halfWords`)
   pub last : (w : Party) (newer older : List Entry) (d : Dealing) → o .log ≡ newer ++ dealt d ∷ older → Never (d .index) newer
       → slotWords (slotOf size (o .state .pools) w (d .index))
       ≡ halfWords (o .state .sessions) w d (server newer w (d .index)) (slotWords (slotOf size (d .on .pools) w (d .index)))
-  -- "A session ends by its last step, by a drop or by refusal 10 for W + V.": it is closed (0 is due) exactly from such a step on
+  -- a session is closed (0 is due) exactly from a step on that ends it
   pub sessions : (n : ℕ) → o .state .sessions n ≡ current (o .log) n
   pub ends : (e : Did) → WasDone e (o .log) → (dueIn (e .effect .session) ≡ 0) ↔ Ends (e .step)
-  -- a session is what one accepted first step begins (RULES 10.3): the names below the number of these steps, and no others, have a session that was begun
+  -- the list names its sessions (RULES 10.2.1): the names below the number of these steps, and no others, have a session that was begun
   pub named : (n : ℕ) → (isBegun (o .state .sessions n) ≡ true) ↔ (n < begunIn (o .log))
   -- an entry of the log is a call of the list, accepted on what the calls before it left; every other call changed nothing
   pub made-by : (newer older : List Entry) (x : Entry) → o .log ≡ newer ++ x ∷ older
       → (later : List Call) × (c : Call) × (earlier : List Call) × (cs ≡ later ++ c ∷ earlier) × (run size start lent earlier .log ≡ older)
       × EntryOf size x c (run size start lent earlier)
-  -- 3. "In the stretch lent to a blinder's session, P and then U0 stand while it is open, and zeros in their place from its end until another session
-  -- writes there; its other words are as lent."
+  -- 3. at the start of a scratch stand P and U0 of the blinder's session that it was lent to last, and zeros from that session's end on; the rest is as lent
   pub scratches : (b : ℕ) → o .state .scratches b ≡ scratchWords lent (o .state .sessions) b (tenant (o .log) b)
   pub open-tenant : (n : ℕ) → 0 < dueIn (o .state .sessions n) → roleIn (o .state .sessions n) ≡ blinder
       → (e : Did) × (tenant (o .log) (lentTo (o .log) n) ≡ some e) × (e .name ≡ n)
-  -- 4. "A half serves the session whose first step was accepted on it, and no other session's step or drop is accepted on that half."
+  -- 4. steps and drops are accepted on the half that serves their session alone, and a first step on one that serves none
   pub on-halves : AllOnHalves (o .log)
   -- so each half served one session at most: a half is named by its tape's number and its role
   pub one-session : (n n′ : ℕ) → isBegun (o .state .sessions n) ≡ true → isBegun (o .state .sessions n′) ≡ true
@@ -165,12 +163,10 @@ pub record Demand3 (size : Party → ℕ) (start : Party → List ℕ) (lent : �
   pub once : (n : ℕ) (k : StepKind) → timesOf n k (o .log) ≤ 1
   -- .. which takes the place of the step that was due: one of the two at most
   pub one-turn : (n d : ℕ) → times n d (o .log) ≤ 1
-  -- 5. the counts, for the view of every session of the list, and for that with another message sent, which the other end accepted:
-  -- "Views and sessions are those of the list; a session there is what one accepted first step begins, and two of them may bear the same number."
+  -- 5. the counts, for the view of every session of the list, and for that with another message sent, which the other end accepted (RULES 10.3.4)
   pub secret : (n : ℕ) → isBegun (o .state .sessions n) ≡ true → (v : View) → Stands (o .log) (view (o .log) n) v → Secret v
 
--- "Demand 3 is a single claim about a whole list, and not one for each call. In the list stand dealings, all steps of the four ends and drops, accepted or
--- refused as the refusal list has it, in any order, with any inputs, raw words and messages."
+-- one claim about every list of calls, accepted or refused, in any order, with anything handed to them (RULES 10.2.1)
 abbrev pub DEMAND-3 : Type 0
 DEMAND-3 = (size : Party → ℕ) (start : Party → List ℕ) (lent : ℕ → List ℕ) → Empty size start → (cs : List Call) → Premises size (run size start lent cs .log)
     → Demand3 size start lent cs (run size start lent cs)

@@ -20,7 +20,7 @@ use Rattle.history.specs.Log.{Party, party-eq, Dealing, Did, Entry, deal
 
 -- ---- halves
 
--- the matrices that 01's rules give from all that the dealing was handed: the first half is left's or blinder's
+-- the matrices that RULES 3.3 and 3.4 give from all that the dealing was handed: the first half is left's or blinder's
 abbrev pub halfBy : {P : Type 0} → Dec P → Request → List (List ℕ)
 halfBy (yes _) r = firstHalf (r .sort) (drawnParts r)
 halfBy (no _) r = secondHalf (r .sort) (drawnParts r) (dealtB r (drawnParts r)) (dealtV r (drawnParts r))
@@ -29,7 +29,7 @@ halfBy (no _) r = secondHalf (r .sort) (drawnParts r) (dealtB r (drawnParts r)) 
 unfoldable pub half : Party → Dealing → List (List ℕ)
 half w d = halfBy (party-eq (d .holder) w) (d .request)
 
--- the tape with this mark and these matrices, over the words that stood there before the dealing
+-- the tape with this status and these matrices, over the words that stood there before the dealing
 abbrev pub tapeOn : (status : ℕ) (matrices : List ℕ) → Dealing → (before : List ℕ) → List ℕ
 tapeOn status ms d before =
     let r = d .request in

@@ -1,6 +1,6 @@
 -- Demands 3 and 2, in reading order.
 -- Ends      sessions and steps of all four ends as one type
--- Log       calls, what they leave, the log, places, and 01's premises
+-- Log       calls, what they leave, the log, places, and the premises
 -- Contents  what slots and scratches hold
 -- Seen      what the end of each session has seen
 -- Claim     demand 3

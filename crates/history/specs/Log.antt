@@ -1,9 +1,9 @@
--- Lists of calls, what they leave, and 01's premises on hosts and numbers.
+-- Lists of calls, what they leave, and the premises on hosts and numbers (RULES 10.2.1, 10.2.2).
 --   State, Call, run          two pools, scratches and sessions; a call; what stands after a list of calls
 --   Entry, World              the log: each accepted call with the state that it was called on
 --   begunIn                   how many first steps were accepted: the name of the session that the next one begins
 --   Place, place              what was last dealt at a place, and the session that its half serves
---   Premises                  what 01 supposes of numbers and hosts, of the accepted calls alone
+--   Premises                  what RULES 3.7 supposes of numbers and hosts, of the accepted calls alone
 -- Assumes nothing.
 use mathlib.Core.Path.{_≡_}
 use mathlib.Core.Logic.{_≢_, _⊎_}
@@ -37,7 +37,7 @@ setAt n a f n′ = choose (ℕ-discrete n n′) a (f n′)
 
 -- ---- the state
 
--- the two parties (01: makers); each has a pool
+-- the two parties; each has a pool
 pub data Party : Type 0 where
   first second : Party
   deriving Discrete as party-eq
@@ -46,7 +46,7 @@ abbrev pub opposite : Party → Party
 opposite first = second
 opposite second = first
 
--- both pools, the scratches that hosts lend to blinders (01: stretches), and the sessions, each under its name: how many were begun before it
+-- both pools, the scratches that hosts lend to blinders (RULES 5.2), and the sessions, each under its name: how many were begun before it
 pub record State : Type 0 where
   pub pools : Party → List ℕ
   pub scratches : ℕ → List ℕ
@@ -89,7 +89,7 @@ pub record World : Type 0 where
   pub state : State
   pub log : List Entry
 
--- how many first steps were accepted. RULES 10.3: a session of the list is what one accepted first step begins; so this number names the one that the next
+-- how many first steps were accepted. RULES 10.2.1: every accepted first step begins a session of the list; so this number names the one that the next
 -- first step begins, whatever session number its terms bear
 abbrev pub begunBy : Step → ℕ → ℕ
 begunBy (begins t k) n = suc n
@@ -185,7 +185,7 @@ place [] w i = untouched
 place (dealt d ∷ l) w i = choose (ℕ-discrete (d .index) i) (holds d none) (place l w i)
 place (did d ∷ l) w i = placeAfter (here (d .party) (d .index) w i) (d .step) (d .name) (place l w i)
 
--- ---- 01's premises
+-- ---- premises (RULES 3.7)
 
 abbrev pub WasDealt : Dealing → List Entry → Type 0
 WasDealt d [] = ⊥
@@ -200,7 +200,7 @@ WasDone e (did e′ ∷ l) = (e′ ≡ e) ⊎ WasDone e l
 abbrev pub numberOf : Dealing → ℕ
 numberOf d = d .request .tape .0
 
--- "no two accepted dealings have the same number"
+-- every accepted dealing has a tape number of its own
 abbrev pub Distinct : List Entry → Type 0
 Distinct [] = Unit
 Distinct (dealt d ∷ l) = ((d′ : Dealing) → WasDealt d′ l → numberOf d′ ≢ numberOf d) × Distinct l

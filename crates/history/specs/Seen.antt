@@ -121,8 +121,7 @@ pub record AcceptedBy (l : List Entry) (v : View) (a : Message) : Type 0 where
   pub same-tape : view l (step .name) .terms .tape .0 ≡ v .terms .tape .0
   pub message : takenBy (step .step) ≡ a ∷ []
 
--- 01: "In a product the viewer may have sent another message than its step answered, if the other end's step on the other half of that tape
--- accepted it; that one then stands in the view"
+-- RULES 10.3.2: the view as the steps answered, or, in a product, with a message in its place that the other end accepted
 pub data Stands (l : List Entry) (v : View) : View → Type 0 where
   as-answered : Stands l v v
   as-accepted : (a : Message) → AcceptedBy l v a → Stands l v (withSent a v)

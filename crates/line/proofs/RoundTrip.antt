@@ -29,7 +29,7 @@ unfolding within
 fits-line a w t =
     and-both (le-leb 1 (length (line (messageNumbers a))) (line-some (a .head .kind) (drop 1 (messageNumbers a)))) (le-leb (length (line (messageNumbers a))) 65536 (omega (arith, line-short (messageNumbers a) w, message-few a t)))
 
--- 01's message lines: what is written reads back
+-- RULES 6.3: what is written reads back
 pub written-reads-back : (a : Message) (bytes words : ℕ) (l : List ℕ) → Words (messageNumbers a) → length (a .residues) ≤ words
     → writeInto bytes a ≡ done l → readInto words l ≡ done a
 unfolding writeInto readInto messageLine roomTests

@@ -80,7 +80,7 @@ fn write(t: Terms, y: &[u32], slot: &mut [u32], out: &mut [u32])
     take_up(slot);
 }
 
-// 01: "Right sends Y1 = Y − Y0."
+// Step 1 (RULES 4.2): Y1 = Y − Y0.
 pub fn right_first(
     pool: &mut [u32],
     size: usize,

@@ -105,7 +105,7 @@ fn write(t: Terms, residues: &[u32], slot: &mut [u32], share: &mut [u32])
     spend(End::Right, t, slot);
 }
 
-// 01: "Right's share is X1 × Y0 + R1 − B0."
+// Step 3 (RULES 4.4): the share is X1 × Y0 + R1 − B0.
 pub fn right_last(
     pool: &mut [u32],
     size: usize,

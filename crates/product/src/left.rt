@@ -136,7 +136,7 @@ fn write(
     count
 }
 
-// 01: "Left, with coins U (m by p, drawn), sends X1 = X + X0 and R1 = X × Y1 − U − A0; its share is U."
+// Step 2 (RULES 4.3): U is drawn, X1 = X + X0 and R1 = X × Y1 − U − A0; the share is U.
 pub fn left_step(
     pool: &mut [u32],
     size: usize,

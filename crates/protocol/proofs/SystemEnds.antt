@@ -46,7 +46,7 @@ use Rattle.protocol.proofs.Messages.{message-parts, own-message}
 abbrev pub wideTerms : SessionId → TapeId → (q n rhs : ℕ) → Terms
 wideTerms session tape q n rhs = record { session = session; tape = tape; q = q; m = n; k = n; p = n + rhs }
 
--- the terms of a system, by 01: one column
+-- the terms of a system: one column (RULES 1.3)
 abbrev pub systemTerms : SessionId → TapeId → (q n : ℕ) → Terms
 systemTerms session tape q n = wideTerms session tape q n 1
 

@@ -1,7 +1,7 @@
 -- How many tapes and coins of the other end stand behind a view, and the promise on these numbers. Assumes nothing.
 -- messagesOf            what an end sends, by its own steps, one after the other
 -- dealing, dealtTogether the dealer's rules for two halves
--- isCompletion          a tape and coins of the other end that give a view (01: a filling)
+-- isCompletion          a tape and coins of the other end that give a view (RULES 10.3.3)
 -- completions           how many there are
 -- Counted               the inputs that are counted over
 -- solutionFor           the solution for the viewer's input and another one of the other end
@@ -142,8 +142,7 @@ coinsFit solver t c = true
 
 -- ---- completions
 
--- 01: "A filling is the other end's tape, coins and P, counted in residues, with which the dealer's rules and the other end's steps give that view; P and Q
--- in it have an inverse". f: the matrices of the other end's half, then its coins and P. The dealer, drawing what stands in the two halves, leaves them both;
+-- RULES 10.3.3. f: the matrices of the other end's half, then its coins and P. The dealer, drawing what stands in the two halves, leaves them both;
 -- it asks that Q has an inverse. With the coins, the input i and the messages that the viewer sent, the other end's steps on its slot send those received so far
 unfoldable pub isCompletion : View → (i f : List (List ℕ)) → Bool
 isCompletion v i f =
@@ -204,12 +203,12 @@ abbrev pub sumFits : Sort → View → (input : List (List ℕ)) → Bool
 sumFits product v i = true
 sumFits system v i = hasInverse (v .terms .q) (v .terms .m) (jointMatrix v i)
 
--- 01: "The inputs that demand 3 counts over are those which the other end's steps take and, in a system, whose matrix added to the viewer's has an inverse"
+-- the inputs counted over: the other end's first step takes them and, in a system, the sum with the viewer's matrix has an inverse
 pub record Counted (v : View) (i : List (List ℕ)) : Type 0 where
   pub taken : Taken (facing (v .role)) (v .terms) i
   pub sum : sumFits (sortOf (v .role)) v i ≡ true
 
--- 01: "The solution for two inputs is the z of demand 2": (L + M) z = x + y
+-- the z with (L + M) z = x + y
 abbrev pub solutionFor : View → (input : List (List ℕ)) → List ℕ
 solutionFor v i = solution (v .terms .q) (v .terms .m) (jointMatrix v i) (jointVector v i)
 
@@ -220,15 +219,13 @@ answerSeen v = matMul (v .terms .q) (v .terms .m) (v .terms .m) 1 (part 2 (v .ha
 -- ---- demand 3's counts, for one view
 
 pub record Secret (v : View) : Type 0 where
-  -- "The count of tapes and coins behind what one end has seen is blind to the other end's secret: one number for all its inputs while the session is
-  -- unfinished"
+  -- RULES 10.3.4: one number for all inputs of the other end while the session is unfinished
   pub unfinished : Unfinished v → (i j : List (List ℕ)) → Counted v i → Counted v j → completions v i ≡ completions v j
-  -- "In a finished product, each input of the other end has exactly one filling, whatever accepted message the viewer sent"
+  -- in a finished product every input has exactly one completion
   pub finished-product : sortOf (v .role) ≡ product → Finished v → (i : List (List ℕ)) → Counted v i → completions v i ≡ 1
-  -- "In a finished system where both follow the rules, with an invertible sum, each solver input with the solution seen has exactly one filling for the
-  -- blinder's view", and another has none
+  -- in a finished system the blinder's view has exactly one for a solver's input with the solution seen, and none for another
   pub finished-blinder : v .role ≡ blinder → Finished v → (i : List (List ℕ)) → Counted v i → solutionFor v i ≡ answerSeen v → completions v i ≡ 1
   pub other-solution : v .role ≡ blinder → Finished v → (i : List (List ℕ)) → Counted v i → solutionFor v i ≢ answerSeen v → completions v i ≡ 0
-  -- "and the solver's view has as many fillings for any two blinder inputs whose solutions are both zero or both not"
+  -- and the solver's view has as many for any two blinder's inputs whose solutions are both zero or both not
   pub finished-solver : v .role ≡ solver → Finished v → (i j : List (List ℕ)) → Counted v i → Counted v j
       → (solutionFor v i ≡ zeros (v .terms .m * 1)) ↔ (solutionFor v j ≡ zeros (v .terms .m * 1)) → completions v i ≡ completions v j

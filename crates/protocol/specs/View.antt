@@ -11,8 +11,7 @@ use Rattle.protocol.specs.declared.Terms.{Terms}
 use Rattle.protocol.specs.Tape.{Role, left, right, blinder, solver}
 use Rattle.protocol.specs.System.{scratchLayout}
 
--- 01: "A view is: own input, own tape as dealt, own coins and P, the messages sent, and all messages received and accepted".
--- "Of a message in a view its residues count, whatever session or tape it names": here a message is its residues
+-- RULES 10.3.2. A message counts by its residues, whatever its head says: here it is its residues
 pub record View : Type 0 where
   pub role : Role
   pub terms : Terms
@@ -46,7 +45,7 @@ kindsSent right = 1 ∷ []
 kindsSent blinder = 2 ∷ 4 ∷ []
 kindsSent solver = 1 ∷ 3 ∷ 5 ∷ []
 
--- 01: "A session is finished for an end when it has received and accepted its last message: left 1, right 2, solver 4, blinder 5"
+-- finished: the end has accepted the last message that it gets
 abbrev pub Finished : View → Type 0
 Finished v = length (v .received) ≡ length (kindsSent (facing (v .role)))
 

@@ -65,7 +65,7 @@ fn put_named(name: &[u8], xs: &[u32], out: &mut [u8], at: usize) -> usize
     put_run(xs, 0, out, behind)
 }
 
-// 01's number of a refusal.
+// The number of a refusal (RULES 8.2).
 fn number(r: Refusal) -> u32
     ensures { λ n. ⌜ n ≡ refusalNumber r ⌝ }
 {
@@ -83,7 +83,7 @@ fn number(r: Refusal) -> u32
     }
 }
 
-// 01: "nothing but `refused,` and the lowest number that applies"
+// What is printed of a refusal (RULES 9.1).
 pub fn refusal(r: Refusal, out: &mut [u8]) -> usize
     requires { ⌜ MOST ≤ length (now out) ⌝ }
     ensures place { λ n. ⌜ n ≡ length (printed (refused r)) ⌝ }
@@ -94,7 +94,7 @@ pub fn refusal(r: Refusal, out: &mut [u8]) -> usize
     put_named(b"refused,", &words, out, 0)
 }
 
-// 01: "the two messages, then each share after its end's name"
+// What is printed of a run (RULES 9.1): both messages, then each share behind its end's name.
 pub fn result(
     one: Head,
     y1: &[u32],

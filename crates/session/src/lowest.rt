@@ -1,4 +1,4 @@
-// The lowest of several refusals: 01's "The lowest number that applies is given", for code that makes its tests in any order.
+// The lowest of several refusals (RULES 8.1), for code that makes its tests in any order.
 use checks::Check;
 use protocol::Refusal;
 ghost use mathlib.Core.Path.{_≡_};

@@ -72,7 +72,7 @@ fn write_spent(n: usize, slot: &mut [u32])
     slot[0] = 3;
 }
 
-// 01: spent.
+// Status 3, and zeros in the matrices (RULES 3.5).
 pub fn spend(end: End, t: Terms, slot: &mut [u32])
     requires { ⌜ (sidesFit (sort end) (t .m) (t .k) (t .p) ≡ true) × (tapeSize (role end) (t .m) (t .k) (t .p) ≤ length (now slot)) ⌝ }
     ensures { λ _. ⌜ now (slot .exit) ≡ wordsSpent (role end) t (now (slot .entry)) ⌝ }
@@ -81,7 +81,7 @@ pub fn spend(end: End, t: Terms, slot: &mut [u32])
     write_spent(half - 7, slot);
 }
 
-// 01: in use.
+// Status 2 (RULES 3.5).
 pub fn take_up(slot: &mut [u32])
     requires { ⌜ 0 < length (now slot) ⌝ }
     ensures { λ _. ⌜ now (slot .exit) ≡ wordsInUse (now (slot .entry)) ⌝ }

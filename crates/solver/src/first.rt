@@ -110,7 +110,7 @@ fn write(t: Terms, l: &[u32], x: &[u32], slot: &mut [u32], out: &mut [u32])
     take_up(slot);
 }
 
-// 01: "Solver sends Y1 = [L, x] − Y0."
+// Step 1 (RULES 5.3): Y1 = [L, x] − Y0.
 pub fn solver_first(
     pool: &mut [u32],
     size: usize,

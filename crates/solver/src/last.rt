@@ -86,7 +86,7 @@ fn answer(t: Terms, found: bool) -> SolverAnswer
     }
 }
 
-// 01: "Solver solves (W + V) t = c + s and sends t."
+// Step 5 (RULES 5.7): the t with (W + V) t = c + s.
 pub fn solver_last(
     pool: &mut [u32],
     size: usize,

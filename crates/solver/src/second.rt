@@ -88,7 +88,7 @@ fn write(t: Terms, slot: &[u32], residues: &[u32], out: &mut [u32]) -> [u32; 16]
     last_column(t, &share[..size])
 }
 
-// 01: "Solver finds S = X1 × Y0 + R1 − B0, first n columns S', last column s; sends F = R − S'." The pool stays as it is.
+// Step 3 (RULES 5.5): S = X1 × Y0 + R1 − B0, its last column s is kept, and F = R − S' is sent. The pool stays as it is.
 pub fn solver_second(
     pool: &[u32],
     size: usize,

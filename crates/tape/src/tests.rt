@@ -76,7 +76,7 @@ fn product_numbers(
     checks::check_place(second, size, index, right_size(m, k, p))
 }
 
-// 01: "over a mark of 0 or 3"
+// A tape is dealt over an empty or a spent one (RULES 3.5).
 fn is_free(status: u32) -> bool
     ensures { λ r. ⌜ r ≡ isFree status ⌝ }
 {

@@ -104,13 +104,13 @@ fn printed_run(writer: &mut Writer, random: &mut Random, is_system: bool, terms:
     answers
 }
 
-/// 01's run of a product.
+/// The product of RULES 9.3.
 fn product_run(writer: &mut Writer, random: &mut Random) -> Vec<u32> {
     let given: [Given; 4] = [(&[1, 4, 6, 3, 2], &[], &[]), (&[], &[2, 6], &[]), (&[5], &[3, 5], &[]), (&[], &[], &[])];
     printed_run(writer, random, false, Terms::product(9, 4, 7, 1, 2, 1), (5, 1), &given)
 }
 
-/// 01's run of a system, with this M.
+/// The system of RULES 9.3, with this M.
 fn system_run(writer: &mut Writer, random: &mut Random, m: u32) -> Vec<u32> {
     let none: Given = (&[], &[], &[]);
     let given = [(&[1, 4, 2, 0, 3, 3, 2, 1][..], &[][..], &[][..]), (&[], &[2], &[3]), (&[2, 1, 2], &[m], &[1]), none, none, none, none];
@@ -160,7 +160,7 @@ fn singular_sum(writer: &mut Writer, random: &mut Random, t: Terms) {
     }
 }
 
-/// Products: 01's run, the largest sides and moduli, and every refusal at every step.
+/// Products: the run of RULES 9.3, the largest sides and moduli, and every refusal at every step.
 fn products(writer: &mut Writer) {
     let random = &mut Random(7);
     assert_eq!(product_run(writer, random), [0; 4]);
@@ -175,7 +175,7 @@ fn products(writer: &mut Writer) {
     }
 }
 
-/// Systems: 01's run, the largest, the smallest, and every refusal at every step.
+/// Systems: the run of RULES 9.3, the largest, the smallest, and every refusal at every step.
 fn systems(writer: &mut Writer) {
     let random = &mut Random(8);
     assert_eq!(system_run(writer, random, 1), [0; 7]);
@@ -220,7 +220,7 @@ fn drops(writer: &mut Writer) {
     }
 }
 
-/// The runs of 01 that are executed: the longest inner side and one more, the most unknowns and one more.
+/// The runs of RULES 9.3 that are executed: the longest inner side and one more, the most unknowns and one more.
 fn bounds(writer: &mut Writer, random: &mut Random) {
     let size = 4200;
     for (is_system, t, more) in [(false, Terms::product(1, 1, 7, 1, 2048, 1), 9), (true, Terms::system(1, 2, 7, 16), 8)] {
@@ -240,7 +240,7 @@ fn bounds(writer: &mut Writer, random: &mut Random) {
     }
 }
 
-/// The runs of 01 that are executed, and a thousand sessions.
+/// The runs of RULES 9.3 that are executed, and a thousand sessions.
 fn sessions(writer: &mut Writer) {
     let random = &mut Random(10);
     let habit = Habit { damaged: 4, taken: 12, dropped: 12, short: false, posted: 6 };
