@@ -1,5 +1,6 @@
 -- What the five lines of a rehearsal say, where they can be read.
 --   countsOf  the lines' counts, where all can be read
+--   Loaded    what a line leaves in the words lent for it, read or not
 --   Holds  words that hold a line's numbers, where there was room for them
 --   Said   an input, and the words that hold it
 -- Assumes nothing.
@@ -9,11 +10,13 @@ use mathlib.Core.Bool.{cond}
 use mathlib.Core.List.{List}
 use lib.Dec.{eqb}
 use lib.ListN.{length, take}
+use lib.Seq.{sets}
 use Rattle.protocol.specs.declared.Refusal.the-variants.{Form}
 use Rattle.protocol.specs.Judge.{refused, judge}
-use Rattle.protocol.specs.Rehearsal.{Input, termsFrom, rehearsalTests, run, printed, rehearse}
+use Rattle.protocol.specs.Rehearsal.{Input, termsFrom, rehearsalTests, run, printed, lineAt, rehearse}
 use Rattle.decimal.specs.declared.Tally.{Tally}
 use Rattle.decimal.specs.declared.Tally.the-variants as tally
+use Rattle.decimal.specs.Reading.{numbersBefore}
 use Rattle.rehearse_lines.specs.declared.Counts.{Counts}
 use Rattle.rehearse_lines.specs.declared.Lines.{Lines}
 use Rattle.rehearse_lines.specs.declared.Lines.the-variants.{Read, Wrong}
@@ -27,6 +30,10 @@ countsOf (tally.Numbers n) (tally.Numbers x) (tally.Numbers y) tally.Wrong l = W
 countsOf (tally.Numbers n) (tally.Numbers x) (tally.Numbers y) (tally.Numbers d) tally.Wrong = Wrong
 countsOf (tally.Numbers n) (tally.Numbers x) (tally.Numbers y) (tally.Numbers d) (tally.Numbers l) =
     cond (eqb n 6) (Read (record { x = x; y = y; dealer = d; left = l })) Wrong
+
+-- the numbers of line number n, up to its first fault, stand at the start of the words, as many as there is room for
+abbrev pub Loaded : (s : List ℕ) (n : ℕ) (before after : List ℕ) → Type 0
+Loaded s n before after = after ≡ sets before 0 (numbersBefore (lineAt n s))
 
 -- n numbers
 pub record Holds (values : List ℕ) (n : ℕ) (words : List ℕ) : Type 0 where

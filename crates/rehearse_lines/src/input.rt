@@ -11,7 +11,7 @@ ghost use lib.ListN.{length, drop};
 ghost use Rattle.protocol.specs.Line.{numbersOf};
 ghost use Rattle.protocol.specs.Rehearsal.{firstLine, lineAt, termsFrom};
 ghost use Rattle.decimal.specs.Reading.{Tallied};
-ghost use Rattle.rehearse_lines.specs.Says.{countsOf, Says};
+ghost use Rattle.rehearse_lines.specs.Says.{countsOf, Loaded, Says};
 
 // The position behind the line that begins at a position.
 fn line_end(s: &[u8], at: usize) -> usize
@@ -45,7 +45,8 @@ fn line_start(s: &[u8], n: usize) -> usize
 
 // The numbers of line number n, as many of them stored as there is room for.
 fn load_line(s: &[u8], n: usize, out: &mut [u32]) -> Tally
-    ensures { λ r. ⌜ Tallied (numbersOf (lineAt n (now (s .entry)))) (now (out .entry)) (now (out .exit)) r ⌝ }
+    ensures answered { λ r. ⌜ Tallied (numbersOf (lineAt n (now (s .entry)))) (now (out .entry)) (now (out .exit)) r ⌝ }
+    ensures contents { λ _. ⌜ Loaded (now (s .entry)) n (now (out .entry)) (now (out .exit)) ⌝ }
 {
     let at = line_start(s, n);
     let end = line_end(s, at);
@@ -107,7 +108,10 @@ pub fn read(
     left: &mut [u32],
 ) -> Lines
     requires { ⌜ length (now first) ≡ 6 ⌝ }
-    ensures { λ r. ⌜ Says (now (s .entry)) (now (first .exit)) (now (x .exit)) (now (y .exit)) (now (dealer .exit)) (now (left .exit)) r ⌝ }
+    ensures answered { λ r. ⌜ Says (now (s .entry)) (now (first .exit)) (now (x .exit)) (now (y .exit)) (now (dealer .exit)) (now (left .exit)) r ⌝ }
+    ensures contents { λ _. ⌜ Loaded (now (s .entry)) 0 (now (first .entry)) (now (first .exit))
+        × Loaded (now (s .entry)) 1 (now (x .entry)) (now (x .exit)) × Loaded (now (s .entry)) 2 (now (y .entry)) (now (y .exit))
+        × Loaded (now (s .entry)) 3 (now (dealer .entry)) (now (dealer .exit)) × Loaded (now (s .entry)) 4 (now (left .entry)) (now (left .exit)) ⌝ }
 {
     let f = load_line(s, 0, first);
     let a = load_line(s, 1, x);

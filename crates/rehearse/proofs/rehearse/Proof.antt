@@ -42,7 +42,7 @@ returns c =
     let a = c .before .before .before .before .before .before .before .before .before .before .before .before .before .before .before .before .args in
     let read = c .before .before .before .before .before .before .before .before .before .read in
     let z = wrong-printed (a .bytes .now) _ _ _
-    (said-wrong (a .bytes .now) _ _ _ _ _ (read .result) (read .ensures) (c .before .before .enum-told .given .1)) (c .refusal .ensures .0)
+    (said-wrong (a .bytes .now) _ _ _ _ _ (read .result) (read .ensures .0) (c .before .before .enum-told .given .1)) (c .refusal .ensures .0)
     (c .refusal .ensures .1 .0) (c .refusal .ensures .1 .1) in
     (z .0, (z .1, z .2))
 
@@ -63,7 +63,7 @@ array-share-prefix-dealer c =
     let lines = c .before .before .before .before .before .lines in
     let read = c .before .before .before .before .before .before .before .before .before .before .before .before .read in
     let a = c .before .before .before .before .before .before .before .before .before .before .before .before .before .before .before .before .before .before .before .args in
-    let s = said-read (a .bytes .now) _ _ _ _ _ (read .result) (lines .given .0 .0) (read .ensures) (lines .given .1) in
+    let s = said-read (a .bytes .now) _ _ _ _ _ (read .result) (lines .given .0 .0) (read .ensures .0) (lines .given .1) in
     omega (arith, s .in-dealer .few)
 
 slice-aggregate-answer-3 : tie.Need-slice-aggregate-answer-3
@@ -71,7 +71,7 @@ slice-aggregate-answer-3 c =
     let lines = c .before .before .before .before .before .before .lines in
     let read = c .before .before .before .before .before .before .before .before .before .before .before .before .before .read in
     let a = c .before .before .before .before .before .before .before .before .before .before .before .before .before .before .before .before .before .before .before .before .args in
-    let s = said-read (a .bytes .now) _ _ _ _ _ (read .result) (lines .given .0 .0) (read .ensures) (lines .given .1) in
+    let s = said-read (a .bytes .now) _ _ _ _ _ (read .result) (lines .given .0 .0) (read .ensures .0) (lines .given .1) in
     sym (length-take-le _ _ (omega (arith, s .in-dealer .few, c .before .before .before .before .before .before .before .before .before .dealer2 .given)))
 
 array-share-prefix-coins : tie.Need-array-share-prefix-coins
@@ -79,7 +79,7 @@ array-share-prefix-coins c =
     let lines = c .before .before .before .before .before .before .lines in
     let read = c .before .before .before .before .before .before .before .before .before .before .before .before .before .read in
     let a = c .before .before .before .before .before .before .before .before .before .before .before .before .before .before .before .before .before .before .before .before .args in
-    let s = said-read (a .bytes .now) _ _ _ _ _ (read .result) (lines .given .0 .0) (read .ensures) (lines .given .1) in
+    let s = said-read (a .bytes .now) _ _ _ _ _ (read .result) (lines .given .0 .0) (read .ensures .0) (lines .given .1) in
     omega (arith, s .in-left .few)
 
 slice-aggregate-answer-4 : tie.Need-slice-aggregate-answer-4
@@ -87,7 +87,7 @@ slice-aggregate-answer-4 c =
     let lines = c .before .before .before .before .before .before .before .lines in
     let read = c .before .before .before .before .before .before .before .before .before .before .before .before .before .before .read in
     let a = c .before .before .before .before .before .before .before .before .before .before .before .before .before .before .before .before .before .before .before .before .before .args in
-    let s = said-read (a .bytes .now) _ _ _ _ _ (read .result) (lines .given .0 .0) (read .ensures) (lines .given .1) in
+    let s = said-read (a .bytes .now) _ _ _ _ _ (read .result) (lines .given .0 .0) (read .ensures .0) (lines .given .1) in
     sym (length-take-le _ _ (omega (arith, s .in-left .few, c .before .before .before .before .before .before .before .before .before .coins2 .given)))
 
 answer-requires : tie.Need-answer-requires
@@ -99,7 +99,7 @@ returns-2 c =
     let read = c .before .before .before .before .before .before .before .before .before .before .before .before .before .before .before .before .read
     in
     let a = c .before .before .before .before .before .before .before .before .before .before .before .before .before .before .before .before .before .before .before .before .before .before .before .args in
-    let s = said-read (a .bytes .now) _ _ _ _ _ (read .result) (lines .given .0 .0) (read .ensures) (lines .given .1) in
+    let s = said-read (a .bytes .now) _ _ _ _ _ (read .result) (lines .given .0 .0) (read .ensures .0) (lines .given .1) in
     let z = said-printed (a .bytes .now) (s .input) _ _ _ _ _ _ (s .prints)
     (c .before .before .before .before .before .before .terms-of .ensures ∙ sym (s .terms))
     (s .in-dealer .held (omega (arith, s .in-dealer .few, c .before .before .before .before .before .before .before .before .before .before .before .before .dealer2 .given))) (s .in-left .held (omega (arith, s .in-left .few, c .before .before .before .before .before .before .before .before .before .before .before .coins2 .given))) (c .answer .ensures (s .input .x) (s .input .y) (s .in-x) (s .in-y)) in

@@ -49,8 +49,11 @@ returns c =
     let load-line3 = c .before .before .before .before .before .before .before .before .before .before .before .load-line3 in
     let load-line4 = c .before .before .before .before .before .before .before .load-line4 in
     let a = c .before .before .before .before .before .before .before .before .before .before .before .before .before .before .before .before .before .before .before .before .before .before .before .before .before .before .before .args in
-    rw (c .counts .ensures)
-    (said (a .s .now) (a .first .now) _ (a .x .now) _ (a .y .now) _ (a .dealer .now) _ (a .left .now) _ (load-line .result) (load-line2 .result) (load-line3 .result) (load-line4 .result) (c .before .before .before .load-line5 .result) (c .before .before .before .before .before .before .before .before .before .before .before .before .before .before .before .before .before .before .before .before .before .before .before .before .before .before .before .pre) (load-line .ensures) (load-line2 .ensures) (load-line3 .ensures) (load-line4 .ensures) (c .before .before .before .load-line5 .ensures))
+    let load-line5 = c .before .before .before .load-line5 in (
+      rw (c .counts .ensures)
+          (said (a .s .now) (a .first .now) _ (a .x .now) _ (a .y .now) _ (a .dealer .now) _ (a .left .now) _ (load-line .result) (load-line2 .result) (load-line3 .result) (load-line4 .result) (load-line5 .result) (c .before .before .before .before .before .before .before .before .before .before .before .before .before .before .before .before .before .before .before .before .before .before .before .before .before .before .before .pre) (load-line .ensures .0) (load-line2 .ensures .0) (load-line3 .ensures .0) (load-line4 .ensures .0) (load-line5 .ensures .0)),
+      (load-line .ensures .1, load-line2 .ensures .1, load-line3 .ensures .1, load-line4 .ensures .1, load-line5 .ensures .1),
+    )
 
 pub read-spec : {M : Type 1} → statement M
 read-spec =
