@@ -1,4 +1,5 @@
 // What bench/elimination.c times: whether a matrix has an inverse, and the solution of a system. C hands over what is asked here.
+// No function here is for hosts.
 ghost use mathlib.Core.Path.{_≡_};
 ghost use mathlib.Core.Bool.{true};
 ghost use Prim.Native.Nat.{_*_, _≤_, _<_};

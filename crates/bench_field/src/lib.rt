@@ -1,4 +1,5 @@
 // What bench/field.c times: the prime test, and a run of inverses.
+// No function here is for hosts.
 use field::Field;
 use field::FieldAnswer;
 ghost use mathlib.Core.Path.{_≡_};

@@ -1,4 +1,5 @@
 // What bench/line.c times: a message line read and written, with all checks.
+// No function here is for hosts.
 use line::Received;
 use line::Written;
 use protocol::Head;

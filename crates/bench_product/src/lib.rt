@@ -1,4 +1,5 @@
 // What bench/product.c times: the steps of a product session with the number 9 on the tape 4 in the first slot of its pool, and message lines.
+// No function here is for hosts.
 use field::Field;
 use line::Received;
 use line::Written;

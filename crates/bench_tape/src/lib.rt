@@ -1,4 +1,5 @@
 // What bench/tape.c times: dealing. Each answers the words read, or 0 where the dealing is refused.
+// No function here is for hosts.
 use protocol::Answer;
 use protocol::TapeId;
 

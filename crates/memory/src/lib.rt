@@ -1,6 +1,7 @@
 // The memory of the machine that replays calls (crate `replay`): words from seeds, copies, bytes, and sums.
 //   places   where things stand in the memory, and a call's numbers in the registers
 //   shown    what is printed of it
+// No function here is for hosts.
 pub mod places;
 pub mod shown;
 

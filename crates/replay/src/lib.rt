@@ -36,6 +36,7 @@
 //
 //   script    a line of the script, and the loop over all
 // The crate `memory` has the arrays and what is printed of them, `replay_products` and `replay_systems` the calls.
+// No function here is for hosts.
 mod script;
 
 pub use script::run;

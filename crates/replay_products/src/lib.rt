@@ -3,6 +3,7 @@
 //   step   12 right_first, 13 left_step, 14 right_last, 21 right_drop
 //   line   24 write, 25 parse, 26 read, 27 numbers
 // A call is lent copies of what it may write, which are put back, and parts of the memory itself of what it only reads.
+// No function here is for hosts.
 mod dealing;
 mod lines;
 mod products;

@@ -2,6 +2,7 @@
 //   step   15 solver_first, 16 solver_second, 17 solver_last, 18 blinder_first, 19 blinder_second, 20 blinder_last, 22 solver_drop,
 //          23 blinder_drop
 // A call is lent copies of what it may write, which are put back, and parts of the memory itself of what it only reads.
+// No function here is for hosts.
 use memory::load;
 use memory::most;
 use memory::places::expand;
