@@ -1,4 +1,4 @@
--- The proofs of demands 3 and 2, in reading order.
+-- The proofs of demands 3 and 2, in reading order. Lists that meet their premises are in the crate history_examples.
 -- Words             words written over a list and into a slot; a tape's words
 -- Steps             what an accepted step or drop needs and leaves: all that the bookkeeping knows of steps
 -- Facts             of any log
@@ -19,9 +19,6 @@
 -- Dealable          a dealing that keeps to the rules is accepted
 -- Stood             an end's own half and coins complete the other's view
 -- Rightness         demand 2
--- Example           a list in which every kind of call is accepted and refused
--- Interleaved       two products and a system interleaved: every field of demand 2 is met
--- Counts            how many completions its views have
 pub mod Words
 pub mod Steps
 pub mod Facts
@@ -45,6 +42,3 @@ pub mod Progress
 pub mod Dealable
 pub mod Stood
 pub mod Rightness
-pub mod Example
-pub mod Interleaved
-pub mod Counts

@@ -33,14 +33,14 @@ use Rattle.protocol.specs.System.{padded, sideSize, keptS, keptM, keptY, scratc
 use Rattle.protocol.specs.Drop.{dropRight, dropSolver, dropBlinder}
 use Rattle.protocol.specs.Completion.{said, completions, Taken, jointMatrix, jointVector}
 use Rattle.protocol.proofs.CompletionNumbers.{Numbers, numbers, solvedMatrix, solvedVector}
 use Rattle.history.specs.Ends.{isBegun, runFirst, runLater}
 use Rattle.history.specs.Log.{Call, halfRole, here, Premises}
 use Rattle.history.specs.Contents.{half}
 use Rattle.history.specs.Seen.{view}
 use Rattle.history.proofs.Known.{arises}
 use Rattle.history.proofs.Stands.{known}
-use Rattle.history.proofs.Example.{sizes, start, lent, system-terms, three-slots}
-use Rattle.history.proofs.Interleaved.{ten-terms, answering, halfway, dropping, calls, after, premises, dropping-kept, halfway-kept, answering-kept}
+use Rattle.history_examples.proofs.Example.{sizes, start, lent, system-terms, three-slots}
+use Rattle.history_examples.proofs.Interleaved.{ten-terms, answering, halfway, dropping, calls, after, premises, dropping-kept, halfway-kept, answering-kept}
 
 -- ---- the views
 

@@ -38,14 +38,14 @@ use Rattle.protocol.specs.System.{padded, sideSize, keptS, keptM, keptY, scratc
 use Rattle.protocol.specs.Drop.{dropRight, dropSolver, dropBlinder}
 use Rattle.protocol.specs.View.{View, facing}
 use Rattle.protocol.specs.Completion.{said, Taken}
 use Rattle.history.specs.Ends.{Session, Step, dueIn, right-first, left-only, solver-first, blinder-first, right-last, solver-second, solver-last, blinder-second, blinder-last, solver-drop, begins, goes-on, runFirst, runLater, runStep, First, Later}
 use Rattle.history.specs.Log.{Party, first, second, opposite, Call, dealing, beginning, continuing, tryStep, begunIn, Dealing, Did, Entry, dealt, did, World, slotOf, advanceDealing, advanceStep, advance, run, halfRole, holds, here, Premises, choose, party-eq, roleBy, Place, untouched, place, WasDone, lentTo}
 use Rattle.history.specs.Contents.{half}
 use Rattle.history.specs.Seen.{view}
 use Rattle.history.specs.Right.{newest, result, Paired, AddTo, OnlySolution, Demand2, DealtNow, HasServed, TakenNow, TermsOf, SentTo, FairLater, SoFar, Stood}
 use Rattle.history.proofs.Rightness.{demand-2}
 use Rattle.history.proofs.Facts.{none≢}
-use Rattle.history.proofs.Example.{sizes, start, lent, product-terms, system-terms, msg, a-product, a-system, answers, distinct, own, other-role, NoBlinder, no-session, three-slots, Ends-here, paired, arrived}
+use Rattle.history_examples.proofs.Example.{sizes, start, lent, product-terms, system-terms, msg, a-product, a-system, answers, distinct, own, other-role, NoBlinder, no-session, three-slots, Ends-here, paired, arrived}
 
 -- ---- the list
 
