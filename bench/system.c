@@ -162,7 +162,7 @@ static void at(uint32_t modulus) {
     start(modulus, N);
     snprintf(name, sizeof name, "q %u, n 16: a whole session beside", q);
     heading(name);
-    row("FLINT nmod_mat_solve, bare", session, flint_solution, TURNS, 12.0);
+    row("FLINT nmod_mat_solve, bare", session, flint_solution, TURNS, 8.0);
     row("NTL zz_p solve, bare", session, ntl_solution, TURNS, 0);
     printf("\n");
     each();
@@ -170,6 +170,7 @@ static void at(uint32_t modulus) {
 }
 
 int main(void) {
+    at(7);
     at(257);
     at(65537);
     at(2147483647);

@@ -108,6 +108,10 @@ static void product(uint32_t modulo, size_t rows, size_t sides, size_t columns) 
     nmod_mat_clear(x0), nmod_mat_clear(y0), nmod_mat_clear(a0), nmod_mat_clear(b0);
 }
 
+static void draw_words(void) {
+    for (size_t i = 0; i < WORDS; i++) words[i] = random32();
+}
+
 static void system_of(uint32_t modulo, size_t n) {
     char name[64];
     q = modulo, m = k = n, p = n + 1;
@@ -115,10 +119,12 @@ static void system_of(uint32_t modulo, size_t n) {
     memset(first, 0, sizeof first), memset(second, 0, sizeof second);
     nmod_mat_init(x0, m, k, q), nmod_mat_init(y0, k, p, q), nmod_mat_init(a0, m, p, q), nmod_mat_init(b0, m, p, q);
     nmod_mat_init(blind, n, n, q), nmod_mat_init(r, n, n, q), nmod_mat_init(g, n, n, q), nmod_mat_init(v, n, n, q);
+    while (!deal_system(1, 1, 1)) draw_words(); // Q has an inverse
+    first[size] = second[size] = 3;
     snprintf(name, sizeof name, "%zu unknowns, q %u: FLINT", n, q);
-    row(name, our_system, flint_system, 200, 1.50);
+    row(name, our_system, flint_system, 200, 1.10);
     snprintf(name, sizeof name, "the same, prime by trial division: FLINT, C");
-    row(name, our_system, divided_system, 200, 1.50);
+    row(name, our_system, divided_system, 200, 1.10);
     nmod_mat_clear(x0), nmod_mat_clear(y0), nmod_mat_clear(a0), nmod_mat_clear(b0);
     nmod_mat_clear(blind), nmod_mat_clear(r), nmod_mat_clear(g), nmod_mat_clear(v);
 }
@@ -133,11 +139,11 @@ static void stacks(void) {
 
 int main(void) {
     static const uint32_t moduli[] = {7, 65537, 2147483647};
-    for (size_t i = 0; i < WORDS; i++) words[i] = random32();
+    draw_words();
     heading("dealing a product beside");
     for (int i = 0; i < 3; i++) product(moduli[i], 1, 2048, 1), product(moduli[i], 32, 64, 32);
     heading("dealing a system beside");
-    system_of(257, 16), system_of(65537, 16), system_of(2147483647, 16);
+    system_of(7, 16), system_of(257, 16), system_of(65537, 16), system_of(2147483647, 16);
     printf("\n");
     stacks();
     return 0;
