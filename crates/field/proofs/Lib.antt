@@ -7,6 +7,7 @@
 -- Wheel          trial division by the numbers that 2, 3 and 5 do not divide
 -- Divisors       divisors in the form that a machine's remainder has
 -- Reduction      Montgomery reduction, and what a product that it gathers keeps
+-- Entries        the table of products, entry by entry
 -- PrimeTable     the table of products has every prime up to the root
 -- Gathered       the table's entries, multiplied up
 pub mod Chain
@@ -18,5 +19,6 @@ pub mod TrialDivision
 pub mod Wheel
 pub mod Divisors
 pub mod Reduction
+pub mod Entries
 pub mod PrimeTable
 pub mod Gathered
