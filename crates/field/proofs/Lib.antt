@@ -7,7 +7,8 @@
 -- Wheel          trial division by the numbers that 2, 3 and 5 do not divide
 -- Divisors       divisors in the form that a machine's remainder has
 -- Reduction      Montgomery reduction, and what a product that it gathers keeps
--- Gathered       the numbers up to the root, multiplied up
+-- PrimeTable     a table of products has every prime up to the root
+-- Gathered       the table's entries, multiplied up
 pub mod Chain
 pub mod FieldLaws
 pub mod Signed
@@ -17,4 +18,5 @@ pub mod TrialDivision
 pub mod Wheel
 pub mod Divisors
 pub mod Reduction
+pub mod PrimeTable
 pub mod Gathered
