@@ -17,5 +17,5 @@ pub use entries::write_sum;
 pub use entries::write_zeros;
 pub use residues::add_residues;
 pub use residues::all_below;
-pub use residues::bits_of;
+pub use residues::is_residues;
 pub use residues::subtract_residues;
