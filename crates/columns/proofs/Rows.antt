@@ -4,7 +4,7 @@
 --   over-then, turn                                  a row written behind those that stand there
 use mathlib.Core.Path.{_≡_, sym, ap, ap₂, _∙_}
 use mathlib.Core.Bool.{cond}
-use mathlib.Core.List.{List, _∷_, _++_}
+use mathlib.Core.List.{List, _++_}
 use Prim.Native.Nat.{ℕ, zero, suc, _+_, _-_, _*_, _/_, _%_, _≤_, _<_}
 use native.Mathlib.Nat.{mul-le-mul-right}
 use native.Mathlib.Omega.{arith}
@@ -18,18 +18,7 @@ use Rattle.algebra.specs.Columns.{cols, beside}
 use Rattle.algebra.specs.Words.{over}
 use Rattle.algebra.proofs.Lists.{length-tabulate}
 use Rattle.vectors.specs.Fill.{firstWords}
-use Rattle.vectors.proofs.Fill.{tabulate-ext}
-
-tabulate-append : (m n : ℕ) (f : ℕ → ℕ) → tabulate (m + n) f ≡ tabulate m f ++ tabulate n (λ e. f (m + e))
-unfolding tabulate
-tabulate-append zero n f =
-    let z : zero + n ≡ n = omega arith in
-    ap (λ (k : ℕ). tabulate k f) z ∙ tabulate-ext n f _ (λ e h. ap f (omega arith))
-tabulate-append (suc m) n f =
-    let z : suc m + n ≡ suc (m + n) = omega arith in
-    ap (λ (k : ℕ). tabulate k f) z
-    ∙ ap (λ (l : List ℕ). f zero ∷ l)
-    (tabulate-append m n (λ i. f (suc i)) ∙ ap (λ (l : List ℕ). tabulate m (λ i. f (suc i)) ++ l) (tabulate-ext n _ _ (λ e h. ap f (omega arith))))
+use Rattle.vectors.proofs.Fill.{tabulate-ext, tabulate-append}
 
 matrix-next : (i w : ℕ) (f : Entries) → matrix (i + 1) w f ≡ matrix i w f ++ tabulate w (f i)
 matrix-next i w f =

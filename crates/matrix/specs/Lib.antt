@@ -1,4 +1,4 @@
 -- Inner  sums of products, as the loops compute them
--- Pairs  narrow words, and two columns at once
+-- Rows   a row of a product, gathered along the rows of its second matrix
 pub mod Inner
-pub mod Pairs
+pub mod Rows

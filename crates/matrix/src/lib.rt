@@ -3,15 +3,21 @@
 //   Matrix   the bounds on sides, residues and unknowns
 //   sum      a sum of products that may pass 64 bits
 //   inner    the inner product
-//   pairs    the product of matrices of narrow words, two columns at once
+//   terms    which terms of a row of a product are added together
+//   narrow   a row of a product of words below 2^10
+//   wide     a row of a product of words below 2^31
+//   rows     the product row by row
 //   product  the product of an m by k and a k by p matrix
 //   formula  a product with other matrices added and taken away: what the sessions write
 // No function here is for hosts.
 mod formula;
 mod inner;
-mod pairs;
+mod narrow;
 mod product;
+mod rows;
 mod sum;
+mod terms;
+mod wide;
 
 pub use formula::write_deal;
 pub use formula::write_masked;

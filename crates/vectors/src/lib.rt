@@ -1,7 +1,7 @@
 // Words of slices, one after the other, modulo q: results are written over the first words of a lent slice; the words past the count keep
 // their value.
 //   rest     the rest of a division, mostly without one
-//   residues words below a bound, and sum and difference of residues: several words at a time
+//   residues words below a bound, the bits of words, and sum, difference and negative of residues: several words at a time
 //   entries  sum, difference, negative, copy and zeros, entry by entry, of any words
 // No function here is for hosts.
 mod entries;
@@ -17,4 +17,5 @@ pub use entries::write_sum;
 pub use entries::write_zeros;
 pub use residues::add_residues;
 pub use residues::all_below;
+pub use residues::is_residues;
 pub use residues::subtract_residues;
