@@ -4,6 +4,7 @@
 //   sum      a sum of products that may pass 64 bits
 //   inner    the inner product
 //   terms    which terms of a row of a product are added together
+//   rests    words times a multiplier modulo q
 //   narrow   a row of a product of words below 2^10
 //   wide     a row of a product of words below 2^31
 //   rows     the product row by row
@@ -14,6 +15,7 @@ mod formula;
 mod inner;
 mod narrow;
 mod product;
+mod rests;
 mod rows;
 mod sum;
 mod terms;
