@@ -4,6 +4,7 @@
 // A turn of the session begins with both halves of its tape copied anew into the pools, which is counted. Every turn of a round has vectors
 // of its own: numbers that come again in every turn have digits that a processor learns to foresee, and it learns the one line of the
 // trivial exchange sooner than the two of a session. Then the stack of each entry.
+#include "product.h"
 #include "timing.h"
 #include "stack.h"
 #include <string.h>
@@ -11,20 +12,6 @@
 #define MOST 2048
 #define WORDS 6000
 #define VECTORS 200
-
-bool bench_deal(uint32_t *first, size_t n_first, uint32_t *second, size_t n_second, size_t size, uint32_t q, uint32_t m, uint32_t k, uint32_t p,
-                const uint32_t *words, size_t n_words);
-bool bench_right_first(uint32_t *pool, size_t n_pool, size_t size, uint32_t q, uint32_t m, uint32_t k, uint32_t p, const uint32_t *y, size_t n_y,
-                       uint32_t *out, size_t n_out);
-bool bench_left(uint32_t *pool, size_t n_pool, size_t size, uint32_t q, uint32_t m, uint32_t k, uint32_t p, const uint32_t *x, size_t n_x,
-                const uint32_t *words, size_t n_words, const uint32_t *residues, size_t n_residues, uint32_t *out, size_t n_out, uint32_t *share,
-                size_t n_share);
-bool bench_right_last(uint32_t *pool, size_t n_pool, size_t size, uint32_t q, uint32_t m, uint32_t k, uint32_t p, const uint32_t *residues,
-                      size_t n_residues, uint32_t *share, size_t n_share);
-size_t bench_write(uint32_t kind, uint32_t q, uint32_t m, uint32_t k, uint32_t p, const uint32_t *residues, size_t n, uint8_t *out, size_t room);
-size_t bench_parse(const uint8_t *s, size_t n, uint32_t *out, size_t room);
-size_t bench_read(const uint8_t *s, size_t n, uint32_t *out, size_t room);
-uint32_t bench_inner(uint32_t q, const uint32_t *x, size_t n_x, const uint32_t *y, size_t n_y);
 
 typedef size_t (*reader)(const uint8_t *s, size_t n, uint32_t *out, size_t room);
 

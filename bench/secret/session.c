@@ -9,8 +9,7 @@
 // What is marked: X and Y; the matrices of both halves, not their headers of seven words, which both ends know; the raw words of the
 // coins. What goes over the wire is unmarked as it is sent, since both ends see it, and so is each call's answer, accepted or refused.
 // Every raw word is below 2^31, and so below every limit: none is thrown away.
-#include <stdbool.h>
-#include <stdint.h>
+#include "../product.h"
 #include <stdio.h>
 #include <stdlib.h>
 #include <string.h>
@@ -20,17 +19,6 @@
 #define ENTRIES 1024
 #define HALF (7 + MOST + ENTRIES)
 #define RAW (2 * MOST + ENTRIES)
-
-bool bench_deal(uint32_t *first, size_t n_first, uint32_t *second, size_t n_second, size_t size, uint32_t q, uint32_t m, uint32_t k, uint32_t p,
-                const uint32_t *words, size_t n_words);
-bool bench_right_first(uint32_t *pool, size_t n_pool, size_t size, uint32_t q, uint32_t m, uint32_t k, uint32_t p, const uint32_t *y, size_t n_y,
-                       uint32_t *out, size_t n_out);
-bool bench_left(uint32_t *pool, size_t n_pool, size_t size, uint32_t q, uint32_t m, uint32_t k, uint32_t p, const uint32_t *x, size_t n_x,
-                const uint32_t *words, size_t n_words, const uint32_t *residues, size_t n_residues, uint32_t *out, size_t n_out, uint32_t *share,
-                size_t n_share);
-bool bench_right_last(uint32_t *pool, size_t n_pool, size_t size, uint32_t q, uint32_t m, uint32_t k, uint32_t p, const uint32_t *residues,
-                      size_t n_residues, uint32_t *share, size_t n_share);
-size_t bench_write(uint32_t kind, uint32_t q, uint32_t m, uint32_t k, uint32_t p, const uint32_t *residues, size_t n, uint8_t *out, size_t room);
 
 static uint32_t left[HALF], right[HALF], x[MOST], y[MOST], raw[RAW], coins[ENTRIES], y1[MOST], x1r1[MOST + ENTRIES], u[ENTRIES], v[ENTRIES];
 static uint8_t line[65536];
