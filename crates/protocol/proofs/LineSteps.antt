@@ -21,7 +21,7 @@ use Rattle.protocol.specs.declared.SolverSession.{SolverSession}
 use Rattle.protocol.specs.declared.BlinderSession.{BlinderSession}
 use Rattle.protocol.specs.declared.Refusal.{Refusal}
 use Rattle.protocol.specs.declared.Refusal.the-variants.{Form, Modulus, Composite, Size, Turn, Mark, Stranger, Residue, Dry, Singular}
-use Rattle.protocol.specs.Judge.{refusalNumber, refusals, Test, needs, given, clear, Judged, refused, done, judgeBy, judge}
+use Rattle.protocol.specs.Judge.{refusals, isSame, placeIn, placeOf, Test, needs, given, clear, Judged, refused, done, judgeBy, judge}
 use Rattle.protocol.specs.Bounds.{product, system, within, shapeTests, termsTests, inputTests, roomTests}
 use Rattle.protocol.specs.Drawing.{drawTests}
 use Rattle.protocol.specs.Tape.{Slot, slotTests, halfTests, tapeTests, bodyTests, Role, sortOf, left, right, blinder}
@@ -31,7 +31,7 @@ use Rattle.protocol.specs.Product.{leftTests, leftStep, rightLastTests, 
 use Rattle.protocol.specs.System.{regularTests, keptTests, blinderTests, solverTests, blinderFirstTests, blinderFirst, solverSecondTests, solverSecond, blinderSecondTests, blinderSecond, solverLastTests, solverLast, blinderLastTests, blinderLast}
 use Rattle.protocol.specs.Line.{numbersOf, messageFrom, messageLine, parseMessage, parseTests, parsedFrom, parseInto, readTests, readWith, readInto, writeTests, writeInto}
 use Rattle.protocol.specs.LineStep.{openTerms, andThen, jointFrom, jointly, ModulusFits, OnLines, ShortRoom, PARSE-AND-STEP}
-use Rattle.protocol.proofs.Judge.{All, all-append, accepts, passed, refused≢done, all-clear, clear-all, clear-append, same-judge, Lowest, lowest, refused-first}
+use Rattle.protocol.proofs.Judge.{All, all-append, accepts, passed, refused≢done, all-clear, clear-all, clear-append, same-judge, earlier, Lowest, lowest, refused-first}
 use Rattle.protocol.proofs.LineRoundTrip.{message-was-written}
 
 -- ---- tests
@@ -70,7 +70,7 @@ module _ (room : ℕ) (xs : List ℕ) where
   unfolding clear messageTests
   same-short e r =
       rw (e, given-true (messageTests (messageFrom xs)))
-      (ap (both (cond (eqb (refusalNumber r) 1) (leb 7 (length xs)) true)) (twice (cond (eqb (refusalNumber r) 1) (within 1 5 (getD xs 0 0)) true) _))
+      (ap (both (cond (isSame r Form) (leb 7 (length xs)) true)) (twice (cond (isSame r Form) (within 1 5 (getD xs 0 0)) true) _))
 
   read-clear : (r : Refusal) → clear r (readTests room xs) ≡ true
       → (clear r (messageTests (messageFrom xs)) ≡ true) × (clear r (roomTests (length (drop 7 xs)) room) ≡ true)
@@ -104,10 +104,10 @@ short-room room l xs e h =
 
 -- ---- one step, whose tests contain the message's own
 
--- and below 4 no others than those and the session's own numbers
+-- and before 4 no others than those and the session's own numbers
 pub record Takes (a : Message) (terms tests : List Test) : Type 0 where
   pub own : (r : Refusal) → clear r tests ≡ true → clear r (messageTests a) ≡ true
-  pub low : (r : Refusal) → refusalNumber r < 4 → clear r (messageTests a) ≡ true → clear r terms ≡ true → clear r tests ≡ true
+  pub low : (r : Refusal) → placeOf r < placeOf Size → clear r (messageTests a) ≡ true → clear r terms ≡ true → clear r tests ≡ true
 
 module _ {A : Type 0} (step : Message → Judged A) (tests : Message → List Test) (effect : Message → A) (terms : List Test)
     (judges : (a : Message) → step a ≡ judge (tests a) (effect a)) (takes : (a : Message) → Takes a terms (tests a)) where
@@ -164,10 +164,10 @@ module _ {A : Type 0} (step : Message → Judged A) (tests : Message → List Te
     short : room < length (drop 7 xs) → ModulusFits terms → andThen (readWith room (some xs)) step ≡ jointFrom room tests effect (some xs)
     short h t = go (judge (readTests room xs) (messageFrom xs)) refl
       where
-        -- no number above 4 is given
-        few : (r : Refusal) → Lowest r (readTests room xs) → refusalNumber r ≤ 4
+        -- no refusal that comes after 4 is given
+        few : (r : Refusal) → Lowest r (readTests room xs) → placeOf r ≤ placeOf Size
         few r k =
-            elim (decLt 4 (refusalNumber r)) [
+            elim (decLt (placeOf Size) (placeOf r)) [
               | yes b ↦ absurd (room-fails room xs h (k .lower Size b))
               | no b ↦ omega arith
             ]
@@ -203,24 +203,17 @@ module _ {A : Type 0} (step : Message → Judged A) (tests : Message → List Te
 
 -- ---- groups of tests
 
-below-four : (P : Refusal → Type 0) → P Form → P Modulus → P Composite → (r : Refusal) → refusalNumber r < 4 → P r
-below-four P a b c Form h = a
-below-four P a b c Modulus h = b
-below-four P a b c Composite h = c
-below-four P a b c Size h = absurd (omega arith)
-below-four P a b c Turn h = absurd (omega arith)
-below-four P a b c Mark h = absurd (omega arith)
-below-four P a b c Stranger h = absurd (omega arith)
-below-four P a b c Residue h = absurd (omega arith)
-below-four P a b c Dry h = absurd (omega arith)
-below-four P a b c Singular h = absurd (omega arith)
+-- the refusals that come before 4
+before-size : (P : Refusal → Type 0) → P Form → P Modulus → P Composite → (r : Refusal) → placeOf r < placeOf Size → P r
+unfolding placeOf placeIn
+before-size P a b c r h = earlier P Size (omega arith) (a, (b, (c, tt))) r h
 
--- tests of which none is below 4
+-- tests of which none comes before 4
 record Quiet (ts : List Test) : Type 0 where
-  above : (r : Refusal) → refusalNumber r < 4 → clear r ts ≡ true
+  above : (r : Refusal) → placeOf r < placeOf Size → clear r ts ≡ true
 
 quiet : {ts : List Test} → clear Form ts ≡ true → clear Modulus ts ≡ true → clear Composite ts ≡ true → Quiet ts
-quiet {ts} f m c = record { above = below-four (λ r. clear r ts ≡ true) f m c }
+quiet {ts} f m c = record { above = before-size (λ r. clear r ts ≡ true) f m c }
 
 due-quiet : (kind : ℕ) (t : Terms) (a : Message) → Quiet (dueTests kind t a)
 unfolding dueTests clear both
@@ -251,7 +244,7 @@ begins : {a : Message} {terms : List Test} (us : List Test) → clear Form us �
     → Takes a terms (messageTests a ++ us)
 begins {a} {terms} us f m c = record {
   own = λ r e. and-left _ _ (sym (clear-append r (messageTests a) us) ∙ e);
-  low = λ r h own e. clear-append r (messageTests a) us ∙ and-both own (below-four (λ r. clear r us ≡ clear r terms) f m c r h ∙ e);
+  low = λ r h own e. clear-append r (messageTests a) us ∙ and-both own (before-size (λ r. clear r us ≡ clear r terms) f m c r h ∙ e);
 }
 
 infixl 40 _then_

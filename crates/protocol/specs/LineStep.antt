@@ -18,7 +18,7 @@ use Rattle.protocol.specs.declared.SolverSession.{SolverSession}
 use Rattle.protocol.specs.declared.BlinderSession.{BlinderSession}
 use Rattle.protocol.specs.declared.Refusal.{Refusal}
 use Rattle.protocol.specs.declared.Refusal.the-variants.{Form, Size}
-use Rattle.protocol.specs.Judge.{refusalNumber, Test, given, clear, Judged, refused, done, judge}
+use Rattle.protocol.specs.Judge.{placeOf, Test, given, clear, Judged, refused, done, judge}
 use Rattle.protocol.specs.Bounds.{Sort, product, system, termsTests}
 use Rattle.protocol.specs.Tape.{Slot}
 use Rattle.protocol.specs.Message.{Message}
@@ -36,8 +36,8 @@ andThen (done a) f = f a
 abbrev pub Holds : (room : ℕ) → (l : List ℕ) → Type 0
 Holds room l = (xs : List ℕ) → numbersOf l ≡ some xs → length (drop 7 xs) ≤ room
 
--- the line's form, the room, all that the message shows by itself and the step's tests, in one list: the lowest number
--- of all is given. A line that spells no numbers has no message, and no number is below its 1
+-- the line's form, the room, all that the message shows by itself and the step's tests, in one list: the first refusal
+-- of all is given. A line that spells no numbers has no message, and nothing comes before its 1
 abbrev pub jointFrom : {A : Type 0} → (room : ℕ) → (tests : Message → List Test) → (effect : Message → A) → Option (List ℕ) → Judged A
 jointFrom room tests effect none = refused Form
 jointFrom room tests effect (some xs) = judge (readTests room xs ++ tests (messageFrom xs)) (effect (messageFrom xs))
@@ -45,9 +45,9 @@ jointFrom room tests effect (some xs) = judge (readTests room xs ++ tests (messa
 unfoldable pub jointly : {A : Type 0} → (room : ℕ) → (l : List ℕ) → (tests : Message → List Test) → (effect : Message → A) → Judged A
 jointly room l tests effect = jointFrom room tests effect (numbersOf l)
 
--- no refusal below 4 applies: of a session's numbers, the modulus fits
+-- no refusal that comes before 4 applies: of a session's numbers, the modulus fits
 abbrev pub ModulusFits : List Test → Type 0
-ModulusFits ts = (r : Refusal) → refusalNumber r < refusalNumber Size → clear r ts ≡ true
+ModulusFits ts = (r : Refusal) → placeOf r < placeOf Size → clear r ts ≡ true
 
 -- `terms`: those of the step's tests that concern its own session's numbers, and not the message
 pub record OnLines {A : Type 0} (step : Message → Judged A) (tests : Message → List Test) (effect : Message → A) (terms : List Test) : Type 0 where
