@@ -42,7 +42,7 @@ pub extern "C" fn bench_deal(
     p: u32,
     words: &[u32],
 ) -> bool {
-    accepted(tape::deal_product(first, second, size, 0, TapeId(4), q, m, k, p, words))
+    accepted(dealer::deal_product(first, second, size, 0, TapeId(4), q, m, k, p, words))
 }
 
 #[no_mangle]

@@ -23,7 +23,7 @@ pub extern "C" fn bench_deal_product(
     p: u32,
     words: &[u32],
 ) -> usize {
-    read_in(tape::deal_product(first, second, size, index, TapeId(tape), q, m, k, p, words))
+    read_in(dealer::deal_product(first, second, size, index, TapeId(tape), q, m, k, p, words))
 }
 
 #[no_mangle]
@@ -37,5 +37,5 @@ pub extern "C" fn bench_deal_system(
     n: u32,
     words: &[u32],
 ) -> usize {
-    read_in(tape::deal_system(first, second, size, index, TapeId(tape), q, n, words))
+    read_in(dealer::deal_system(first, second, size, index, TapeId(tape), q, n, words))
 }

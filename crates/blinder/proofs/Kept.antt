@@ -15,7 +15,7 @@ use Rattle.protocol.specs.declared.Terms.{Terms}
 use Rattle.protocol.specs.Bounds.{sidesFit, system, columns}
 use Rattle.protocol.specs.System.{padded, sideSize, scratchSize}
 use Rattle.vectors.specs.Fill.{firstWords}
-use Rattle.session.proofs.Shape.{unknowns}
+use Rattle.tape.proofs.Sides.{unknowns}
 
 pub zero-array : (n : ℕ) → replicate n 0 ≡ zeros n
 unfolding zeros tabulate

@@ -3,7 +3,7 @@
 //   opened, closed              its sessions, which keep M and y
 //   scratch_size                how many residues P and U0 have
 // No function here is for hosts.
-use checks::times;
+use vectors::times;
 use protocol::Answer;
 use protocol::BlinderSession;
 use protocol::Head;

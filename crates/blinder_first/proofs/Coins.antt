@@ -15,7 +15,7 @@ use Rattle.protocol.specs.Judge.{done}
 use Rattle.protocol.specs.Drawing.{residuesOf, drawTests}
 use Rattle.protocol.proofs.Judge.{passed}
 use Rattle.protocol.proofs.Residues.{over-length}
-use Rattle.checks.specs.InOrder.{judged}
+use Rattle.judging.specs.InOrder.{judged}
 
 pub enough : (q n : ℕ) (words : List ℕ) → judged (drawTests q n words) ≡ done tt → n ≤ length (residuesOf q words)
 unfolding drawTests

@@ -23,16 +23,16 @@ use Rattle.protocol.specs.System.{scratchSize, scratchParts, coinsOf, keptTests
 use Rattle.protocol.proofs.Judge.{passed, all-split}
 use Rattle.protocol.proofs.Residues.{below-residues, residues-drawn}
 use Rattle.protocol.proofs.StepTests.{BlinderFirstFits, blinder-first}
-use Rattle.checks.specs.InOrder.{judged}
-use Rattle.checks.proofs.InOrder.{accepted-by}
-use Rattle.session.proofs.Shape.{unknowns}
-use Rattle.steps.specs.Groups.{receivedWords}
-use Rattle.steps.proofs.Fits.{Received}
+use Rattle.judging.specs.InOrder.{judged}
+use Rattle.judging.proofs.InOrder.{accepted-by}
+use Rattle.tape.proofs.Sides.{unknowns}
+use Rattle.judging.specs.Received.{receivedWords}
+use Rattle.judging.proofs.Fits.{Received}
 use Rattle.blinder.proofs.Kept.{square-bound, wide-bound, scratch-sum}
 use Rattle.blinder.proofs.Halves.{half-is, p-part}
 use Rattle.blinder_first.specs.Groups.{firstLengths, firstWords}
 use Rattle.blinder_first.specs.Shape.{FirstShape, Eliminable}
-use Rattle.message.proofs.KindLaws.{size-1, size-2}
+use Rattle.judging.proofs.KindLaws.{size-1, size-2}
 
 m-size : (t : Terms) (kind mm y scratch room : ℕ) → judged (firstLengths t kind mm y scratch room) ≡ done tt → mm ≡ t .m * t .m
 unfolding firstLengths

@@ -20,13 +20,13 @@ use Rattle.protocol.specs.Tape.{Slot, blinder, slotWords, poolWith, matrices, w
 use Rattle.protocol.specs.Message.{Message, messageParts}
 use Rattle.protocol.specs.System.{padded, noBlinder, scratchSize, scratchParts, coinsOf, blinderFirstEffect, blinderFirstTests, blinderFirst}
 use Rattle.protocol.specs.Step.{answerReply}
-use Rattle.checks.specs.InOrder.{judged}
-use Rattle.session.specs.Leaves.{Leaves, leaves}
-use Rattle.session.proofs.Shape.{unknowns}
-use Rattle.session.proofs.Leaving.{accepted-leaves}
+use Rattle.judging.specs.InOrder.{judged}
+use Rattle.judging.specs.Leaves.{Leaves, leaves}
+use Rattle.tape.proofs.Sides.{unknowns}
+use Rattle.judging.proofs.Leaving.{accepted-leaves}
 use Rattle.blinder.proofs.Halves.{x0-part, a0-part, p-part, u0-part}
 use Rattle.blinder_first.specs.Shape.{firstSent}
-use Rattle.message.proofs.KindLaws.{whole-message}
+use Rattle.judging.proofs.KindLaws.{whole-message}
 
 pub sent-is : (t : Terms) (slot coins : List ℕ) (a : Message) → sidesFit system (t .m) (t .k) (t .p) ≡ true → length (a .residues) ≡ t .m * t .p
     → firstSent (t .q) (t .m) (t .p) slot (a .residues) coins

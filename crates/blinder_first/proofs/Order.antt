@@ -12,11 +12,11 @@ use Rattle.protocol.specs.Tape.{Slot, isSlot, slotWords, blinder, slotTests, ha
 use Rattle.protocol.specs.Message.{messageTests, dueTests}
 use Rattle.protocol.specs.Step.{firstTests}
 use Rattle.protocol.specs.System.{scratchSize, regularTests, keptTests, blinderFirstTests}
-use Rattle.checks.specs.InOrder.{only, sortedBy, sorted, judged, after}
-use Rattle.checks.proofs.InOrder.{after-last}
-use Rattle.session.specs.Groups.{modulusTests, kindTests, numberTests, placeTests, countTests, sameTests}
-use Rattle.session.proofs.Join.{judged-phases}
-use Rattle.steps.specs.Groups.{receivedNumbers, receivedWords}
+use Rattle.judging.specs.InOrder.{only, sortedBy, sorted, judged, after}
+use Rattle.judging.proofs.InOrder.{after-last}
+use Rattle.judging.specs.Groups.{modulusTests, kindTests, numberTests, placeTests, countTests, sameTests}
+use Rattle.judging.proofs.Join.{judged-phases}
+use Rattle.judging.specs.Received.{receivedNumbers, receivedWords}
 use Rattle.blinder_first.specs.Groups.{firstLengths, firstWords, firstRegular}
 
 pub first-phases : (t : Terms) (s : Slot) (scratch : ℕ) (mm y words : List ℕ) (a : Head) (residues : List ℕ) (room : ℕ)

@@ -12,7 +12,7 @@ use Rattle.protocol.specs.Judge.{Test, needs}
 use Rattle.protocol.specs.Tape.{blinder, READY}
 use Rattle.protocol.specs.Message.{messageSize}
 use Rattle.protocol.specs.System.{sideSize, scratchSize, scratchParts, coinsOf, regularTests, keptTests}
-use Rattle.steps.specs.Groups.{receivedWords}
+use Rattle.judging.specs.Received.{receivedWords}
 
 -- of M, y, the scratch and the slice for the message: their lengths
 unfoldable pub firstLengths : Terms → (kind mm y scratch room : ℕ) → List Test

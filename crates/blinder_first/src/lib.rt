@@ -4,25 +4,25 @@ use blinder::BlinderAnswer;
 use blinder::closed;
 use blinder::opened;
 use blinder::scratch_size;
-use checks::Check;
-use checks::answer_of;
-use checks::times;
+use judging::Check;
+use judging::answer_of;
+use vectors::times;
 use drawing::draw;
 use elimination::has_inverse;
 use matrix::write_reply;
-use message::message_size;
-use message::side_size;
+use judging::message::message_size;
+use judging::message::side_size;
 use protocol::Answer;
 use protocol::Head;
 use protocol::Refusal;
 use protocol::Terms;
-use session::End;
-use session::lowest::need;
-use session::lowest::worst;
-use session::tape::take_up;
-use steps::check_coins;
-use steps::check_numbers;
-use steps::no_head;
+use tape::End;
+use judging::need;
+use judging::worst;
+use tape::change::take_up;
+use judging::received::check_coins;
+use judging::received::check_numbers;
+use judging::received::no_head;
 use vectors::all_below;
 use vectors::write_sum;
 ghost use mathlib.Core.Path.{_≡_};
@@ -36,9 +36,9 @@ ghost use Rattle.protocol.specs.Bounds.{sidesFit, system};
 ghost use Rattle.protocol.specs.Drawing.{residuesOf, wordsRead, drawTests};
 ghost use Rattle.protocol.specs.Tape.{blinder, slotAt, tapeSize, wordsInUse};
 ghost use Rattle.protocol.specs.System.{noBlinder, scratchSize, coinsOf, blinderFirstTests, blinderFirst};
-ghost use Rattle.checks.specs.InOrder.{checked, judged, after};
+ghost use Rattle.judging.specs.InOrder.{checked, judged, after};
 ghost use Rattle.protocol.specs.Step.{answerReply};
-ghost use Rattle.session.specs.Leaves.{Leaves, leaves};
+ghost use Rattle.judging.specs.Leaves.{Leaves, leaves};
 ghost use Rattle.blinder_first.specs.Groups.{firstLengths, firstWords, firstRegular};
 ghost use Rattle.blinder_first.specs.Shape.{FirstShape, Eliminable, firstSent};
 
@@ -59,7 +59,7 @@ fn check_words(t: Terms, a: Head, slot: &[u32], residues: &[u32], mm: &[u32], y:
     requires { ⌜ (sidesFit system (t .m) (t .k) (t .p) ≡ true) × (tapeSize blinder (t .m) (t .k) (t .p) ≤ length (now slot)) ⌝ }
     ensures { λ r. ⌜ checked r ≡ judged (firstWords t a (now (slot .entry)) (now (residues .entry)) (now (mm .entry)) (now (y .entry))) ⌝ }
 {
-    let received = steps::check_words(End::Blinder, 1, t, a, slot, residues);
+    let received = judging::received::check_words(End::Blinder, 1, t, a, slot, residues);
     let matrix = need(Refusal::Residue, all_below(t.q, mm));
     let vector = need(Refusal::Residue, all_below(t.q, y));
     worst(received, worst(matrix, vector))

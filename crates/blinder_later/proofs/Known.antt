@@ -18,8 +18,8 @@ use Rattle.protocol.specs.Message.{Message, messageSize, messageLayout}
 use Rattle.protocol.specs.System.{sideSize, scratchSize, blinderLastTests, blinderLastEffect, blinderLast}
 use Rattle.protocol.proofs.Judge.{passed}
 use Rattle.protocol.proofs.StepTests.{BlinderFits, blinder-last}
-use Rattle.checks.specs.InOrder.{judged}
-use Rattle.checks.proofs.InOrder.{accepted-by}
+use Rattle.judging.specs.InOrder.{judged}
+use Rattle.judging.proofs.InOrder.{accepted-by}
 use Rattle.blinder_later.specs.Groups.{laterTurn, laterStep, writtenSize}
 use Rattle.blinder_later.specs.Shape.{LastShape}
 

@@ -21,10 +21,10 @@ use Rattle.protocol.specs.Tape.{Slot, blinder, slotWords, poolWith, matrices, w
 use Rattle.protocol.specs.Message.{Message, noMessage, messageLayout, messageParts}
 use Rattle.protocol.specs.System.{sideSize, scratchSize, closedBlinder, blinderLastEffect, blinderLastTests, blinderLast}
 use Rattle.protocol.specs.Step.{answerReply}
-use Rattle.checks.specs.InOrder.{judged}
-use Rattle.session.specs.Leaves.{Leaves, leaves}
-use Rattle.session.proofs.Shape.{unknowns}
-use Rattle.session.proofs.Leaving.{accepted-leaves}
+use Rattle.judging.specs.InOrder.{judged}
+use Rattle.judging.specs.Leaves.{Leaves, leaves}
+use Rattle.tape.proofs.Sides.{unknowns}
+use Rattle.judging.proofs.Leaving.{accepted-leaves}
 use Rattle.blinder.proofs.Halves.{q-part}
 
 -- message 5 is t alone

@@ -15,11 +15,11 @@ use Rattle.protocol.specs.Tape.{Slot, isSlot, slotWords, blinder, slotTests, ha
 use Rattle.protocol.specs.Message.{messageTests, dueTests}
 use Rattle.protocol.specs.Step.{isOpen, openTests, laterTests}
 use Rattle.protocol.specs.System.{keptTests, blinderTests}
-use Rattle.checks.specs.InOrder.{inOrder, verdict, only, sortedBy, sorted, judged, after}
-use Rattle.checks.proofs.InOrder.{judge-sorted, after-last}
-use Rattle.session.specs.Groups.{modulusTests, kindTests, numberTests, placeTests, countTests, sameTests}
-use Rattle.session.proofs.Join.{judged-phases}
-use Rattle.steps.specs.Groups.{receivedNumbers, receivedWords, closedTests}
+use Rattle.judging.specs.InOrder.{inOrder, verdict, only, sortedBy, sorted, judged, after}
+use Rattle.judging.proofs.InOrder.{judge-sorted, after-last}
+use Rattle.judging.specs.Groups.{modulusTests, kindTests, numberTests, placeTests, countTests, sameTests}
+use Rattle.judging.proofs.Join.{judged-phases}
+use Rattle.judging.specs.Received.{receivedNumbers, receivedWords, closedTests}
 use Rattle.blinder_later.specs.Groups.{laterTurn, laterWords, laterStep}
 
 module _ (step : ℕ) (x : BlinderSession) (s : Slot) (scratch : List ℕ) (a : Head) (residues : List ℕ) (room : ℕ) where

@@ -18,7 +18,7 @@ use Rattle.protocol.specs.Tape.{Slot, blinder, IN-USE}
 use Rattle.protocol.specs.Message.{Message, messageSize, messageTests, dueTests}
 use Rattle.protocol.specs.Step.{isOpen}
 use Rattle.protocol.specs.System.{sideSize, keptM, keptY, scratchSize, keptTests, blinderTests}
-use Rattle.steps.specs.Groups.{receivedWords}
+use Rattle.judging.specs.Received.{receivedWords}
 
 -- W and c, or z
 unfoldable pub writtenSize : (step : ℕ) → Terms → ℕ

@@ -1,18 +1,18 @@
 // What both later steps check; `step` is the kind of the message that the step takes.
 use blinder::scratch_size;
-use checks::Check;
-use checks::times;
-use message::message_size;
-use message::side_size;
+use judging::Check;
+use vectors::times;
+use judging::message::message_size;
+use judging::message::side_size;
 use protocol::BlinderSession;
 use protocol::Head;
 use protocol::Refusal;
 use protocol::Terms;
-use session::End;
-use session::lowest::need;
-use session::lowest::worst;
-use steps::check_closed;
-use steps::check_numbers;
+use tape::End;
+use judging::need;
+use judging::worst;
+use judging::received::check_closed;
+use judging::received::check_numbers;
 use vectors::all_below;
 ghost use mathlib.Core.Path.{_≡_};
 ghost use mathlib.Core.Bool.{true};
@@ -21,7 +21,7 @@ ghost use lib.ListN.{length};
 ghost use Rattle.protocol.specs.Bounds.{sidesFit, system};
 ghost use Rattle.protocol.specs.Tape.{blinder, slotAt, tapeSize};
 ghost use Rattle.protocol.specs.System.{scratchSize};
-ghost use Rattle.checks.specs.InOrder.{checked, judged};
+ghost use Rattle.judging.specs.InOrder.{checked, judged};
 ghost use Rattle.blinder_later.specs.Groups.{writtenSize, laterTurn, laterWords, laterStep};
 
 // How many residues the step writes: W and c, or z.
@@ -58,7 +58,7 @@ fn check_words(s: BlinderSession, a: Head, slot: &[u32], residues: &[u32], scrat
     let square = times(t.m, t.m);
     let side = side_size(t);
     let coins = scratch_size(t);
-    let received = steps::check_words(End::Blinder, 2, t, a, slot, residues);
+    let received = judging::received::check_words(End::Blinder, 2, t, a, slot, residues);
     let matrix = need(Refusal::Residue, all_below(t.q, &mm[..square]));
     let vector = need(Refusal::Residue, all_below(t.q, &y[..side]));
     let kept = need(Refusal::Residue, all_below(t.q, &scratch[..coins]));

@@ -16,14 +16,14 @@ use Rattle.protocol.specs.Tape.{Slot}
 use Rattle.protocol.specs.Message.{Message, messageSize}
 use Rattle.protocol.specs.System.{sideSize, blinderSecondTests, blinderSecondEffect, blinderSecond}
 use Rattle.protocol.proofs.StepTests.{BlinderFits, blinder-second}
-use Rattle.checks.specs.InOrder.{judged}
-use Rattle.checks.proofs.InOrder.{accepted-by}
-use Rattle.session.proofs.Shape.{unknowns}
+use Rattle.judging.specs.InOrder.{judged}
+use Rattle.judging.proofs.InOrder.{accepted-by}
+use Rattle.tape.proofs.Sides.{unknowns}
 use Rattle.blinder.proofs.Kept.{side-is, side-bound, square-bound, wide-bound, scratch-sum}
 use Rattle.blinder.proofs.Halves.{half-is}
 use Rattle.blinder_later.specs.Groups.{laterStep, writtenSize}
 use Rattle.blinder_second.specs.Shape.{Lent, SecondShape}
-use Rattle.message.proofs.KindLaws.{size-3, size-4}
+use Rattle.judging.proofs.KindLaws.{size-3, size-4}
 
 module _ (t : Terms) (fits : sidesFit system (t .m) (t .k) (t .p) ≡ true) where
   -- k is m

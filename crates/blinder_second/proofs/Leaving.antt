@@ -21,14 +21,14 @@ use Rattle.protocol.specs.Tape.{Slot, isSlot, blinder, slotWords, matrices}
 use Rattle.protocol.specs.Message.{Message, messageLayout, messageParts}
 use Rattle.protocol.specs.System.{keptM, keptY, scratchParts, blinderSecondEffect, blinderSecondTests, blinderSecond}
 use Rattle.protocol.specs.Step.{answerReply}
-use Rattle.checks.specs.InOrder.{judged}
-use Rattle.session.specs.Leaves.{Leaves, leaves}
-use Rattle.session.proofs.Shape.{unknowns}
-use Rattle.session.proofs.Leaving.{accepted-leaves}
+use Rattle.judging.specs.InOrder.{judged}
+use Rattle.judging.specs.Leaves.{Leaves, leaves}
+use Rattle.tape.proofs.Sides.{unknowns}
+use Rattle.judging.proofs.Leaving.{accepted-leaves}
 use Rattle.blinder.proofs.Halves.{q-part, g-part, p-part, u0-part}
 use Rattle.blinder_second.specs.Shape.{secondSent}
 use Rattle.blinder_second.proofs.Known.{square-is, wide-is}
-use Rattle.session.proofs.Slot.{same-pool}
+use Rattle.tape.proofs.Slots.{same-pool}
 
 -- message 3 is F alone
 f-part : (t : Terms) (a : Message) → length (a .residues) ≡ t .m * t .k → part 0 (messageParts 3 t a) ≡ a .residues

@@ -11,7 +11,7 @@ use lib.Seq.{take-at}
 use Rattle.algebra.specs.System.{sendW}
 use Rattle.algebra.specs.Words.{over}
 use Rattle.algebra.proofs.Lists.{sub-residues}
-use Rattle.checks.proofs.Written.{after-over}
+use Rattle.vectors.proofs.Written.{after-over}
 
 pub start-is : (n : ℕ) (a d out : List ℕ) → length a ≡ n → out ≡ over a d → take n out ≡ a
 unfolding over

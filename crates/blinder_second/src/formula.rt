@@ -1,5 +1,5 @@
 // The formulas of step 4, over slices of exactly their matrices' sizes, for n unknowns and rhs columns of right-hand sides.
-use columns::write_cols;
+use vectors::write_cols;
 use matrix::write_deal;
 use matrix::write_product;
 use matrix::write_share;

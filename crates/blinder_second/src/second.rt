@@ -3,14 +3,14 @@ use crate::formula::write_c;
 use crate::formula::write_w;
 use blinder::BlinderAnswer;
 use blinder_later::check::check;
-use checks::Check;
-use checks::answer_of;
-use checks::times;
-use message::side_size;
+use judging::Check;
+use judging::answer_of;
+use vectors::times;
+use judging::message::side_size;
 use protocol::Answer;
 use protocol::BlinderSession;
 use protocol::Head;
-use steps::no_head;
+use judging::received::no_head;
 ghost use mathlib.Core.Path.{_≡_};
 ghost use mathlib.Core.List.{[]};
 ghost use Prim.Native.Nat.{_-_};
@@ -19,7 +19,7 @@ ghost use Rattle.algebra.specs.Words.{over};
 ghost use Rattle.protocol.specs.Tape.{slotAt};
 ghost use Rattle.protocol.specs.System.{keptM, keptY, blinderSecond};
 ghost use Rattle.protocol.specs.Step.{answerReply};
-ghost use Rattle.session.specs.Leaves.{Leaves, leaves};
+ghost use Rattle.judging.specs.Leaves.{Leaves, leaves};
 ghost use Rattle.blinder_second.specs.Shape.{Lent, SecondShape, secondSent};
 
 // W and then c. Q and G follow X0 and A0 in the slot; the scratch has P and then U0.

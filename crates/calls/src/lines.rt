@@ -3,7 +3,7 @@ use crate::words;
 use decimal::Count;
 use line::Received;
 use line::Written;
-use steps::no_head;
+use judging::received::no_head;
 
 fn received(r: Received, report: &mut [u32]) -> u32 {
     if report.len() < 8 {

@@ -25,10 +25,10 @@ use Rattle.protocol.proofs.Judge.{passed}
 use Rattle.protocol.proofs.Slots.{slot-room}
 use Rattle.protocol.proofs.Tests.{OpenFits, open-tests}
 use Rattle.protocol.proofs.StepTests.{DropBlinderFits, drop-blinder}
-use Rattle.checks.specs.InOrder.{judged}
-use Rattle.checks.proofs.InOrder.{accepted-by}
-use Rattle.checks.proofs.Place.{slot-inside}
-use Rattle.session.specs.Groups.{modulusTests, numberTests, placeTests}
+use Rattle.judging.specs.InOrder.{judged}
+use Rattle.judging.proofs.InOrder.{accepted-by}
+use Rattle.tape.proofs.Slots.{slot-inside}
+use Rattle.judging.specs.Groups.{modulusTests, numberTests, placeTests}
 use Rattle.dropping.specs.Groups.{openNumbers}
 
 pub numbers-placed : (role : Role) (t : Terms) (pool size index : ℕ) → judged (openNumbers role t pool size index) ≡ done tt

@@ -9,9 +9,9 @@ use Rattle.protocol.specs.Tape.{Slot, poolWith}
 use Rattle.protocol.specs.Message.{noMessage}
 use Rattle.protocol.specs.Drop.{dropped}
 use Rattle.protocol.specs.Step.{answerReply}
-use Rattle.checks.specs.InOrder.{judged}
-use Rattle.session.specs.Leaves.{Leaves, leaves}
-use Rattle.session.proofs.Leaving.{accepted-leaves}
+use Rattle.judging.specs.InOrder.{judged}
+use Rattle.judging.specs.Leaves.{Leaves, leaves}
+use Rattle.judging.proofs.Leaving.{accepted-leaves}
 
 pub drop-done : {S : Type 0} (x y : S) (s : Slot) (scratch words zeroed : List ℕ) (ts : List Test) {pool′ scratch′ : List ℕ}
     → judged ts ≡ done tt

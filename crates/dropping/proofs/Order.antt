@@ -14,10 +14,10 @@ use Rattle.protocol.specs.Judge.{needs, given, done}
 use Rattle.protocol.specs.Bounds.{shapeTests, termsTests, roomTests}
 use Rattle.protocol.specs.Tape.{Slot, isSlot, slotWords, Role, IN-USE, slotTests, halfTests, tapeTests}
 use Rattle.protocol.specs.Step.{isOpen, openTests}
-use Rattle.checks.specs.InOrder.{inOrder, verdict, only, sortedBy, sorted, judged, after}
-use Rattle.checks.proofs.InOrder.{judge-sorted, after-last}
-use Rattle.session.specs.Groups.{modulusTests, numberTests, placeTests}
-use Rattle.session.proofs.Join.{judged-true, judged-phases}
+use Rattle.judging.specs.InOrder.{inOrder, verdict, only, sortedBy, sorted, judged, after}
+use Rattle.judging.proofs.InOrder.{judge-sorted, after-last}
+use Rattle.judging.specs.Groups.{modulusTests, numberTests, placeTests}
+use Rattle.judging.proofs.Join.{judged-true, judged-phases}
 use Rattle.dropping.specs.Groups.{closedTests, openNumbers}
 
 module _ (role : Role) (due : ℕ) (t : Terms) (s : Slot) where

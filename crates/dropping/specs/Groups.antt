@@ -7,7 +7,7 @@ use Rattle.protocol.specs.declared.Terms.{Terms}
 use Rattle.protocol.specs.declared.Refusal.the-variants.{Size, Turn}
 use Rattle.protocol.specs.Judge.{Test, needs}
 use Rattle.protocol.specs.Tape.{Role, sortOf}
-use Rattle.session.specs.Groups.{modulusTests, numberTests, placeTests}
+use Rattle.judging.specs.Groups.{modulusTests, numberTests, placeTests}
 
 -- of a closed session: its slot, and that nothing is due
 unfoldable pub closedTests : (pool size index : ℕ) → List Test

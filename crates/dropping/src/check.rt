@@ -1,17 +1,17 @@
 // The tests of a drop. Of a closed session nothing but its slot is judged.
 //   check_open     of any session
 //   check_blinder  the same with the scratch
-use checks::Check;
-use checks::times;
+use judging::Check;
+use vectors::times;
 use protocol::Refusal;
 use protocol::Terms;
-use session::End;
-use session::lowest::need;
-use session::lowest::worst;
-use session::numbers::check_modulus;
-use session::numbers::check_sizes;
-use session::tape::check_tape;
-use steps::is_slot;
+use tape::End;
+use judging::need;
+use judging::worst;
+use judging::numbers::check_modulus;
+use judging::numbers::check_sizes;
+use judging::half::check_tape;
+use tape::is_slot;
 ghost use mathlib.Core.Path.{_≡_};
 ghost use mathlib.Core.List.{_++_};
 ghost use lib.Dec.{leb};
@@ -20,8 +20,8 @@ ghost use Rattle.protocol.specs.Bounds.{roomTests};
 ghost use Rattle.protocol.specs.Tape.{slotAt, blinder};
 ghost use Rattle.protocol.specs.Step.{isOpen, openTests};
 ghost use Rattle.protocol.specs.System.{scratchSize};
-ghost use Rattle.checks.specs.InOrder.{checked, judged};
-ghost use Rattle.session.specs.Ends.{role};
+ghost use Rattle.judging.specs.InOrder.{checked, judged};
+ghost use Rattle.tape.specs.Ends.{role};
 ghost use Rattle.dropping.specs.Groups.{closedTests, openNumbers};
 
 // Nothing is due.

@@ -9,15 +9,15 @@ use blinder::closed;
 use blinder::scratch_size;
 use check::check_blinder;
 use check::check_open;
-use checks::Check;
-use checks::answer_of;
+use judging::Check;
+use judging::answer_of;
 use protocol::Answer;
 use protocol::BlinderSession;
 use protocol::RightSession;
 use protocol::SolverSession;
 use protocol::Terms;
-use session::End;
-use session::tape::spend;
+use tape::End;
+use tape::change::spend;
 use vectors::write_zeros;
 ghost use mathlib.Core.Path.{_≡_};
 ghost use mathlib.Core.Bool.{true};
@@ -28,9 +28,9 @@ ghost use Rattle.protocol.specs.Bounds.{sidesFit};
 ghost use Rattle.protocol.specs.Tape.{slotAt, slotWords, poolWith, tapeSize, wordsSpent};
 ghost use Rattle.protocol.specs.Message.{noMessage};
 ghost use Rattle.protocol.specs.Drop.{dropRight, dropSolver, dropBlinder};
-ghost use Rattle.session.specs.Ends.{role, sort};
+ghost use Rattle.tape.specs.Ends.{role, sort};
 ghost use Rattle.protocol.specs.Step.{answerReply};
-ghost use Rattle.session.specs.Leaves.{Leaves, leaves};
+ghost use Rattle.judging.specs.Leaves.{Leaves, leaves};
 
 // What a drop answers, and the session as it then is.
 pub struct RightDropped {

@@ -23,7 +23,7 @@ use Rattle.vectors.specs.Fill.{firstWords}
 use Rattle.halves.specs.Dealt.{masksOf, firstMasks, secondMasks, firstHalfWords, secondHalfWords}
 use Rattle.halves.proofs.Words.{over-slice, over-last, copied}
 use Rattle.halves.proofs.Draws.{drawn-parts}
-use Rattle.checks.proofs.Written.{over-then, part-written}
+use Rattle.vectors.proofs.Written.{over-then, part-written}
 
 module _ (q m k p : ℕ) (h x y a : List ℕ) (seven : length h ≡ 7) (lx : length x ≡ m * k) (ly : length y ≡ k * p) (la : length a ≡ m * p) where
   pub b-after : (first second f s : List ℕ) {t : List ℕ} → f ≡ over (h ++ (x ++ a)) first → s ≡ over (h ++ y) second

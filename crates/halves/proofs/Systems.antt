@@ -33,7 +33,7 @@ use Rattle.halves.specs.Dealt.{firstMasks, secondMasks, firstHalfWords, 
 use Rattle.halves.proofs.Words.{over-slice, over-last}
 use Rattle.halves.proofs.Draws.{drawn-parts}
 use Rattle.halves.proofs.Halves.{buffered, first-count, second-count}
-use Rattle.checks.proofs.Written.{over-then, part-written}
+use Rattle.vectors.proofs.Written.{over-then, part-written}
 
 -- ---- reading
 

@@ -14,7 +14,7 @@ use Rattle.algebra.specs.Matrix.{tabulate}
 use Rattle.algebra.specs.Words.{over, writtenAt}
 use Rattle.vectors.specs.Fill.{firstWords}
 use Rattle.protocol.specs.Tape.{slotAt, slotWords, poolWith, statusOf}
-use Rattle.checks.proofs.Written.{over-then}
+use Rattle.vectors.proofs.Written.{over-then}
 use Rattle.protocol.proofs.Residues.{over-length}
 
 -- a write behind x

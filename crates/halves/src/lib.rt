@@ -105,9 +105,9 @@ fn masks(
     ensures { λ _. ⌜ now (first .exit) ≡ over (firstMasks tape sort q m k p (now (words .entry))) (now (first .entry)) ⌝ }
     ensures { λ _. ⌜ now (second .exit) ≡ over (secondMasks tape sort q m k p (now (words .entry))) (now (second .entry)) ⌝ }
 {
-    let mk = checks::times(m, k);
-    let kp = checks::times(k, p);
-    let mp = checks::times(m, p);
+    let mk = vectors::times(m, k);
+    let kp = vectors::times(k, p);
+    let mp = vectors::times(m, p);
     header(tape, sort, q, m, k, p, first);
     header(tape, sort, q, m, k, p, second);
     let read = draw_three(q, mk, kp, mp, words, first, 7, second, 7);
@@ -173,8 +173,8 @@ pub fn system(
     ensures { λ _. ⌜ now (first .exit) ≡ over (firstHalfWords (systemRequest tape q n (now (words .entry)))) (now (first .entry)) ⌝ }
     ensures { λ _. ⌜ now (second .exit) ≡ over (secondHalfWords (systemRequest tape q n (now (words .entry)))) (now (second .entry)) ⌝ }
 {
-    let nn = checks::times(n, n);
-    let np = checks::times(n, n + 1);
+    let nn = vectors::times(n, n);
+    let np = vectors::times(n, n + 1);
     let read = masks(tape.0, 1, q, n, n, n + 1, words, first, second);
     let f = 7 + nn + np;
     let s = 7 + np + np;

@@ -15,11 +15,11 @@ use Rattle.protocol.specs.declared.Terms.{Terms}
 use Rattle.protocol.specs.Judge.{done}
 use Rattle.protocol.specs.Bounds.{Sort, product, system, within, sidesFit, columns, shapeTests, termsTests, inputTests}
 use Rattle.protocol.specs.Message.{Message, kindSort, messageLayout, messageSize, messageTests}
-use Rattle.checks.specs.InOrder.{verdict}
-use Rattle.checks.proofs.InOrder.{verdict-all}
-use Rattle.checks.proofs.Sides.{sides}
+use Rattle.judging.specs.InOrder.{verdict}
+use Rattle.judging.proofs.InOrder.{verdict-all}
+use Rattle.tape.proofs.Sides.{sides}
 use Rattle.message.specs.Groups.{headTests, messageSizes}
-use Rattle.message.proofs.KindLaws.{few-columns}
+use Rattle.judging.proofs.KindLaws.{few-columns}
 use Rattle.protocol.proofs.Judge.{All, all-split}
 use Rattle.line.specs.Order.{restTests, inSize}
 

@@ -20,10 +20,10 @@ use Rattle.protocol.specs.Judge.{needs, given, refused, done, clear, judgeBy, j
 use Rattle.protocol.specs.Bounds.{within, shapeTests, termsTests, inputTests, roomTests}
 use Rattle.protocol.specs.Message.{Message, messageTests}
 use Rattle.protocol.specs.Line.{numbersOf, messageFrom, messageLine, parseInto, readInto, writeInto, parseTests, readTests, writeTests}
-use Rattle.checks.specs.InOrder.{checked, inOrder, only, sortedBy, sorted, verdict, judged}
-use Rattle.checks.specs.declared.Check.{Check}
-use Rattle.checks.specs.declared.Check.the-variants as check
-use Rattle.checks.proofs.InOrder.{judge-sorted, refused-by, accepted-by, verdict-all, stops, goes-on}
+use Rattle.judging.specs.InOrder.{checked, inOrder, only, sortedBy, sorted, verdict, judged}
+use Rattle.judging.specs.declared.Check.{Check}
+use Rattle.judging.specs.declared.Check.the-variants as check
+use Rattle.judging.proofs.InOrder.{judge-sorted, refused-by, accepted-by, verdict-all, stops, goes-on}
 use Rattle.protocol.proofs.Judge.{all-split}
 use Rattle.message.specs.Groups.{headTests, messageSizes}
 use Rattle.line.specs.Order.{shortOrder, parseOrder, restTests, inSize}

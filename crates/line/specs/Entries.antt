@@ -10,8 +10,8 @@ use Rattle.protocol.specs.declared.Head.{Head}
 use Rattle.protocol.specs.declared.Refusal.the-variants.{Form}
 use Rattle.protocol.specs.Judge.{Judged, refused, done, refusalNumber, Reply}
 use Rattle.protocol.specs.Message.{Message, noMessage}
-use Rattle.checks.specs.declared.Check.{Check}
-use Rattle.checks.specs.declared.Check.the-variants as check
+use Rattle.judging.specs.declared.Check.{Check}
+use Rattle.judging.specs.declared.Check.the-variants as check
 use Rattle.line.specs.declared.Received.{Received}
 use Rattle.line.specs.declared.Received.the-variants as received
 use Rattle.line.specs.declared.Written.{Written}

@@ -3,7 +3,7 @@
 //   parse  a line's form alone: 1; where the residues have no room, the lowest of 1 to 4 that applies to the message by itself
 //   read   all that a message shows by itself: 1, 2, 3, 4 and 8, the lowest that applies
 //   write  a message's line, judged as it is when read
-use checks::Check;
+use judging::Check;
 use decimal::Tally;
 use protocol::Head;
 use protocol::Refusal;
@@ -19,7 +19,7 @@ ghost use Rattle.algebra.specs.Words.{over};
 ghost use Rattle.protocol.specs.Message.{Message};
 ghost use Rattle.protocol.specs.Judge.{replyOf};
 ghost use Rattle.protocol.specs.Line.{numbersOf, messageFrom, messageLine, parseInto, readInto, writeInto, mostSent};
-ghost use Rattle.checks.specs.InOrder.{checked, verdict};
+ghost use Rattle.judging.specs.InOrder.{checked, verdict};
 ghost use Rattle.protocol.specs.Message.{messageWith};
 ghost use Rattle.decimal.specs.Writing.{headNumbers};
 ghost use Rattle.line.specs.Entries.{receivedReply, noArrival, arrivedOf, residuesAfter, receivedBy, writtenReply, bytesOf, bytesAfter, writtenBy};
@@ -96,7 +96,7 @@ fn refused(c: Check) -> Received
 fn check_short(h: Head, count: usize) -> Check
     ensures { λ r. ⌜ checked r ≡ verdict (shortOrder h count) ⌝ }
 {
-    let own = message::check_head(h, count);
+    let own = judging::message::check_head(h, count);
     let Check::Passed = own else {
         return own;
     };
@@ -110,7 +110,7 @@ fn check_form(h: Head, count: usize, room: usize) -> Check
     if room < count {
         return check_short(h, count);
     }
-    if !message::kind_known(h.kind) {
+    if !judging::message::kind_known(h.kind) {
         return Check::Refused(Refusal::Form);
     }
     Check::Passed
@@ -134,7 +134,7 @@ fn check_read(h: Head, count: usize, words: &[u32], room: usize) -> Check
     requires { ⌜ length (now words) ≡ 3079 ⌝ }
     ensures { λ r. ⌜ ((rs : List ℕ) → length rs ≡ count → (count ≤ mostSent → take count (drop 7 (now (words .entry))) ≡ rs) → checked r ≡ verdict (inSize h rs count room)) ⌝ }
 {
-    let head = message::check_head(h, count);
+    let head = judging::message::check_head(h, count);
     let Check::Passed = head else {
         return head;
     };
@@ -213,7 +213,7 @@ fn message_length(h: Head, residues: &[u32]) -> usize
 fn check_write(h: Head, residues: &[u32], room: usize) -> Check
     ensures { λ r. ⌜ checked r ≡ verdict (inSize h (now (residues .entry)) (length (messageLine (messageWith h (now (residues .entry))))) room) ⌝ }
 {
-    let head = message::check_head(h, residues.len());
+    let head = judging::message::check_head(h, residues.len());
     let Check::Passed = head else {
         return head;
     };

@@ -25,17 +25,17 @@ use Rattle.algebra.specs.Matrix.{Residues}
 use Rattle.algebra.proofs.Parts.{Fits, _then_}
 use Rattle.protocol.proofs.Tests.{FirstFits}
 use Rattle.protocol.proofs.StepTests.{RightFirstFits, right-first, LeftFits, left-step, RightLastFits, right-last}
-use Rattle.checks.specs.InOrder.{judged}
-use Rattle.checks.proofs.InOrder.{accepted-by}
-use Rattle.checks.proofs.Sides.{sides}
-use Rattle.checks.proofs.Place.{slot-inside, left-size, right-size}
-use Rattle.session.specs.Groups.{modulusTests, numberTests, placeTests}
-use Rattle.steps.specs.Groups.{receivedNumbers}
-use Rattle.steps.proofs.Fits.{Received, received-fits}
+use Rattle.judging.specs.InOrder.{judged}
+use Rattle.judging.proofs.InOrder.{accepted-by}
+use Rattle.tape.proofs.Sides.{sides}
+use Rattle.tape.proofs.Slots.{slot-inside, left-size, right-size}
+use Rattle.judging.specs.Groups.{modulusTests, numberTests, placeTests}
+use Rattle.judging.specs.Received.{receivedNumbers}
+use Rattle.judging.proofs.Fits.{Received, received-fits}
 use Rattle.product.specs.Groups.{firstNumbers, lastNumbers}
 use Rattle.product.specs.Shape.{Masks, LeftShape, LastShape}
-use Rattle.session.proofs.Join.{first-passed}
-use Rattle.message.proofs.KindLaws.{size-1, size-2}
+use Rattle.judging.proofs.Join.{first-passed}
+use Rattle.judging.proofs.KindLaws.{size-1, size-2}
 
 -- the sides fit, the slot lies in its pool, and the half in the slot
 pub record Placed (role : Role) (t : Terms) (pool size index : ℕ) : Type 0 where

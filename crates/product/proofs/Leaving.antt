@@ -19,9 +19,9 @@ use Rattle.protocol.specs.Tape.{Slot, left, right, poolWith, slotWords, matrice
 use Rattle.protocol.specs.Message.{Message, noMessage, messageLayout, messageParts}
 use Rattle.protocol.specs.Product.{noRight, rightFirstEffect, rightFirstTests, rightFirst, leftEffect, leftTests, leftStep, rightLastEffect, rightLastTests, rightLast}
 use Rattle.protocol.specs.Step.{answerReply}
-use Rattle.checks.specs.InOrder.{judged}
-use Rattle.session.specs.Leaves.{Leaves, leaves}
-use Rattle.session.proofs.Leaving.{accepted-leaves}
+use Rattle.judging.specs.InOrder.{judged}
+use Rattle.judging.specs.Leaves.{Leaves, leaves}
+use Rattle.judging.proofs.Leaving.{accepted-leaves}
 
 -- ---- a message's parts
 

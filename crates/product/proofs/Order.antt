@@ -18,11 +18,11 @@ use Rattle.protocol.specs.Tape.{Slot, isSlot, slotWords, left, right, IN-USE, s
 use Rattle.protocol.specs.Message.{messageTests, dueTests}
 use Rattle.protocol.specs.Step.{firstTests, isOpen, openTests, laterTests}
 use Rattle.protocol.specs.Product.{rightFirstTests, leftTests, rightLastTests}
-use Rattle.checks.specs.InOrder.{inOrder, verdict, only, sortedBy, sorted, judged, after}
-use Rattle.checks.proofs.InOrder.{judge-sorted, after-last}
-use Rattle.session.specs.Groups.{modulusTests, kindTests, numberTests, placeTests, countTests, sameTests}
-use Rattle.session.proofs.Join.{judged-phases}
-use Rattle.steps.specs.Groups.{receivedNumbers, receivedWords, closedTests}
+use Rattle.judging.specs.InOrder.{inOrder, verdict, only, sortedBy, sorted, judged, after}
+use Rattle.judging.proofs.InOrder.{judge-sorted, after-last}
+use Rattle.judging.specs.Groups.{modulusTests, kindTests, numberTests, placeTests, countTests, sameTests}
+use Rattle.judging.proofs.Join.{judged-phases}
+use Rattle.judging.specs.Received.{receivedNumbers, receivedWords, closedTests}
 use Rattle.product.specs.Groups.{firstNumbers, firstWords, leftLengths, leftWords, turnTests, lastNumbers}
 
 pub first-phases : (t : Terms) (s : Slot) (y : List ℕ) (room : ℕ)

@@ -13,8 +13,8 @@ use Rattle.protocol.specs.Judge.{Test, needs}
 use Rattle.protocol.specs.Bounds.{product, allBelow}
 use Rattle.protocol.specs.Tape.{left, right, READY, tapeTests, bodyTests}
 use Rattle.protocol.specs.Message.{messageSize}
-use Rattle.session.specs.Groups.{modulusTests, numberTests, placeTests}
-use Rattle.steps.specs.Groups.{receivedNumbers, receivedWords}
+use Rattle.judging.specs.Groups.{modulusTests, numberTests, placeTests}
+use Rattle.judging.specs.Received.{receivedNumbers, receivedWords}
 
 -- ---- step 1
 

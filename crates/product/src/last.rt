@@ -1,20 +1,20 @@
 // Step 3: right's share is X1 × Y0 + R1 − B0. Its half is spent, and its session closes.
 use crate::RightAnswer;
-use checks::Check;
-use checks::answer_of;
-use checks::times;
+use judging::Check;
+use judging::answer_of;
+use vectors::times;
 use matrix::write_share;
 use protocol::Answer;
 use protocol::Head;
 use protocol::Refusal;
 use protocol::RightSession;
 use protocol::Terms;
-use session::End;
-use session::lowest::need;
-use session::lowest::worst;
-use session::tape::spend;
-use steps::check_closed;
-use steps::no_head;
+use tape::End;
+use judging::need;
+use judging::worst;
+use tape::change::spend;
+use judging::received::check_closed;
+use judging::received::no_head;
 ghost use mathlib.Core.Path.{_≡_};
 ghost use mathlib.Core.Bool.{true};
 ghost use mathlib.Core.List.{[]};
@@ -26,9 +26,9 @@ ghost use Rattle.algebra.specs.Product.{rightShare};
 ghost use Rattle.protocol.specs.Bounds.{sidesFit, product};
 ghost use Rattle.protocol.specs.Tape.{right, slotAt, matrices, wordsSpent};
 ghost use Rattle.protocol.specs.Product.{rightLastTests, rightLast};
-ghost use Rattle.checks.specs.InOrder.{checked, judged};
+ghost use Rattle.judging.specs.InOrder.{checked, judged};
 ghost use Rattle.protocol.specs.Step.{answerReply};
-ghost use Rattle.session.specs.Leaves.{Leaves, leaves};
+ghost use Rattle.judging.specs.Leaves.{Leaves, leaves};
 ghost use Rattle.product.specs.Groups.{turnTests, lastNumbers};
 ghost use Rattle.product.specs.Shape.{LastShape};
 
@@ -53,7 +53,7 @@ fn check_open(
 ) -> Check
     ensures { λ r. ⌜ checked r ≡ judged (lastNumbers s a count pool size index share) ⌝ }
 {
-    let numbers = steps::check_numbers(End::Right, s.terms, a, count, pool, size, index);
+    let numbers = judging::received::check_numbers(End::Right, s.terms, a, count, pool, size, index);
     let turn = check_turn(s.terms, s.due, a.kind, share);
     worst(numbers, turn)
 }
@@ -79,7 +79,7 @@ fn check(
     };
     let at = index * size;
     let end = at + size;
-    steps::check_words(End::Right, 2, s.terms, a, &pool[at..end], residues)
+    judging::received::check_words(End::Right, 2, s.terms, a, &pool[at..end], residues)
 }
 
 fn write(t: Terms, residues: &[u32], slot: &mut [u32], share: &mut [u32])

@@ -1,21 +1,21 @@
 // Step 2: left draws U, sends X1 = X + X0 and R1 = X × Y1 − U − A0, and has the share U. Its half is spent.
 use crate::LeftAnswer;
-use checks::Check;
-use checks::answer_of;
-use checks::times;
+use judging::Check;
+use judging::answer_of;
+use vectors::times;
 use drawing::draw;
 use matrix::write_reply;
-use message::message_size;
+use judging::message::message_size;
 use protocol::Answer;
 use protocol::Head;
 use protocol::Refusal;
 use protocol::Terms;
-use session::End;
-use session::lowest::need;
-use session::lowest::worst;
-use session::tape::spend;
-use steps::check_coins;
-use steps::no_head;
+use tape::End;
+use judging::need;
+use judging::worst;
+use tape::change::spend;
+use judging::received::check_coins;
+use judging::received::no_head;
 use vectors::add_residues;
 use vectors::all_below;
 ghost use mathlib.Core.Path.{_≡_};
@@ -30,9 +30,9 @@ ghost use Rattle.protocol.specs.Drawing.{residuesOf, drawn, wordsRead};
 ghost use Rattle.protocol.specs.Bounds.{sidesFit, product};
 ghost use Rattle.protocol.specs.Tape.{left, slotAt, tapeSize, matrices, wordsSpent};
 ghost use Rattle.protocol.specs.Product.{leftTests, leftStep};
-ghost use Rattle.checks.specs.InOrder.{checked, judged};
+ghost use Rattle.judging.specs.InOrder.{checked, judged};
 ghost use Rattle.protocol.specs.Step.{answerReply};
-ghost use Rattle.session.specs.Leaves.{Leaves, leaves};
+ghost use Rattle.judging.specs.Leaves.{Leaves, leaves};
 ghost use Rattle.product.specs.Groups.{leftLengths, leftWords};
 ghost use Rattle.product.specs.Shape.{Masks, LeftShape};
 
@@ -52,7 +52,7 @@ fn check_words(t: Terms, x: &[u32], a: Head, residues: &[u32], slot: &[u32]) -> 
     requires { ⌜ (sidesFit product (t .m) (t .k) (t .p) ≡ true) × (tapeSize left (t .m) (t .k) (t .p) ≤ length (now slot)) ⌝ }
     ensures { λ r. ⌜ checked r ≡ judged (leftWords t (now (x .entry)) a (now (residues .entry)) (now (slot .entry))) ⌝ }
 {
-    let received = steps::check_words(End::Left, 1, t, a, slot, residues);
+    let received = judging::received::check_words(End::Left, 1, t, a, slot, residues);
     let input = need(Refusal::Residue, all_below(t.q, x));
     worst(received, input)
 }
@@ -72,7 +72,7 @@ fn check(
     ensures { λ r. ⌜ checked r ≡ judged (leftTests t (slotAt (now (pool .entry)) size index) (now (x .entry)) (now (words .entry)) (record { head = a; residues = now (residues .entry) }) room share) ⌝ }
 {
     let count = residues.len();
-    let numbers = steps::check_numbers(End::Left, t, a, count, pool.len(), size, index);
+    let numbers = judging::received::check_numbers(End::Left, t, a, count, pool.len(), size, index);
     let Check::Passed = numbers else {
         return numbers;
     };

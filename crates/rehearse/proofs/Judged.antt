@@ -22,13 +22,13 @@ use Rattle.protocol.specs.Drawing.{drawTests}
 use Rattle.protocol.specs.Deal.{drawSize}
 use Rattle.protocol.specs.Rehearsal.{Input, Run, request, rehearsalTests, run, printed, rehearse}
 use Rattle.protocol.proofs.Judge.{passed}
-use Rattle.checks.specs.declared.Check.{Check}
-use Rattle.checks.specs.declared.Check.the-variants.{Passed, Refused}
-use Rattle.checks.specs.InOrder.{checked, only, sortedBy, sorted, judged, after}
-use Rattle.checks.proofs.InOrder.{refused-by, accepted-by, after-last}
-use Rattle.checks.proofs.Sides.{Sides, sides, modulus}
-use Rattle.session.specs.Groups.{modulusTests}
-use Rattle.session.proofs.Join.{judged-phases, hands-on, goes-past}
+use Rattle.judging.specs.declared.Check.{Check}
+use Rattle.judging.specs.declared.Check.the-variants.{Passed, Refused}
+use Rattle.judging.specs.InOrder.{checked, only, sortedBy, sorted, judged, after}
+use Rattle.judging.proofs.InOrder.{refused-by, accepted-by, after-last}
+use Rattle.tape.proofs.Sides.{Sides, sides, modulus}
+use Rattle.judging.specs.Groups.{modulusTests}
+use Rattle.judging.proofs.Join.{judged-phases, hands-on, goes-past}
 use Rattle.rehearse_lines.specs.declared.Counts.{Counts}
 use Rattle.rehearse_lines.specs.declared.Lines.{Lines}
 use Rattle.rehearse_lines.specs.declared.Lines.the-variants.{Read, Wrong}

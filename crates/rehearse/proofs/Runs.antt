@@ -27,9 +27,9 @@ use Rattle.protocol.proofs.Judge.{passed}
 use Rattle.protocol.proofs.StepTests.{left-step, right-last}
 use Rattle.protocol.proofs.ProductRight.{ProductCalls, ProductRight, one, two, three}
 use Rattle.protocol.proofs.RehearsalRight.{RehearsalFits, rehearsal-tests, runCalls, rehearsal-dealt, rehearsal-steps, rehearsal-run}
-use Rattle.checks.specs.InOrder.{judged}
-use Rattle.checks.proofs.Sides.{Sides, sides}
-use Rattle.session.specs.Leaves.{Leaves, leaves}
+use Rattle.judging.specs.InOrder.{judged}
+use Rattle.tape.proofs.Sides.{Sides, sides}
+use Rattle.judging.specs.Leaves.{Leaves, leaves}
 use Rattle.halves.specs.Dealt.{Pools, pools}
 use Rattle.protocol.specs.Message.{messageWith}
 use Rattle.rehearse_lines.specs.Prints.{runOf}

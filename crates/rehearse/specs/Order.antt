@@ -16,9 +16,9 @@ use Rattle.protocol.specs.Bounds.{product, sidesFit, allBelow}
 use Rattle.protocol.specs.Drawing.{drawTests}
 use Rattle.protocol.specs.Deal.{drawSize}
 use Rattle.protocol.specs.Rehearsal.{Input, request, Run, printed}
-use Rattle.checks.specs.declared.Check.{Check}
-use Rattle.checks.specs.declared.Check.the-variants.{Passed, Refused}
-use Rattle.session.specs.Groups.{modulusTests}
+use Rattle.judging.specs.declared.Check.{Check}
+use Rattle.judging.specs.declared.Check.the-variants.{Passed, Refused}
+use Rattle.judging.specs.Groups.{modulusTests}
 use Rattle.rehearse_lines.specs.Prints.{MOST}
 
 abbrev pub inputOf : Terms → (x y dealer left : List ℕ) → Input

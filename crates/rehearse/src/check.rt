@@ -1,18 +1,18 @@
 // What the run's calls need of what the lines say, before any of them is made: first the numbers, then the words.
-use checks::Check;
-use checks::times;
+use judging::Check;
+use vectors::times;
 use matrix::Matrix;
 use protocol::Refusal;
 use protocol::Terms;
-use session::End;
-use session::lowest::need;
-use session::lowest::worst;
-use session::numbers::check_modulus;
-use steps::check_coins;
+use tape::End;
+use judging::need;
+use judging::worst;
+use judging::numbers::check_modulus;
+use judging::received::check_coins;
 use vectors::all_below;
 ghost use mathlib.Core.Path.{_≡_};
 ghost use Prim.Native.Nat.{_+_, _*_, _≤_, _<_};
-ghost use Rattle.checks.specs.InOrder.{checked, judged};
+ghost use Rattle.judging.specs.InOrder.{checked, judged};
 ghost use Rattle.rehearse.specs.Order.{sizeTests, numberTests, wordTests};
 
 // The ids, the sides, and the counts of X and Y.

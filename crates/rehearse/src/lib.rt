@@ -6,7 +6,7 @@
 mod check;
 mod perform;
 
-use checks::Check;
+use judging::Check;
 use protocol::Refusal;
 use protocol::Terms;
 use rehearse_lines::Lines;
@@ -19,7 +19,7 @@ ghost use lib.ListN.{length};
 ghost use Rattle.algebra.specs.Words.{over};
 ghost use Rattle.protocol.specs.Judge.{judge, done};
 ghost use Rattle.protocol.specs.Rehearsal.{rehearsalTests, run, rehearse};
-ghost use Rattle.checks.specs.InOrder.{judged};
+ghost use Rattle.judging.specs.InOrder.{judged};
 ghost use Rattle.rehearse_lines.specs.Prints.{MOST};
 ghost use Rattle.rehearse_lines.specs.Says.{Holds};
 ghost use Rattle.rehearse.specs.Order.{inputOf, numberTests, refusalIn, Prints};

@@ -1,19 +1,19 @@
 // The run: dealing into two empty pools of one slot, and the three steps, each message handed on as it was sent.
-use checks::times;
+use vectors::times;
 use product::left_step;
 use product::right_first;
 use product::right_last;
 use protocol::Head;
 use protocol::Terms;
 use rehearse_lines::print;
-use tape::deal_product;
+use dealer::deal_product;
 ghost use mathlib.Core.Path.{_≡_};
 ghost use Prim.Native.Nat.{_*_, _≤_};
 ghost use lib.ListN.{length};
 ghost use Rattle.algebra.specs.Matrix.{zeros};
 ghost use Rattle.protocol.specs.Judge.{done};
 ghost use Rattle.protocol.specs.Rehearsal.{rehearsalTests, slotSize, run};
-ghost use Rattle.checks.specs.InOrder.{judged};
+ghost use Rattle.judging.specs.InOrder.{judged};
 ghost use Rattle.rehearse_lines.specs.Prints.{MOST, runOf};
 ghost use Rattle.rehearse.specs.Order.{inputOf, Prints};
 ghost use Rattle.rehearse.specs.Rooms.{Rooms};

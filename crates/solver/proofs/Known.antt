@@ -24,18 +24,18 @@ use Rattle.protocol.specs.System.{sideSize, keptTests, solverSecondEffect, solv
 use Rattle.protocol.specs.Message.{Message, messageLayout, messageSize}
 use Rattle.protocol.proofs.Judge.{passed}
 use Rattle.protocol.proofs.StepTests.{SolverFits, solver-second, solver-last}
-use Rattle.checks.specs.InOrder.{judged}
-use Rattle.checks.proofs.InOrder.{accepted-by}
-use Rattle.checks.proofs.Sides.{Modulus, modulus}
-use Rattle.checks.proofs.Place.{slot-inside}
-use Rattle.session.specs.Groups.{modulusTests, numberTests, placeTests}
-use Rattle.session.proofs.Shape.{unknowns}
-use Rattle.steps.specs.Groups.{receivedNumbers}
-use Rattle.steps.proofs.Fits.{Received, received-fits}
+use Rattle.judging.specs.InOrder.{judged}
+use Rattle.judging.proofs.InOrder.{accepted-by}
+use Rattle.tape.proofs.Sides.{Modulus, modulus}
+use Rattle.tape.proofs.Slots.{slot-inside}
+use Rattle.judging.specs.Groups.{modulusTests, numberTests, placeTests}
+use Rattle.tape.proofs.Sides.{unknowns}
+use Rattle.judging.specs.Received.{receivedNumbers}
+use Rattle.judging.proofs.Fits.{Received, received-fits}
 use Rattle.solver.specs.Groups.{firstNumbers, firstWords, laterNumbers, receiving}
 use Rattle.solver.specs.Shape.{FirstShape, LaterShape}
-use Rattle.session.proofs.Join.{first-passed}
-use Rattle.message.proofs.KindLaws.{size-2, size-3, size-4, size-5}
+use Rattle.judging.proofs.Join.{first-passed}
+use Rattle.judging.proofs.KindLaws.{size-2, size-3, size-4, size-5}
 
 -- ---- the sides
 

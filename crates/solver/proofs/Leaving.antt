@@ -25,12 +25,12 @@ use Rattle.protocol.specs.Tape.{Slot, isSlot, solver, poolWith, slotWords, matr
 use Rattle.protocol.specs.Message.{Message, messageLayout, messageSize, messageParts}
 use Rattle.protocol.specs.System.{noSolver, padded, sideSize, keptS, jointSum, solverFirstEffect, solverFirstTests, solverFirst, solverSecondEffect, solverSecondTests, solverSecond, solverLastEffect, solverLastTests, solverLast}
 use Rattle.protocol.specs.Step.{answerReply}
-use Rattle.checks.specs.InOrder.{judged}
-use Rattle.session.specs.Leaves.{Leaves, leaves}
-use Rattle.session.proofs.Leaving.{accepted-leaves}
+use Rattle.judging.specs.InOrder.{judged}
+use Rattle.judging.specs.Leaves.{Leaves, leaves}
+use Rattle.judging.proofs.Leaving.{accepted-leaves}
 use Rattle.solver.specs.Groups.{receiving}
 use Rattle.solver.specs.Formulas.{shareOf, sumOf, sideOf, lastAnswer, lastHead, closedTerms}
-use Rattle.session.proofs.Slot.{same-pool}
+use Rattle.tape.proofs.Slots.{same-pool}
 
 pub first-done : (t : Terms) (s : Slot) (l x sent : List ℕ) {pool′ sent′ : List ℕ} → judged (solverFirstTests t s l x (length sent)) ≡ done tt
     → pool′ ≡ poolWith s (wordsInUse (slotWords s))

@@ -17,11 +17,11 @@ use Rattle.protocol.specs.Tape.{Slot, isSlot, slotWords, slotTests, halfTests, 
 use Rattle.protocol.specs.Message.{messageLayout, messageSize, messageTests, dueTests}
 use Rattle.protocol.specs.Step.{firstTests, isOpen, openTests, laterTests}
 use Rattle.protocol.specs.System.{regularTests, keptS, keptTests, solverTests, solverFirstTests}
-use Rattle.checks.specs.InOrder.{inOrder, verdict, only, sortedBy, sorted, judged, after}
-use Rattle.checks.proofs.InOrder.{judge-sorted, after-last}
-use Rattle.session.specs.Groups.{modulusTests, kindTests, numberTests, placeTests, countTests, sameTests}
-use Rattle.steps.specs.Groups.{receivedNumbers, receivedWords, closedTests}
-use Rattle.session.proofs.Join.{judged-phases}
+use Rattle.judging.specs.InOrder.{inOrder, verdict, only, sortedBy, sorted, judged, after}
+use Rattle.judging.proofs.InOrder.{judge-sorted, after-last}
+use Rattle.judging.specs.Groups.{modulusTests, kindTests, numberTests, placeTests, countTests, sameTests}
+use Rattle.judging.specs.Received.{receivedNumbers, receivedWords, closedTests}
+use Rattle.judging.proofs.Join.{judged-phases}
 use Rattle.solver.specs.Groups.{firstNumbers, firstWords, turnTests, laterNumbers, laterWords, receiving}
 
 pub first-phases : (t : Terms) (s : Slot) (l x : List ℕ) (room : ℕ)

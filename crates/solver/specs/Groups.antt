@@ -15,8 +15,8 @@ use Rattle.protocol.specs.Tape.{Slot, solver, READY, IN-USE, tapeTests, bodyTes
 use Rattle.protocol.specs.Message.{Message, messageTests, dueTests}
 use Rattle.protocol.specs.Step.{isOpen}
 use Rattle.protocol.specs.System.{sideSize, keptTests, solverTests}
-use Rattle.session.specs.Groups.{modulusTests, numberTests, placeTests}
-use Rattle.steps.specs.Groups.{receivedNumbers, receivedWords}
+use Rattle.judging.specs.Groups.{modulusTests, numberTests, placeTests}
+use Rattle.judging.specs.Received.{receivedNumbers, receivedWords}
 
 -- the lengths of the pool, of L, of x and of the message's slice are handed over
 unfoldable pub firstNumbers : Terms → (pool size index l x room : ℕ) → List Test

@@ -1,16 +1,16 @@
 // What the solver checks at its second step and its last: the session is open, the step is due, and the half and the message are its own.
-use checks::Check;
-use message::side_size;
+use judging::Check;
+use judging::message::side_size;
 use protocol::Head;
 use protocol::Refusal;
 use protocol::SolverSession;
 use protocol::Terms;
-use session::End;
-use session::lowest::need;
-use session::lowest::worst;
-use steps::check_closed;
-use steps::check_numbers;
-use steps::check_words;
+use tape::End;
+use judging::need;
+use judging::worst;
+use judging::received::check_closed;
+use judging::received::check_numbers;
+use judging::received::check_words;
 use vectors::all_below;
 ghost use mathlib.Core.Path.{_≡_};
 ghost use mathlib.Core.Bool.{true};
@@ -18,7 +18,7 @@ ghost use Prim.Native.Nat.{_≤_};
 ghost use lib.ListN.{length};
 ghost use Rattle.protocol.specs.Bounds.{sidesFit, system};
 ghost use Rattle.protocol.specs.Tape.{solver, slotAt, tapeSize};
-ghost use Rattle.checks.specs.InOrder.{checked, judged};
+ghost use Rattle.judging.specs.InOrder.{checked, judged};
 ghost use Rattle.solver.specs.Groups.{turnTests, laterNumbers, laterWords, receiving};
 
 // There is room for the message; this step is due, and so is the message that it takes.

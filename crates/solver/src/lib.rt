@@ -11,7 +11,7 @@ mod last;
 mod later;
 mod second;
 
-use checks::Check;
+use judging::Check;
 pub use first::solver_first;
 pub use last::solver_last;
 use protocol::Answer;
@@ -19,10 +19,10 @@ use protocol::Head;
 use protocol::SolverSession;
 use protocol::Terms;
 pub use second::solver_second;
-use steps::no_head;
+use judging::received::no_head;
 ghost use mathlib.Core.Path.{_≡_};
 ghost use Rattle.protocol.specs.Message.{noMessage};
-ghost use Rattle.checks.specs.InOrder.{answerOf};
+ghost use Rattle.judging.specs.InOrder.{answerOf};
 ghost use Rattle.protocol.specs.System.{noSolver};
 
 // What a step of the solver answers: besides the answer its session, and the head of the message that it sends.
@@ -51,7 +51,7 @@ fn refused(c: Check, session: SolverSession) -> SolverAnswer
     ensures { λ r. ⌜ (r .answer ≡ answerOf c) × (r .session ≡ session) × (r .head ≡ noMessage .head) ⌝ }
 {
     SolverAnswer {
-        answer: checks::answer_of(c),
+        answer: judging::answer_of(c),
         session: session,
         head: no_head(),
     }

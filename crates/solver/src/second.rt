@@ -2,9 +2,9 @@
 use crate::SolverAnswer;
 use crate::later::check;
 use crate::refused;
-use checks::Check;
-use checks::times;
-use columns::write_cols;
+use judging::Check;
+use vectors::times;
+use vectors::write_cols;
 use matrix::write_share;
 use protocol::Answer;
 use protocol::Head;
@@ -23,7 +23,7 @@ ghost use Rattle.protocol.specs.Bounds.{columns, sidesFit, system};
 ghost use Rattle.protocol.specs.Tape.{solver, slotAt, matrices};
 ghost use Rattle.protocol.specs.System.{padded, solverSecond};
 ghost use Rattle.protocol.specs.Step.{answerReply};
-ghost use Rattle.session.specs.Leaves.{Leaves, leaves};
+ghost use Rattle.judging.specs.Leaves.{Leaves, leaves};
 ghost use Rattle.solver.specs.Formulas.{shareOf};
 ghost use Rattle.solver.specs.Shape.{LaterShape};
 

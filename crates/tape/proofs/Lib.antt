@@ -1,7 +1,8 @@
--- How the dealer's code keeps protocol's definition of dealing.
--- Sorted   the code's order of tests is the sorted one
--- Known    what is known where the tests passed
--- Leaving  what the code leaves is what the definition says
-pub mod Sorted
-pub mod Known
-pub mod Leaving
+-- Sides   what sides and moduli that fit are bounded by
+-- Matrices  the sizes of a half's matrices
+-- Chain   `search chain` closes a return of a function that makes tests one after the other
+-- Slots   a slot lent as a part of its pool, its status, and a half in it
+pub mod Sides
+pub mod Slots
+pub mod Matrices
+pub mod Chain

@@ -1,3 +1,4 @@
--- How the dealer's code keeps protocol's definition of dealing.
--- Groups  its tests, in the order in which it makes them
-pub mod Groups
+-- Ends   the ends as the code names them
+-- Bears  the numbers of the terms stand in a tape's header
+pub mod Ends
+pub mod Bears

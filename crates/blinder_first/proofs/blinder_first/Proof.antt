@@ -3,13 +3,13 @@ use mathlib.Core.Path.{sym, ap, _∙_}
 use native.Mathlib.Omega.{arith}
 use lib.ListN.{length}
 use borrow.Author.Needs.{needs}
-use Rattle.session.proofs.Slot.{slot-part, slot-part-length, slot-written, half-body, in-use-length}
+use Rattle.tape.proofs.Slots.{slot-part, slot-part-length, slot-written, half-body, in-use-length}
 use Rattle.protocol.specs.Tape.{slotAt, blinder, wordsInUse}
 use Rattle.blinder_first.proofs.Known.{first-known, first-shape}
 use Rattle.blinder.proofs.Kept.{side-bound, square-bound}
-use Rattle.checks.specs.InOrder.{checked}
+use Rattle.judging.specs.InOrder.{checked}
 use mathlib.Core.List.{[]}
-use Rattle.session.proofs.Leaving.{refused-leaves}
+use Rattle.judging.proofs.Leaving.{refused-leaves}
 use Rattle.blinder_first.proofs.Leaving.{first-done}
 use Rattle.protocol.proofs.Slots.{slot-room}
 use Rattle.protocol.specs.System.{noBlinder, blinderFirstEffect, blinderFirst}

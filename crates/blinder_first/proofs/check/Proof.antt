@@ -2,12 +2,12 @@
 use mathlib.Core.Path.{sym, ap, _∙_}
 use native.Mathlib.Omega.{arith}
 use borrow.Author.Needs.{needs}
-use Rattle.session.proofs.Join.{hands-on, goes-past}
-use Rattle.session.proofs.Slot.{slot-part, slot-part-length}
+use Rattle.judging.proofs.Join.{hands-on, goes-past}
+use Rattle.tape.proofs.Slots.{slot-part, slot-part-length}
 use Rattle.protocol.specs.Tape.{slotAt, blinder}
-use Rattle.steps.proofs.Fits.{received-fits}
+use Rattle.judging.proofs.Fits.{received-fits}
 use Rattle.blinder_first.proofs.Known.{eliminable}
-use Rattle.checks.specs.InOrder.{checked}
+use Rattle.judging.specs.InOrder.{checked}
 use Rattle.blinder_first.proofs.Order.{first-phases}
 use Rattle.blinder_first.proofs.check.Statement.{statement}
 use Rattle.blinder_first.proofs.check.Tie as tie

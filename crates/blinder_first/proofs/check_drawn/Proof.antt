@@ -3,8 +3,8 @@ use mathlib.Core.Path.{_≡_, sym, ap, _∙_}
 use borrow.Author.Needs.{needs}
 use Rattle.protocol.specs.Drawing.{drawTests}
 use Rattle.protocol.specs.System.{scratchSize}
-use Rattle.checks.specs.InOrder.{checked, judged}
-use Rattle.session.proofs.Join.{hands-on, goes-past}
+use Rattle.judging.specs.InOrder.{checked, judged}
+use Rattle.judging.proofs.Join.{hands-on, goes-past}
 use Rattle.blinder_first.proofs.Coins.{enough}
 use Rattle.blinder_first.proofs.check_drawn.Statement.{statement}
 use Rattle.blinder_first.proofs.check_drawn.Tie as tie

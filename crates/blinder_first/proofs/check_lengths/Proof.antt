@@ -1,10 +1,10 @@
 -- `blinder_first::check_lengths` meets its contract. Assumes nothing.
 use borrow.Author.Needs.{needs}
-use Rattle.session.proofs.Join.{also}
+use Rattle.judging.proofs.Join.{also}
 use mathlib.Core.List.{[], _∷_}
 use Rattle.blinder_first.specs.Groups.{firstLengths}
 use Rattle.protocol.specs.Bounds.{system}
-use Rattle.message.proofs.KindLaws.{few}
+use Rattle.judging.proofs.KindLaws.{few}
 use Rattle.blinder_first.proofs.check_lengths.Statement.{statement}
 use Rattle.blinder_first.proofs.check_lengths.Tie as tie
 

@@ -4,16 +4,16 @@ use Prim.Native.Nat.{ℕ, _*_, _≤_}
 use native.Mathlib.Omega.{arith}
 use lib.ListN.{length, length-replicate}
 use borrow.Author.Needs.{needs}
-use Rattle.session.proofs.Join.{also}
+use Rattle.judging.proofs.Join.{also}
 use mathlib.Core.List.{[], _∷_}
 use Rattle.blinder_first.specs.Groups.{firstRegular}
 use Rattle.protocol.specs.System.{regularTests}
-use Rattle.session.proofs.Shape.{unknowns}
+use Rattle.tape.proofs.Sides.{unknowns}
 use Rattle.blinder_first.proofs.Known.{p-drawn, p-residues}
 use Rattle.protocol.specs.Drawing.{residuesOf}
 use Rattle.drawing.proofs.Then.{drawn-count, coins-part}
 use Rattle.blinder.proofs.Kept.{square-bound, scratch-sum}
-use Rattle.message.proofs.KindLaws.{few}
+use Rattle.judging.proofs.KindLaws.{few}
 use Rattle.blinder_first.proofs.check_regular.Statement.{statement}
 use Rattle.blinder_first.proofs.check_regular.Tie as tie
 

@@ -1,6 +1,6 @@
 -- `blinder_first::check_words` meets its contract. Assumes nothing.
 use borrow.Author.Needs.{needs}
-use Rattle.session.proofs.Join.{also}
+use Rattle.judging.proofs.Join.{also}
 use mathlib.Core.List.{[], _∷_}
 use Rattle.blinder_first.specs.Groups.{firstWords}
 use Rattle.protocol.specs.System.{keptTests}

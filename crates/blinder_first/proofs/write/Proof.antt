@@ -8,7 +8,7 @@ use Rattle.protocol.specs.Drawing.{residuesOf}
 use Rattle.drawing.proofs.Then.{drawn-count, coins-part}
 use Rattle.blinder.proofs.Kept.{scratch-sum}
 use Rattle.protocol.specs.System.{coinsOf}
-use Rattle.message.proofs.KindLaws.{few}
+use Rattle.judging.proofs.KindLaws.{few}
 use Rattle.blinder_first.proofs.write.Statement.{statement}
 use Rattle.blinder_first.proofs.write.Tie as tie
 

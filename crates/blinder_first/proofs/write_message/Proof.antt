@@ -10,7 +10,7 @@ use Rattle.algebra.specs.Product.{sendX, sendR}
 use Rattle.algebra.proofs.Lists.{add-residues}
 use Rattle.protocol.proofs.Residues.{over-length}
 use Rattle.blinder_first.specs.Shape.{firstSent}
-use Rattle.checks.proofs.Written.{part-then}
+use Rattle.vectors.proofs.Written.{part-then}
 use Rattle.blinder_first.proofs.write_message.Statement.{statement}
 use Rattle.blinder_first.proofs.write_message.Tie as tie
 

@@ -6,11 +6,11 @@ use borrow.Author.Needs.{needs}
 use mathlib.Core.List.{[]}
 use Rattle.algebra.specs.Matrix.{zeros}
 use Rattle.algebra.specs.Words.{over}
-use Rattle.checks.specs.InOrder.{checked}
+use Rattle.judging.specs.InOrder.{checked}
 use Rattle.protocol.specs.Tape.{slotAt, slotWords, wordsSpent, blinder}
 use Rattle.protocol.specs.Drop.{dropped, dropBlinder}
 use Rattle.protocol.specs.System.{closedBlinder, scratchSize}
-use Rattle.session.proofs.Leaving.{refused-leaves}
+use Rattle.judging.proofs.Leaving.{refused-leaves}
 use Rattle.dropping.proofs.Known.{blinder-known, spendable}
 use Rattle.dropping.proofs.Leaving.{drop-done}
 use Rattle.dropping.proofs.blinder_drop.Statement.{statement}

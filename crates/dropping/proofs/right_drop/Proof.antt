@@ -3,11 +3,11 @@ use mathlib.Core.Path.{refl, sym, ap, _∙_}
 use borrow.Author.Needs.{needs}
 use mathlib.Core.List.{[]}
 use Rattle.algebra.specs.Words.{over}
-use Rattle.checks.specs.InOrder.{checked}
+use Rattle.judging.specs.InOrder.{checked}
 use Rattle.protocol.specs.Tape.{slotAt, slotWords, wordsSpent, right}
 use Rattle.protocol.specs.Drop.{dropped, dropRight}
 use Rattle.protocol.specs.Product.{closedRight}
-use Rattle.session.proofs.Leaving.{refused-leaves}
+use Rattle.judging.proofs.Leaving.{refused-leaves}
 use Rattle.dropping.proofs.Known.{open-known, spendable}
 use Rattle.dropping.proofs.Leaving.{drop-done}
 use Rattle.dropping.proofs.right_drop.Statement.{statement}

@@ -2,9 +2,9 @@
 use mathlib.Core.Path.{_∙_}
 use native.Mathlib.Omega.{arith}
 use borrow.Author.Needs.{needs}
-use Rattle.session.specs.Ends.{role}
+use Rattle.tape.specs.Ends.{role}
 use lib.ListN.{length-take, length-drop}
-use Rattle.session.proofs.Slot.{slot-written, spent-keeps}
+use Rattle.tape.proofs.Slots.{slot-written, spent-keeps}
 use Rattle.protocol.specs.Tape.{wordsSpent}
 use Rattle.dropping.proofs.spend_at.Statement.{statement}
 use Rattle.dropping.proofs.spend_at.Tie as tie

@@ -1,9 +1,9 @@
--- `tape::write/draw_next` meets its contract: the parts that are lent are tails. Assumes nothing.
+-- `dealer::write/draw_next` meets its contract: the parts that are lent are tails. Assumes nothing.
 use native.Mathlib.Omega.{arith}
 use lib.ListN.{drop, length-take, length-drop}
 use borrow.Author.Needs.{needs}
 use Rattle.drawing.proofs.Then.{read-few}
-use Rattle.checks.proofs.Written.{tail-part, part-written}
+use Rattle.vectors.proofs.Written.{tail-part, part-written}
 use Rattle.halves.proofs.draw_next.Statement.{statement}
 use Rattle.halves.proofs.draw_next.Tie as tie
 

@@ -1,4 +1,4 @@
--- `tape::write/draw_three` meets its contract: three drawings in a row. Assumes nothing.
+-- `dealer::write/draw_three` meets its contract: three drawings in a row. Assumes nothing.
 use mathlib.Core.Path.{_≡_, ap, _∙_}
 use Prim.Native.Nat.{ℕ, _+_}
 use native.Mathlib.Omega.{arith}

@@ -1,4 +1,4 @@
--- `tape::write/header` meets its contract: seven stores, one after the other. Assumes nothing.
+-- `dealer::write/header` meets its contract: seven stores, one after the other. Assumes nothing.
 use mathlib.Core.List.{_∷_, []}
 use native.Mathlib.Omega.{arith}
 use borrow.Author.Needs.{needs}

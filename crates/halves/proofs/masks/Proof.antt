@@ -1,4 +1,4 @@
--- `tape::write/masks` meets its contract: each half is its header and its matrices, one after the other. Assumes nothing.
+-- `dealer::write/masks` meets its contract: each half is its header and its matrices, one after the other. Assumes nothing.
 use borrow.Author.Needs.{needs}
 use Rattle.halves.proofs.Halves.{masks-first, masks-second}
 use Rattle.halves.proofs.masks.Statement.{statement}

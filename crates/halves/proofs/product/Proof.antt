@@ -1,4 +1,4 @@
--- `tape::write/product` meets its contract: the masks are the whole halves. Assumes nothing.
+-- `dealer::write/product` meets its contract: the masks are the whole halves. Assumes nothing.
 use mathlib.Core.Path.{ap, _∙_}
 use mathlib.Core.List.{List}
 use Prim.Native.Nat.{ℕ}

@@ -1,4 +1,4 @@
--- `tape::write/system` meets its contract: the masks, then Q, R and G, then V. Assumes nothing.
+-- `dealer::write/system` meets its contract: the masks, then Q, R and G, then V. Assumes nothing.
 use mathlib.Core.Path.{_≡_, ap, _∙_}
 use Prim.Native.Nat.{ℕ, _+_, _*_, _≤_}
 use native.Mathlib.Omega.{arith}
@@ -8,7 +8,7 @@ use Rattle.drawing.proofs.Then.{read-few, next-inside, next-left, next-read, re
 use Rattle.protocol.specs.Drawing.{residuesOf}
 use Rattle.halves.proofs.Few.{system-masks}
 use Rattle.halves.proofs.Systems.{system-first, system-second}
-use Rattle.checks.proofs.Written.{tail-part}
+use Rattle.vectors.proofs.Written.{tail-part}
 use Rattle.halves.proofs.system.Statement.{statement}
 use Rattle.halves.proofs.system.Tie as tie
 

@@ -1,4 +1,4 @@
--- `tape::write/write_b` meets its contract: the buffer holds B0. Assumes nothing.
+-- `dealer::write/write_b` meets its contract: the buffer holds B0. Assumes nothing.
 use native.Mathlib.Omega.{arith}
 use borrow.Author.Needs.{needs}
 use Rattle.halves.proofs.Halves.{b-written}

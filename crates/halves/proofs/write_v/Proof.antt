@@ -1,4 +1,4 @@
--- `tape::write/write_v` meets its contract: the buffer holds V. Assumes nothing.
+-- `dealer::write/write_v` meets its contract: the buffer holds V. Assumes nothing.
 use native.Mathlib.Omega.{arith}
 use borrow.Author.Needs.{needs}
 use lib.ListN.{length-take, length-drop}

@@ -1,8 +1,8 @@
 -- `line::check_form` meets its contract: by the room, and then by the kind. Assumes nothing.
 use borrow.Author.Needs.{needs}
 use borrow.Author.Tests.{le-ltb, lt-ltb}
-use Rattle.checks.specs.InOrder.{inOrder}
-use Rattle.checks.proofs.Flags.{fails, holds}
+use Rattle.judging.specs.InOrder.{inOrder}
+use Rattle.judging.proofs.Flags.{fails, holds}
 use Rattle.line.specs.Order.{parseOrder}
 use Rattle.line.proofs.check_form.Statement.{statement}
 use Rattle.line.proofs.check_form.Tie as tie

@@ -5,7 +5,7 @@ use Prim.Native.Nat.{ℕ, _+_, _-_}
 use native.Mathlib.Omega.{arith}
 use lib.ListN.{take, drop}
 use borrow.Author.Needs.{needs}
-use Rattle.checks.specs.InOrder.{checked, verdict}
+use Rattle.judging.specs.InOrder.{checked, verdict}
 use Rattle.line.proofs.Fits.{head-few}
 use Rattle.line.proofs.Judged.{head-stops, head-goes-on}
 use Rattle.line.specs.Order.{restTests}

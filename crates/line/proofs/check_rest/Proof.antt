@@ -1,7 +1,7 @@
 -- `line::check_rest` meets its contract: each return is the first of the tests that fails. Assumes nothing.
 use borrow.Author.Needs.{needs}
-use Rattle.checks.specs.InOrder.{inOrder}
-use Rattle.checks.proofs.Flags.{fails, holds}
+use Rattle.judging.specs.InOrder.{inOrder}
+use Rattle.judging.proofs.Flags.{fails, holds}
 use borrow.Author.Tests.{le-leb, lt-leb}
 use Rattle.line.specs.Order.{restTests}
 use Rattle.line.proofs.check_rest.Statement.{statement}

@@ -1,8 +1,8 @@
 -- `line::check_short` meets its contract: the head is checked first, and the room is too small anyway. Assumes nothing.
 use mathlib.Core.Path.{sym, ap, _∙_}
 use borrow.Author.Needs.{needs}
-use Rattle.checks.specs.InOrder.{checked, inOrder}
-use Rattle.checks.proofs.InOrder.{stops, goes-on}
+use Rattle.judging.specs.InOrder.{checked, inOrder}
+use Rattle.judging.proofs.InOrder.{stops, goes-on}
 use Rattle.message.specs.Groups.{headTests}
 use Rattle.line.specs.Order.{shortOrder}
 use Rattle.line.proofs.check_short.Statement.{statement}

@@ -3,7 +3,7 @@ use mathlib.Core.Path.{refl, sym, ap, _∙_}
 use Prim.Native.Nat.{ℕ}
 use lib.ListN.{length}
 use borrow.Author.Needs.{needs}
-use Rattle.checks.specs.InOrder.{checked, verdict}
+use Rattle.judging.specs.InOrder.{checked, verdict}
 use Rattle.line.proofs.Fits.{head-few}
 use Rattle.line.proofs.Judged.{head-stops, head-goes-on}
 use Rattle.line.specs.Order.{restTests}

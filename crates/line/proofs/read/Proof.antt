@@ -5,7 +5,7 @@ use Prim.Native.Nat.{ℕ, _≤_}
 use native.Mathlib.Omega.{arith}
 use lib.ListN.{length, drop, replicate}
 use borrow.Author.Needs.{needs}
-use Rattle.checks.specs.InOrder.{checked, verdict}
+use Rattle.judging.specs.InOrder.{checked, verdict}
 use Rattle.decimal.proofs.Entry.{tallied, told, told-wrong}
 use Rattle.line.proofs.Loaded.{loaded-head, loaded-count, loaded-residues}
 use Rattle.protocol.specs.Line.{numbersOf, messageFrom}

@@ -3,7 +3,7 @@ use mathlib.Core.Path.{refl, sym, ap, _∙_}
 use Prim.Native.Nat.{ℕ}
 use lib.ListN.{length}
 use borrow.Author.Needs.{needs}
-use Rattle.checks.specs.InOrder.{checked}
+use Rattle.judging.specs.InOrder.{checked}
 use Rattle.line.proofs.Fits.{size-passed}
 use Rattle.line.proofs.Judged.{write-refused, write-done}
 use Rattle.protocol.specs.Message.{messageWith}

@@ -2,14 +2,14 @@
 use mathlib.Core.Path.{_≡_, sym, ap, _∙_}
 use native.Mathlib.Omega.{arith}
 use borrow.Author.Needs.{needs}
-use Rattle.session.proofs.Join.{hands-on, goes-past}
-use Rattle.session.proofs.Slot.{slot-part, slot-part-length}
+use Rattle.judging.proofs.Join.{hands-on, goes-past}
+use Rattle.tape.proofs.Slots.{slot-part, slot-part-length}
 use Rattle.protocol.specs.Tape.{slotAt, blinder}
-use Rattle.steps.proofs.Fits.{received-fits}
+use Rattle.judging.proofs.Fits.{received-fits}
 use Rattle.blinder_later.proofs.Known.{scratch-lent}
-use Rattle.checks.specs.InOrder.{checked}
+use Rattle.judging.specs.InOrder.{checked}
 use Rattle.blinder_later.proofs.Order.{open-phases, closed-judged}
-use Rattle.session.proofs.Phases.{is-open}
+use Rattle.judging.proofs.Phases.{is-open}
 use Rattle.blinder_later.proofs.check.check.Statement.{statement}
 use Rattle.blinder_later.proofs.check.check.Tie as tie
 

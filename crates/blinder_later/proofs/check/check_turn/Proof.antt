@@ -1,6 +1,6 @@
 -- `blinder_later::check::check_turn` meets its contract. Assumes nothing.
 use borrow.Author.Needs.{needs}
-use Rattle.session.proofs.Join.{also}
+use Rattle.judging.proofs.Join.{also}
 use mathlib.Core.List.{[], _∷_}
 use Rattle.blinder_later.specs.Groups.{laterTurn}
 use Rattle.blinder_later.proofs.check.check_turn.Statement.{statement}

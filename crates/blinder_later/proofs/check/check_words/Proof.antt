@@ -3,7 +3,7 @@ use mathlib.Core.Path.{_≡_, sym, _∙_}
 use native.Mathlib.Omega.{arith}
 use lib.ListN.{length, length-map}
 use borrow.Author.Needs.{needs}
-use Rattle.session.proofs.Join.{also}
+use Rattle.judging.proofs.Join.{also}
 use mathlib.Core.List.{[], _∷_}
 use Rattle.blinder_later.specs.Groups.{laterWords}
 use Rattle.protocol.specs.System.{keptTests, keptM, keptY}

@@ -2,7 +2,7 @@
 use borrow.Author.Needs.{needs}
 use Rattle.blinder_later.specs.Groups.{writtenSize}
 use Rattle.protocol.specs.Bounds.{system}
-use Rattle.message.proofs.KindLaws.{few}
+use Rattle.judging.proofs.KindLaws.{few}
 use borrow.Author.Tests.{ne-eqb}
 use Rattle.blinder_later.proofs.check.written_size.Statement.{statement}
 use Rattle.blinder_later.proofs.check.written_size.Tie as tie

@@ -3,12 +3,12 @@ use mathlib.Core.Path.{sym, ap, _∙_}
 use native.Mathlib.Omega.{arith}
 use lib.ListN.{length}
 use borrow.Author.Needs.{needs}
-use Rattle.session.proofs.Slot.{slot-part, slot-part-length, slot-written, spent-keeps}
+use Rattle.tape.proofs.Slots.{slot-part, slot-part-length, slot-written, spent-keeps}
 use Rattle.protocol.specs.Tape.{slotAt, blinder, wordsSpent}
 use Rattle.blinder_later.proofs.Known.{last-tests, last-known, last-shape}
-use Rattle.checks.specs.InOrder.{checked, judged}
+use Rattle.judging.specs.InOrder.{checked, judged}
 use mathlib.Core.List.{[]}
-use Rattle.session.proofs.Leaving.{refused-leaves}
+use Rattle.judging.proofs.Leaving.{refused-leaves}
 use Rattle.blinder_later.proofs.Leaving.{last-done}
 use Rattle.protocol.proofs.Slots.{slot-room}
 use Rattle.protocol.specs.System.{blinderLastEffect, blinderLast}

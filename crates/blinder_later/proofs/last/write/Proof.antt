@@ -4,10 +4,10 @@ use Prim.Native.Nat.{ℕ, _+_, _*_, _-_, _≤_}
 use native.Mathlib.Omega.{arith}
 use lib.ListN.{length, length-take, length-drop}
 use borrow.Author.Needs.{needs}
-use Rattle.session.proofs.Shape.{unknowns}
+use Rattle.tape.proofs.Sides.{unknowns}
 use Rattle.blinder.proofs.Kept.{side-is, side-bound, square-bound, wide-bound, wide-enough}
 use Rattle.blinder.proofs.Halves.{half-is}
-use Rattle.message.proofs.KindLaws.{few}
+use Rattle.judging.proofs.KindLaws.{few}
 use Rattle.blinder_later.proofs.last.write.Statement.{statement}
 use Rattle.blinder_later.proofs.last.write.Tie as tie
 

@@ -9,9 +9,9 @@ use mathlib.Core.List.{[]}
 use Rattle.protocol.specs.Tape.{slotAt}
 use Rattle.protocol.specs.System.{blinderSecondEffect, blinderSecond}
 use Rattle.protocol.proofs.Slots.{slot-room}
-use Rattle.checks.specs.InOrder.{checked, judged}
-use Rattle.session.proofs.Slot.{slot-part, slot-part-length}
-use Rattle.session.proofs.Leaving.{refused-leaves}
+use Rattle.judging.specs.InOrder.{checked, judged}
+use Rattle.tape.proofs.Slots.{slot-part, slot-part-length}
+use Rattle.judging.proofs.Leaving.{refused-leaves}
 use Rattle.blinder_second.proofs.Known.{second-tests, second-known, second-shape}
 use Rattle.blinder_second.proofs.Leaving.{second-done}
 use Rattle.blinder_second.proofs.second.blinder_second.Statement.{statement}

@@ -7,7 +7,7 @@ use lib.ListN.{length-take, length-drop}
 use lib.Seq.{length-take-le}
 use Rattle.blinder_second.specs.Shape.{secondSent}
 use Rattle.blinder_second.proofs.Start.{w-length, w-after}
-use Rattle.checks.proofs.Written.{part-then}
+use Rattle.vectors.proofs.Written.{part-then}
 use Rattle.blinder_second.proofs.second.write_message.Statement.{statement}
 use Rattle.blinder_second.proofs.second.write_message.Tie as tie
 

@@ -1,6 +1,6 @@
 -- `dropping::check::check_blinder` meets its contract. Assumes nothing.
 use borrow.Author.Needs.{needs}
-use Rattle.session.proofs.Join.{also}
+use Rattle.judging.proofs.Join.{also}
 use Rattle.dropping.proofs.check.check_blinder.Statement.{statement}
 use Rattle.dropping.proofs.check.check_blinder.Tie as tie
 

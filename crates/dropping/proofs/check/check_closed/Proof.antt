@@ -1,7 +1,7 @@
 -- `dropping::check::check_closed` meets its contract. Assumes nothing.
 use borrow.Author.Needs.{needs}
 use mathlib.Core.List.{[], _∷_}
-use Rattle.session.proofs.Join.{also}
+use Rattle.judging.proofs.Join.{also}
 use Rattle.dropping.specs.Groups.{closedTests}
 use Rattle.dropping.proofs.check.check_closed.Statement.{statement}
 use Rattle.dropping.proofs.check.check_closed.Tie as tie

@@ -1,6 +1,6 @@
 -- `dropping::check::check_numbers` meets its contract. Assumes nothing.
 use borrow.Author.Needs.{needs}
-use Rattle.session.proofs.Join.{also}
+use Rattle.judging.proofs.Join.{also}
 use Rattle.dropping.specs.Groups.{openNumbers}
 use Rattle.dropping.proofs.check.check_numbers.Statement.{statement}
 use Rattle.dropping.proofs.check.check_numbers.Tie as tie

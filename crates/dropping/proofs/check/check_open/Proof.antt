@@ -2,12 +2,12 @@
 use mathlib.Core.Path.{sym, ap, _∙_}
 use native.Mathlib.Omega.{arith}
 use borrow.Author.Needs.{needs}
-use Rattle.session.specs.Ends.{role}
-use Rattle.session.proofs.Join.{hands-on, goes-past}
-use Rattle.session.proofs.Slot.{slot-part, slot-part-length, half-body}
+use Rattle.tape.specs.Ends.{role}
+use Rattle.judging.proofs.Join.{hands-on, goes-past}
+use Rattle.tape.proofs.Slots.{slot-part, slot-part-length, half-body}
 use Rattle.protocol.specs.Tape.{slotAt}
 use Rattle.protocol.proofs.Tests.{open-due}
-use Rattle.checks.specs.InOrder.{checked}
+use Rattle.judging.specs.InOrder.{checked}
 use Rattle.dropping.proofs.Order.{open-phases, closed-judged}
 use Rattle.dropping.proofs.Known.{numbers-placed}
 use Rattle.dropping.proofs.check.check_open.Statement.{statement}

@@ -1,10 +1,10 @@
 -- `product::first::check_numbers` meets its contract. Assumes nothing.
 use mathlib.Core.Path.{_∙_}
 use borrow.Author.Needs.{needs}
-use Rattle.session.proofs.Join.{also}
+use Rattle.judging.proofs.Join.{also}
 use mathlib.Core.List.{[], _∷_}
 use Rattle.product.specs.Groups.{firstNumbers}
-use Rattle.message.proofs.KindLaws.{size-1}
+use Rattle.judging.proofs.KindLaws.{size-1}
 use Rattle.product.proofs.first.check_numbers.Statement.{statement}
 use Rattle.product.proofs.first.check_numbers.Tie as tie
 

@@ -1,9 +1,9 @@
 -- `product::first::check_words` meets its contract. Assumes nothing.
 use native.Mathlib.Omega.{arith}
 use borrow.Author.Needs.{needs}
-use Rattle.session.proofs.Join.{also}
+use Rattle.judging.proofs.Join.{also}
 use Rattle.product.specs.Groups.{firstWords}
-use Rattle.session.proofs.Slot.{half-body}
+use Rattle.tape.proofs.Slots.{half-body}
 use Rattle.protocol.specs.Tape.{right}
 use Rattle.product.proofs.first.check_words.Statement.{statement}
 use Rattle.product.proofs.first.check_words.Tie as tie

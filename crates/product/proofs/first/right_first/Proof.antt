@@ -4,15 +4,15 @@ use Prim.Native.Nat.{_*_}
 use native.Mathlib.Omega.{arith}
 use lib.ListN.{length}
 use borrow.Author.Needs.{needs}
-use Rattle.session.proofs.Slot.{slot-part, slot-part-length, slot-written, half-body, in-use-length}
+use Rattle.tape.proofs.Slots.{slot-part, slot-part-length, slot-written, half-body, in-use-length}
 use Rattle.protocol.specs.Tape.{slotAt, right, wordsInUse}
 use Rattle.product.proofs.Known.{first-known, masks}
-use Rattle.session.proofs.Leaving.{refused-leaves}
+use Rattle.judging.proofs.Leaving.{refused-leaves}
 use Rattle.product.proofs.Leaving.{first-done}
 use Rattle.protocol.proofs.Slots.{slot-room}
 use Rattle.protocol.specs.Product.{noRight, rightFirstEffect, rightFirst}
-use Rattle.checks.specs.InOrder.{checked}
-use Rattle.message.proofs.KindLaws.{size-1}
+use Rattle.judging.specs.InOrder.{checked}
+use Rattle.judging.proofs.KindLaws.{size-1}
 use mathlib.Core.List.{[]}
 use Rattle.product.proofs.first.right_first.Statement.{statement}
 use Rattle.product.proofs.first.right_first.Tie as tie

@@ -8,7 +8,7 @@ use Rattle.algebra.specs.Count.{part}
 use Rattle.protocol.specs.Tape.{right, matrices}
 use Rattle.product.proofs.Halves.{first-matrix}
 use Rattle.algebra.specs.Product.{sendY}
-use Rattle.checks.proofs.Place.{right-size}
+use Rattle.tape.proofs.Slots.{right-size}
 use Rattle.product.proofs.first.write.Statement.{statement}
 use Rattle.product.proofs.first.write.Tie as tie
 

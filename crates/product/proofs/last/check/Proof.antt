@@ -2,13 +2,13 @@
 use mathlib.Core.Path.{sym, ap, _∙_}
 use native.Mathlib.Omega.{arith}
 use borrow.Author.Needs.{needs}
-use Rattle.session.proofs.Join.{hands-on, goes-past}
-use Rattle.session.proofs.Slot.{slot-part, slot-part-length}
+use Rattle.judging.proofs.Join.{hands-on, goes-past}
+use Rattle.tape.proofs.Slots.{slot-part, slot-part-length}
 use Rattle.protocol.specs.Tape.{slotAt, left}
 use Rattle.product.proofs.Known.{last-received}
 use Rattle.product.proofs.Order.{open-phases, closed-judged}
-use Rattle.checks.specs.InOrder.{checked}
-use Rattle.session.proofs.Phases.{is-open}
+use Rattle.judging.specs.InOrder.{checked}
+use Rattle.judging.proofs.Phases.{is-open}
 use Rattle.product.proofs.last.check.Statement.{statement}
 use Rattle.product.proofs.last.check.Tie as tie
 

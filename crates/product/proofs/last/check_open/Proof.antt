@@ -1,6 +1,6 @@
 -- `product::last::check_open` meets its contract. Assumes nothing.
 use borrow.Author.Needs.{needs}
-use Rattle.session.proofs.Join.{also}
+use Rattle.judging.proofs.Join.{also}
 use Rattle.product.specs.Groups.{lastNumbers}
 use Rattle.product.proofs.last.check_open.Statement.{statement}
 use Rattle.product.proofs.last.check_open.Tie as tie

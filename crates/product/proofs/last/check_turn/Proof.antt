@@ -1,6 +1,6 @@
 -- `product::last::check_turn` meets its contract. Assumes nothing.
 use borrow.Author.Needs.{needs}
-use Rattle.session.proofs.Join.{also}
+use Rattle.judging.proofs.Join.{also}
 use mathlib.Core.List.{[], _∷_}
 use Rattle.product.specs.Groups.{turnTests}
 use Rattle.product.proofs.last.check_turn.Statement.{statement}

@@ -3,15 +3,15 @@ use mathlib.Core.Path.{sym, ap, _∙_}
 use native.Mathlib.Omega.{arith}
 use lib.ListN.{length}
 use borrow.Author.Needs.{needs}
-use Rattle.session.proofs.Slot.{slot-part, slot-part-length, slot-written, spent-keeps}
+use Rattle.tape.proofs.Slots.{slot-part, slot-part-length, slot-written, spent-keeps}
 use Rattle.protocol.specs.Tape.{slotAt, right, wordsSpent}
 use Rattle.product.proofs.Known.{last-known, last-shape}
-use Rattle.session.proofs.Leaving.{refused-leaves}
+use Rattle.judging.proofs.Leaving.{refused-leaves}
 use Rattle.product.proofs.Leaving.{last-done}
 use Rattle.protocol.proofs.Slots.{slot-room}
 use Rattle.protocol.specs.Product.{rightLastEffect, rightLast}
-use Rattle.checks.specs.InOrder.{checked}
-use Rattle.message.proofs.KindLaws.{size-2}
+use Rattle.judging.specs.InOrder.{checked}
+use Rattle.judging.proofs.KindLaws.{size-2}
 use mathlib.Core.List.{[]}
 use Rattle.product.proofs.last.right_last.Statement.{statement}
 use Rattle.product.proofs.last.right_last.Tie as tie

@@ -8,8 +8,8 @@ use Rattle.product.proofs.Halves.{first-matrix, second-matrix}
 use lib.ListN.{length-take, length-drop}
 use lib.Seq.{length-take-le}
 use Rattle.algebra.specs.Product.{rightShare}
-use Rattle.checks.proofs.Written.{tail-part}
-use Rattle.checks.proofs.Place.{right-size}
+use Rattle.vectors.proofs.Written.{tail-part}
+use Rattle.tape.proofs.Slots.{right-size}
 use Rattle.product.proofs.last.write.Statement.{statement}
 use Rattle.product.proofs.last.write.Tie as tie
 

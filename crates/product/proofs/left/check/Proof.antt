@@ -2,14 +2,14 @@
 use mathlib.Core.Path.{sym, ap, _∙_}
 use native.Mathlib.Omega.{arith}
 use borrow.Author.Needs.{needs}
-use Rattle.session.proofs.Join.{hands-on, goes-past}
-use Rattle.session.proofs.Slot.{slot-part, slot-part-length}
+use Rattle.judging.proofs.Join.{hands-on, goes-past}
+use Rattle.tape.proofs.Slots.{slot-part, slot-part-length}
 use Rattle.protocol.specs.Tape.{slotAt, left}
 use Rattle.protocol.specs.Bounds.{product}
-use Rattle.steps.proofs.Fits.{received-fits}
+use Rattle.judging.proofs.Fits.{received-fits}
 use Rattle.product.proofs.Order.{left-phases}
-use Rattle.checks.specs.InOrder.{checked}
-use Rattle.message.proofs.KindLaws.{few}
+use Rattle.judging.specs.InOrder.{checked}
+use Rattle.judging.proofs.KindLaws.{few}
 use Rattle.product.proofs.left.check.Statement.{statement}
 use Rattle.product.proofs.left.check.Tie as tie
 

@@ -1,6 +1,6 @@
 -- `product::left::check_lengths` meets its contract. Assumes nothing.
 use borrow.Author.Needs.{needs}
-use Rattle.session.proofs.Join.{also}
+use Rattle.judging.proofs.Join.{also}
 use mathlib.Core.List.{[], _∷_}
 use Rattle.product.specs.Groups.{leftLengths}
 use Rattle.product.proofs.left.check_lengths.Statement.{statement}

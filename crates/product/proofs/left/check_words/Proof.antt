@@ -1,6 +1,6 @@
 -- `product::left::check_words` meets its contract. Assumes nothing.
 use borrow.Author.Needs.{needs}
-use Rattle.session.proofs.Join.{also}
+use Rattle.judging.proofs.Join.{also}
 use Rattle.product.specs.Groups.{leftWords}
 use Rattle.product.proofs.left.check_words.Statement.{statement}
 use Rattle.product.proofs.left.check_words.Tie as tie

@@ -4,16 +4,16 @@ use Prim.Native.Nat.{_*_}
 use native.Mathlib.Omega.{arith}
 use lib.ListN.{length}
 use borrow.Author.Needs.{needs}
-use Rattle.session.proofs.Slot.{slot-part, slot-part-length, slot-written, spent-keeps}
+use Rattle.tape.proofs.Slots.{slot-part, slot-part-length, slot-written, spent-keeps}
 use Rattle.protocol.specs.Tape.{slotAt, left, wordsSpent}
 use Rattle.product.proofs.Known.{left-known, left-shape, masks}
-use Rattle.session.proofs.Leaving.{refused-leaves}
+use Rattle.judging.proofs.Leaving.{refused-leaves}
 use Rattle.product.proofs.Leaving.{left-done}
 use Rattle.protocol.proofs.Slots.{slot-room}
 use Rattle.protocol.specs.Message.{Message}
 use Rattle.protocol.specs.Product.{leftEffect, leftStep}
-use Rattle.checks.specs.InOrder.{checked}
-use Rattle.message.proofs.KindLaws.{size-1, whole-message}
+use Rattle.judging.specs.InOrder.{checked}
+use Rattle.judging.proofs.KindLaws.{size-1, whole-message}
 use mathlib.Core.List.{[]}
 use Rattle.product.proofs.left.left_step.Statement.{statement}
 use Rattle.product.proofs.left.left_step.Tie as tie

@@ -6,8 +6,8 @@ use lib.ListN.{length}
 use borrow.Author.Needs.{needs}
 use Rattle.protocol.specs.Drawing.{residuesOf}
 use Rattle.drawing.proofs.Then.{drawn-count, coins-part}
-use Rattle.checks.proofs.Place.{left-size}
-use Rattle.message.proofs.KindLaws.{few}
+use Rattle.tape.proofs.Slots.{left-size}
+use Rattle.judging.proofs.KindLaws.{few}
 use Rattle.product.proofs.left.write.Statement.{statement}
 use Rattle.product.proofs.left.write.Tie as tie
 

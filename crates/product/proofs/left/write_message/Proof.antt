@@ -12,7 +12,7 @@ use Rattle.algebra.specs.Matrix.{matAdd}
 use Rattle.algebra.specs.Words.{over}
 use Rattle.algebra.specs.Product.{sendX, sendR}
 use Rattle.algebra.proofs.Lists.{add-residues as sum-residues}
-use Rattle.checks.proofs.Written.{part-then}
+use Rattle.vectors.proofs.Written.{part-then}
 use Rattle.protocol.proofs.Residues.{over-length}
 use Rattle.product.proofs.left.write_message.Statement.{statement}
 use Rattle.product.proofs.left.write_message.Tie as tie

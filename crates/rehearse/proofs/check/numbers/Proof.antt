@@ -5,9 +5,9 @@ use Prim.Native.Nat.{ℕ, _+_, _*_, _-_, _/_, _%_, _≤_, _<_}
 use native.Mathlib.Omega.{arith}
 use lib.ListN.{length, getD, set, take, drop}
 use borrow.Author.Needs.{needs}
-use Rattle.session.proofs.Join.{also, judged-true, judged-false}
+use Rattle.judging.proofs.Join.{also, judged-true, judged-false}
 use mathlib.Core.List.{[], _∷_}
-use Rattle.checks.specs.InOrder.{checked, judged}
+use Rattle.judging.specs.InOrder.{checked, judged}
 use Rattle.rehearse.specs.Order.{inputOf, sizeTests, numberTests, wordTests}
 use Rattle.rehearse.proofs.check.numbers.Statement.{statement}
 use Rattle.rehearse.proofs.check.numbers.Tie as tie

@@ -2,13 +2,13 @@
 use mathlib.Core.Path.{sym, ap, _∙_}
 use native.Mathlib.Omega.{arith}
 use borrow.Author.Needs.{needs}
-use Rattle.session.proofs.Join.{hands-on, goes-past}
+use Rattle.judging.proofs.Join.{hands-on, goes-past}
 use Rattle.protocol.specs.System.{regularTests}
-use Rattle.session.proofs.Slot.{slot-part, slot-part-length}
+use Rattle.tape.proofs.Slots.{slot-part, slot-part-length}
 use Rattle.protocol.specs.Tape.{slotAt}
 use Rattle.solver.proofs.Known.{few, first-known, first-below}
 use Rattle.solver.proofs.Order.{first-phases}
-use Rattle.checks.specs.InOrder.{checked}
+use Rattle.judging.specs.InOrder.{checked}
 use Rattle.protocol.proofs.Residues.{below-residues}
 use Rattle.solver.proofs.first.check.Statement.{statement}
 use Rattle.solver.proofs.first.check.Tie as tie

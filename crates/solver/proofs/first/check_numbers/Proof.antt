@@ -1,6 +1,6 @@
 -- `solver::first::check_numbers` meets its contract. Assumes nothing.
 use borrow.Author.Needs.{needs}
-use Rattle.session.proofs.Join.{also}
+use Rattle.judging.proofs.Join.{also}
 use mathlib.Core.List.{[], _∷_}
 use Rattle.solver.specs.Groups.{firstNumbers}
 use Rattle.solver.proofs.first.check_numbers.Statement.{statement}

@@ -1,11 +1,11 @@
 -- `solver::first::check_words` meets its contract. Assumes nothing.
 use native.Mathlib.Omega.{arith}
 use borrow.Author.Needs.{needs}
-use Rattle.session.proofs.Join.{also}
+use Rattle.judging.proofs.Join.{also}
 use mathlib.Core.List.{[], _∷_}
 use Rattle.solver.specs.Groups.{firstWords}
 use Rattle.protocol.specs.System.{keptTests}
-use Rattle.session.proofs.Slot.{half-body}
+use Rattle.tape.proofs.Slots.{half-body}
 use Rattle.protocol.specs.Tape.{solver}
 use Rattle.solver.proofs.first.check_words.Statement.{statement}
 use Rattle.solver.proofs.first.check_words.Tie as tie

@@ -3,15 +3,15 @@ use mathlib.Core.Path.{sym, ap, _∙_}
 use native.Mathlib.Omega.{arith}
 use lib.ListN.{length}
 use borrow.Author.Needs.{needs}
-use Rattle.session.proofs.Slot.{slot-part, slot-part-length, slot-written, in-use-length}
+use Rattle.tape.proofs.Slots.{slot-part, slot-part-length, slot-written, in-use-length}
 use Rattle.protocol.specs.Tape.{slotAt, wordsInUse}
 use Rattle.solver.proofs.Known.{solver-size, first-known, first-shape}
 use Rattle.solver.proofs.Order.{first-phases}
-use Rattle.session.proofs.Leaving.{refused-leaves}
+use Rattle.judging.proofs.Leaving.{refused-leaves}
 use Rattle.solver.proofs.Leaving.{first-done}
-use Rattle.checks.proofs.InOrder.{after-first}
+use Rattle.judging.proofs.InOrder.{after-first}
 use Rattle.protocol.specs.System.{noSolver, solverFirstEffect, solverFirst}
-use Rattle.checks.specs.InOrder.{checked}
+use Rattle.judging.specs.InOrder.{checked}
 use mathlib.Core.List.{[]}
 use Rattle.algebra.specs.Matrix.{zeros, tabulate}
 use Rattle.solver.proofs.first.solver_first.Statement.{statement}

@@ -8,8 +8,8 @@ use Rattle.solver.proofs.Halves.{y0-part, first-sent}
 use Rattle.protocol.specs.Bounds.{columns}
 use Rattle.protocol.specs.System.{sideSize}
 use Rattle.algebra.specs.Columns.{beside}
-use Rattle.columns.proofs.Rows.{beside-length}
-use Rattle.checks.proofs.Written.{after-over, over-part}
+use Rattle.vectors.proofs.Rows.{beside-length}
+use Rattle.vectors.proofs.Written.{after-over, over-part}
 use lib.ListN.{length-take, length-drop}
 use lib.Seq.{length-take-le}
 use Rattle.solver.proofs.first.write.Statement.{statement}

@@ -3,16 +3,16 @@ use mathlib.Core.Path.{sym, ap, _∙_}
 use native.Mathlib.Omega.{arith}
 use lib.ListN.{length}
 use borrow.Author.Needs.{needs}
-use Rattle.session.proofs.Slot.{slot-part, slot-part-length, slot-written, spent-keeps}
+use Rattle.tape.proofs.Slots.{slot-part, slot-part-length, slot-written, spent-keeps}
 use Rattle.protocol.specs.Tape.{slotAt, solver, wordsSpent}
 use Rattle.solver.proofs.Known.{few, last-known, later-shape, kept-length, len-le, last-counts}
-use Rattle.session.proofs.Leaving.{refused-leaves}
+use Rattle.judging.proofs.Leaving.{refused-leaves}
 use Rattle.solver.proofs.Leaving.{last-done}
 use Rattle.protocol.proofs.Slots.{slot-room}
 use Rattle.protocol.specs.System.{solverLastEffect, solverLastTests, solverLast, sideSize}
 use Rattle.protocol.specs.Message.{messageSize, messageLayout}
 use Rattle.solver.specs.Groups.{receiving}
-use Rattle.checks.specs.InOrder.{checked}
+use Rattle.judging.specs.InOrder.{checked}
 use mathlib.Core.List.{[]}
 use Rattle.protocol.specs.Bounds.{fieldFits}
 use Rattle.solver.proofs.last.solver_last.Statement.{statement}

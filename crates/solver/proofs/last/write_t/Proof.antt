@@ -6,7 +6,7 @@ use lib.ListN.{take, drop, length-take, length-drop}
 use borrow.Author.Needs.{needs}
 use Rattle.solver.proofs.Known.{few, solver-size}
 use Rattle.solver.proofs.Halves.{v-part, sum-room, joint-sum, joint-side, sum-residues, side-residues}
-use Rattle.checks.proofs.Written.{tail-part}
+use Rattle.vectors.proofs.Written.{tail-part}
 use lib.Seq.{length-take-le}
 use Rattle.solver.proofs.last.write_t.Statement.{statement}
 use Rattle.solver.proofs.last.write_t.Tie as tie

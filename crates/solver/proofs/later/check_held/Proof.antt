@@ -2,7 +2,7 @@
 use mathlib.Core.Path.{_≡_, sym, _∙_}
 use native.Mathlib.Omega.{arith}
 use borrow.Author.Needs.{needs}
-use Rattle.session.proofs.Join.{also}
+use Rattle.judging.proofs.Join.{also}
 use Rattle.solver.specs.Groups.{laterWords}
 use Rattle.protocol.specs.System.{keptTests}
 use Rattle.solver.proofs.Known.{few}

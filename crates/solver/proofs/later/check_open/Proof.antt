@@ -1,6 +1,6 @@
 -- `solver::later::check_open` meets its contract. Assumes nothing.
 use borrow.Author.Needs.{needs}
-use Rattle.session.proofs.Join.{also}
+use Rattle.judging.proofs.Join.{also}
 use Rattle.solver.specs.Groups.{laterNumbers}
 use Rattle.solver.proofs.later.check_open.Statement.{statement}
 use Rattle.solver.proofs.later.check_open.Tie as tie

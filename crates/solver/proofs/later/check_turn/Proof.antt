@@ -1,6 +1,6 @@
 -- `solver::later::check_turn` meets its contract. Assumes nothing.
 use borrow.Author.Needs.{needs}
-use Rattle.session.proofs.Join.{also}
+use Rattle.judging.proofs.Join.{also}
 use mathlib.Core.List.{[], _∷_}
 use Rattle.solver.specs.Groups.{turnTests}
 use Rattle.solver.proofs.later.check_turn.Statement.{statement}

@@ -9,7 +9,7 @@ use Rattle.solver.proofs.Halves.{y0-part, b0-part, share-found}
 use lib.Seq.{length-take-le}
 use Rattle.protocol.specs.Bounds.{columns}
 use Rattle.solver.specs.Formulas.{shareOf}
-use Rattle.checks.proofs.Written.{tail-part}
+use Rattle.vectors.proofs.Written.{tail-part}
 use Rattle.solver.proofs.second.find_share.Statement.{statement}
 use Rattle.solver.proofs.second.find_share.Tie as tie
 

@@ -2,16 +2,16 @@
 use mathlib.Core.Path.{sym, ap, _∙_}
 use lib.ListN.{length}
 use borrow.Author.Needs.{needs}
-use Rattle.session.proofs.Slot.{slot-part, slot-part-length}
+use Rattle.tape.proofs.Slots.{slot-part, slot-part-length}
 use Rattle.protocol.specs.Tape.{slotAt}
 use Rattle.solver.proofs.Known.{few, second-known, later-shape, second-counts}
-use Rattle.session.proofs.Leaving.{refused-leaves}
+use Rattle.judging.proofs.Leaving.{refused-leaves}
 use Rattle.solver.proofs.Leaving.{second-done}
 use Rattle.protocol.proofs.Slots.{slot-room}
 use Rattle.protocol.specs.System.{solverSecondEffect, solverSecondTests, solverSecond}
 use Rattle.protocol.specs.Message.{messageSize, messageLayout}
 use Rattle.solver.specs.Groups.{receiving}
-use Rattle.checks.specs.InOrder.{checked}
+use Rattle.judging.specs.InOrder.{checked}
 use mathlib.Core.List.{[]}
 use Rattle.solver.proofs.second.solver_second.Statement.{statement}
 use Rattle.solver.proofs.second.solver_second.Tie as tie

@@ -7,7 +7,7 @@ use Rattle.solver.proofs.Known.{few}
 use Rattle.solver.proofs.Halves.{share-length}
 use lib.Seq.{length-take-le}
 use Rattle.solver.specs.Formulas.{shareOf}
-use Rattle.checks.proofs.Written.{after-over, over-part}
+use Rattle.vectors.proofs.Written.{after-over, over-part}
 use Rattle.solver.proofs.second.write.Statement.{statement}
 use Rattle.solver.proofs.second.write.Tie as tie
 

@@ -10,7 +10,7 @@ use lib.Seq.{length-take-le}
 use Rattle.algebra.specs.Columns.{cols}
 use Rattle.algebra.proofs.Columns.{cols-length}
 use Rattle.protocol.specs.Bounds.{columns}
-use Rattle.checks.proofs.Written.{after-over, over-part}
+use Rattle.vectors.proofs.Written.{after-over, over-part}
 use Rattle.solver.proofs.second.write_f.Statement.{statement}
 use Rattle.solver.proofs.second.write_f.Tie as tie
 

@@ -1,1 +1,0 @@
--- The contracts cite algebra's definitions.

@@ -1,0 +1,74 @@
+-- `dealer::tests/mask_fits` meets its contract: the buffer holds the mask. Assumes nothing.
+use mathlib.Core.Path.{ap, _∙_}
+use Prim.Native.Nat.{_*_}
+use native.Mathlib.Omega.{arith}
+use lib.ListN.{drop, length-take}
+use borrow.Author.Needs.{needs}
+use Rattle.algebra.specs.Elimination.{regular}
+use Rattle.halves.proofs.Few.{square-few}
+use Rattle.halves.proofs.Systems.{mask-buffer, mask-residues}
+use Rattle.vectors.proofs.Written.{tail-part}
+use Rattle.dealer.proofs.tests.mask_fits.Statement.{statement}
+use Rattle.dealer.proofs.tests.mask_fits.Tie as tie
+
+times-requires : tie.Need-times-requires
+times-requires c κs = search needs
+
+mul-draw : tie.Need-mul-draw
+mul-draw c = search needs
+
+sub-draw : tie.Need-sub-draw
+sub-draw c = search needs
+
+part-draw-start : tie.Need-part-draw-start
+part-draw-start c = search needs
+
+part-draw-end : tie.Need-part-draw-end
+part-draw-end c = search needs
+
+slice-aggregate-draw : tie.Need-slice-aggregate-draw
+slice-aggregate-draw c = search needs
+
+draw-requires : tie.Need-draw-requires
+draw-requires c κs =
+    let a = c .before .before .before .before .args in
+    let h = c .before .before .before .before .pre in
+    (h .0 .some-q, rw (tail-part (a .at) (a .words .now), c .before .before .times .ensures) (h .2), omega (arith, c .before .before .times .ensures, square-few (a .n) (h .0 .few-n)))
+
+array-share-prefix-mask : tie.Need-array-share-prefix-mask
+array-share-prefix-mask c =
+    omega (arith, c .before .before .before .before .times .ensures, square-few (c .before .before .before .before .before .before .args .n) (c .before .before .before .before .before .before .pre .0 .few-n))
+
+slice-aggregate-has-inverse : tie.Need-slice-aggregate-has-inverse
+slice-aggregate-has-inverse c =
+    simp length-take (omega (arith, c .before .before .before .before .before .times .ensures, square-few (c .before .before .before .before .before .before .before .args .n) (c .before .before .before .before .before .before .before .pre .0 .few-n)))
+
+has-inverse-requires : tie.Need-has-inverse-requires
+has-inverse-requires c κs =
+    let a = c .before .before .before .before .before .before .before .args in
+    let h = c .before .before .before .before .before .before .before .pre in
+    let times = c .before .before .before .before .before .times in
+    (h .0 .prime, h .0 .small-q, h .0 .few-n, rw (times .ensures, mask-buffer (a .q) (a .n * a .n) (drop (a .at) (a .words .now)) _ _ (h .2) (rw (tail-part (a .at) (a .words .now), times .ensures) at (c .before .before .draw .ensures .1))) (mask-residues (a .q) (a .n * a .n) (drop (a .at) (a .words .now)) (h .0 .some-q) (h .2)))
+
+returns : tie.Need-returns
+returns c =
+    let a = c .before .before .before .before .before .before .before .before .args in
+    let times = c .before .before .before .before .before .before .times in
+    c .has-inverse .ensures ∙ ap (regular (a .q) (a .n))
+    (rw (times .ensures) (mask-buffer (a .q) (a .n * a .n) (drop (a .at) (a .words .now)) _ _ (c .before .before .before .before .before .before .before .before .pre .2) (rw (tail-part (a .at) (a .words .now), times .ensures) at (c .before .before .before .draw .ensures .1))))
+
+pub mask-fits-spec : {M : Type 1} → statement M
+mask-fits-spec =
+    tie.close
+    (tie.spec
+    times-requires
+    mul-draw
+    sub-draw
+    part-draw-start
+    part-draw-end
+    slice-aggregate-draw
+    draw-requires
+    array-share-prefix-mask
+    slice-aggregate-has-inverse
+    has-inverse-requires
+    returns)

@@ -1,0 +1,36 @@
+-- What a step leaves: everything as it was where it is refused, and its effect where all tests passed.
+--   refused-leaves, accepted-leaves
+-- Assumes nothing.
+use mathlib.Core.Path.{_≡_, ap}
+use mathlib.Core.List.{List}
+use Prim.Native.Nat.{ℕ}
+use Rattle.algebra.specs.Words.{over}
+use Rattle.protocol.specs.declared.Refusal.{Refusal}
+use Rattle.protocol.specs.declared.Answer.the-variants.{Refused}
+use Rattle.protocol.specs.Judge.{Test, refused, done, judge}
+use Rattle.protocol.specs.Tape.{Slot}
+use Rattle.protocol.specs.Message.{noMessage}
+use Rattle.protocol.specs.Step.{answerReply, Effect}
+use Rattle.judging.specs.InOrder.{judged}
+use Rattle.judging.proofs.InOrder.{refused-by, accepted-by}
+use Rattle.judging.specs.Leaves.{Leaves, leaves}
+
+-- everything is as it was
+abbrev pub kept : {S : Type 0} → Refusal → S → Slot → (scratch sent result : List ℕ) → Leaves S
+kept r x s scratch sent result = record {
+  answer = answerReply (Refused r);
+  session = x;
+  head = noMessage .head;
+  pool = s .pool;
+  scratch = scratch;
+  sent = sent;
+  result = result;
+}
+
+module _ {S : Type 0} (x : S) (s : Slot) (scratch sent result : List ℕ) (ts : List Test) (e : Effect S) where
+  pub refused-leaves : {r : Refusal} → judged ts ≡ refused r → leaves x s scratch sent result (judge ts e) ≡ kept r x s scratch sent result
+  unfolding over
+  refused-leaves h = rw (refused-by ts e h)
+
+  pub accepted-leaves : judged ts ≡ done tt → leaves x s scratch sent result (judge ts e) ≡ leaves x s scratch sent result (done e)
+  accepted-leaves h = ap (leaves x s scratch sent result) (accepted-by ts e h)

@@ -1,0 +1,34 @@
+-- The tests of every step that takes a message, in the groups in which the code makes them. Assumes nothing.
+--   receivedNumbers  the numbers of the message, the session and the slot
+--   receivedWords    the words of the half and of the message
+--   closedTests      what is left of them where the session is closed
+use mathlib.Core.Bool.{false}
+use mathlib.Core.List.{List, [], _∷_, _++_}
+use Prim.Native.Nat.{ℕ, _/_}
+use lib.Dec.{ltb}
+use Rattle.protocol.specs.declared.Terms.{Terms}
+use Rattle.protocol.specs.declared.Head.{Head}
+use Rattle.protocol.specs.declared.Refusal.the-variants.{Size, Turn, Residue}
+use Rattle.protocol.specs.Judge.{Test, needs}
+use Rattle.protocol.specs.Bounds.{allBelow}
+use Rattle.protocol.specs.Tape.{Role, sortOf, tapeTests, bodyTests}
+use Rattle.protocol.specs.Message.{kindSort}
+use Rattle.judging.specs.Groups.{modulusTests, kindTests, numberTests, placeTests, countTests, sameTests}
+
+-- of the message's residues and of the pool's words: how many there are
+unfoldable pub receivedNumbers : Role → Terms → Head → (count pool size index : ℕ) → List Test
+receivedNumbers role t a count pool size index =
+    kindTests a
+    ++ (modulusTests (sortOf role) (t .q)
+    ++ ((numberTests (kindSort (a .kind)) (a .terms) ++ countTests a count) ++ (numberTests (sortOf role) t ++ placeTests role t pool size index)))
+
+unfoldable pub receivedWords : Role → (status : ℕ) → Terms → Head → (slot residues : List ℕ) → List Test
+receivedWords role status t a slot residues =
+    tapeTests role status t slot ++ (sameTests a t ++ (needs Residue (allBelow (a .terms .q) residues) ∷ bodyTests role t slot))
+
+-- of a closed session the numbers aren't judged, and no step is due
+unfoldable pub closedTests : Head → (count pool size index : ℕ) → List Test
+closedTests a count pool size index =
+    kindTests a
+    ++ ((numberTests (kindSort (a .kind)) (a .terms) ++ countTests a count)
+    ++ (needs Size (ltb index (pool / size)) ∷ needs Turn false ∷ []))

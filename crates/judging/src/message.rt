@@ -1,0 +1,95 @@
+// A message's kind and size.
+//   kind_known, kind_field, kind_sides_fit   its kind, its modulus and its sides
+//   message_size, side_size                  how many residues it has
+//   no_head                                  the head where nothing is sent
+use field::Field;
+use field::FieldAnswer;
+use matrix::Matrix;
+use protocol::Head;
+use protocol::SessionId;
+use protocol::TapeId;
+use protocol::Terms;
+use vectors::times;
+ghost use mathlib.Core.Path.{_≡_};
+ghost use Prim.Native.Nat.{_+_, _*_, _≤_};
+ghost use Rattle.protocol.specs.Bounds.{within, sidesFit};
+ghost use Rattle.protocol.specs.Message.{kindSort, messageSize, noMessage};
+ghost use Rattle.protocol.specs.System.{sideSize};
+ghost use Rattle.field.specs.Field.{made, sortFieldOf};
+
+pub fn kind_known(kind: u32) -> bool
+    ensures { λ r. ⌜ r ≡ within 1 5 kind ⌝ }
+{
+    if kind < 1 {
+        return false;
+    }
+    if 5 < kind {
+        return false;
+    }
+    true
+}
+
+// The field of a message's modulus. Kinds 3 to 5 are of systems, whose modulus is prime.
+pub fn kind_field(kind: u32, q: u32) -> FieldAnswer
+    ensures { λ r. ⌜ made r ≡ sortFieldOf (kindSort kind) q ⌝ }
+{
+    if kind <= 2 {
+        return Field::new(q);
+    }
+    Field::of_system(q)
+}
+
+pub fn kind_sides_fit(kind: u32, m: u32, k: u32, p: u32) -> bool
+    ensures { λ r. ⌜ r ≡ sidesFit (kindSort kind) m k p ⌝ }
+{
+    if kind <= 2 {
+        return Matrix::sides_fit(m, k, p);
+    }
+    Matrix::system_sides_fit(m, k, p)
+}
+
+// How many residues x, y, c, s, t and z have.
+pub fn side_size(t: Terms) -> usize
+    ensures { λ r. ⌜ r ≡ sideSize t ⌝ }
+{
+    if t.p < t.m {
+        return 0;
+    }
+    times(t.m, t.p - t.m)
+}
+
+// How many residues a message has.
+pub fn message_size(kind: u32, t: Terms) -> usize
+    requires { ⌜ t .m * t .k + t .m * t .p ≤ 4096 ⌝ }
+    ensures { λ r. ⌜ r ≡ messageSize kind t ⌝ }
+{
+    if kind == 1 {
+        return times(t.k, t.p);
+    }
+    if kind == 2 {
+        return times(t.m, t.k) + times(t.m, t.p);
+    }
+    if kind == 3 {
+        return times(t.m, t.k);
+    }
+    if kind == 4 {
+        return times(t.m, t.k) + side_size(t);
+    }
+    side_size(t)
+}
+
+pub fn no_head() -> Head
+    ensures { λ r. ⌜ r ≡ noMessage .head ⌝ }
+{
+    Head {
+        kind: 0,
+        terms: Terms {
+            session: SessionId(0),
+            tape: TapeId(0),
+            q: 0,
+            m: 0,
+            k: 0,
+            p: 0,
+        },
+    }
+}

@@ -1,2 +1,0 @@
--- KindLaws  the two sorts of message: their sides and sizes
-pub mod KindLaws

@@ -1,2 +1,0 @@
--- Groups  the tests of a message, in the order in which code makes them
-pub mod Groups

@@ -1,2 +1,0 @@
--- Fits  what is known where these tests passed
-pub mod Fits

@@ -1,2 +1,0 @@
--- Groups  the tests of every step that takes a message
-pub mod Groups

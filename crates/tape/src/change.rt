@@ -1,0 +1,52 @@
+// The changes of a tape's status (RULES 3.5), in its slot of a pool.
+//   take_up   a session's first step takes the half up
+//   spend     its end
+use crate::End;
+use crate::half::half_size;
+use crate::header;
+use protocol::Terms;
+use vectors::write_zeros;
+ghost use mathlib.Core.Path.{_≡_};
+ghost use mathlib.Core.Bool.{true};
+ghost use Prim.Native.Nat.{_+_, _≤_};
+ghost use lib.ListN.{length};
+ghost use Rattle.protocol.specs.Bounds.{sidesFit};
+ghost use Rattle.protocol.specs.Tape.{headerSize, isSlot, slotAt, slotWords, poolWith, tapeSize, withStatus, spent, wordsInUse, wordsSpent};
+ghost use Rattle.tape.specs.Ends.{role, sort};
+
+fn set_status(status: u32, slot: &mut [u32])
+    requires { ⌜ headerSize ≤ length (now slot) ⌝ }
+    ensures { λ _. ⌜ now (slot .exit) ≡ withStatus status (now (slot .entry)) ⌝ }
+{
+    slot[header::STATUS_AT] = status;
+}
+
+// Status 2.
+pub fn take_up(pool: &mut [u32], size: usize, index: usize)
+    requires { ⌜ (isSlot (slotAt (now pool) size index) ≡ true) × (headerSize ≤ size) ⌝ }
+    ensures { λ _. ⌜ now (pool .exit) ≡ poolWith (slotAt (now (pool .entry)) size index) (wordsInUse (slotWords (slotAt (now (pool .entry)) size index))) ⌝ }
+{
+    let at = index * size;
+    let end = at + size;
+    set_status(header::IN_USE, &mut pool[at..end]);
+}
+
+// Status 3, and zeros in n words of matrices.
+fn write_spent(n: usize, slot: &mut [u32])
+    requires { ⌜ headerSize + n ≤ length (now slot) ⌝ }
+    ensures { λ _. ⌜ now (slot .exit) ≡ spent n (now (slot .entry)) ⌝ }
+{
+    write_zeros(n, &mut slot[header::SIZE..]);
+    set_status(header::SPENT, slot);
+}
+
+// Status 3, and zeros in the matrices.
+pub fn spend(end: End, t: Terms, pool: &mut [u32], size: usize, index: usize)
+    requires { ⌜ (isSlot (slotAt (now pool) size index) ≡ true) × (sidesFit (sort end) (t .m) (t .k) (t .p) ≡ true) × (tapeSize (role end) (t .m) (t .k) (t .p) ≤ size) ⌝ }
+    ensures { λ _. ⌜ now (pool .exit) ≡ poolWith (slotAt (now (pool .entry)) size index) (wordsSpent (role end) t (slotWords (slotAt (now (pool .entry)) size index))) ⌝ }
+{
+    let half = half_size(end, t);
+    let at = index * size;
+    let stop = at + size;
+    write_spent(half - header::SIZE, &mut pool[at..stop]);
+}
