@@ -14,7 +14,7 @@ use Rattle.algebra.specs.Count.{part, parts}
 use Rattle.protocol.specs.declared.Terms.{Terms}
 use Rattle.protocol.specs.Tape.{blinder, bodySize, tapeSize, body, matrices}
 use Rattle.protocol.specs.System.{scratchParts}
-use Rattle.vectors.proofs.Written.{part-of-start}
+use Rattle.protocol.proofs.Matrices.{part-of-start}
 
 module _ (t : Terms) (ws : List ℕ) where
   pub x0-part : part 0 (matrices blinder t ws) ≡ take (t .m * t .k) (drop 7 ws)

@@ -40,7 +40,7 @@ module _ (t : Terms) (fits : sidesFit system (t .m) (t .k) (t .p) ≡ true) wher
   unfolding sideSize columns
   side-bound =
       let u = unknowns (t .m) (t .k) (t .p) fits in
-      let one : t .p - t .m ≤ 1 = omega (arith, u .wide) in
+      let one : t .p - t .m ≤ 1 = omega (arith, u .least, u .most, u .some) in
       mul-le-mul {n₁ = t .m} {m₁ = t .p - t .m} {n₂ = 16} {m₂ = 1} (u .few) one
 
   pub square-bound : t .m * t .m ≤ 256
@@ -49,11 +49,11 @@ module _ (t : Terms) (fits : sidesFit system (t .m) (t .k) (t .p) ≡ true) wher
   pub wide-bound : t .m * t .p ≤ 272
   wide-bound =
       let u = unknowns (t .m) (t .k) (t .p) fits in
-      let p : t .p ≤ 17 = omega (arith, u .wide, u .few) in
+      let p : t .p ≤ 17 = omega (arith, u .least, u .most, u .some, u .few) in
       mul-le-mul {n₁ = t .m} {m₁ = t .p} {n₂ = 16} {m₂ = 17} (u .few) p
 
   pub wide-enough : t .m ≤ t .p
-  wide-enough = let u = unknowns (t .m) (t .k) (t .p) fits in omega (arith, u .wide)
+  wide-enough = let u = unknowns (t .m) (t .k) (t .p) fits in omega (arith, u .least, u .most, u .some)
 
 pub scratch-sum : (t : Terms) → t .m * t .m + t .m * t .p ≡ scratchSize t
 unfolding scratchSize

@@ -3,11 +3,11 @@
 //   opened, closed              its sessions, which keep M and y
 //   scratch_size                how many residues P and U0 have
 // No function here is for hosts.
-use vectors::times;
 use protocol::Answer;
 use protocol::BlinderSession;
 use protocol::Head;
 use protocol::Terms;
+use vectors::times;
 use vectors::write_copy;
 ghost use mathlib.Core.Path.{_≡_};
 ghost use mathlib.Core.Bool.{true};

@@ -81,7 +81,7 @@ module _ (t : Terms) (s : Slot) (scratch : ℕ) (mm y words : List ℕ) (a : Mes
       record {
         some-q = omega (arith, f .first .terms .big);
         small-q = omega (arith, f .first .terms .small);
-        some-p = omega (arith, u .wide);
+        some-p = omega (arith, u .least, u .most, u .some);
         few-n = u .few;
         square = square-bound t (f .first .terms .sides);
         wide = wide-bound t (f .first .terms .sides);

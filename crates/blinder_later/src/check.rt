@@ -1,19 +1,19 @@
 // What both later steps check; `step` is the kind of the message that the step takes.
 use blinder::scratch_size;
 use judging::Check;
-use vectors::times;
 use judging::message::message_size;
 use judging::message::side_size;
+use judging::need;
+use judging::received::check_closed;
+use judging::received::check_numbers;
+use judging::worst;
 use protocol::BlinderSession;
 use protocol::Head;
 use protocol::Refusal;
 use protocol::Terms;
 use tape::End;
-use judging::need;
-use judging::worst;
-use judging::received::check_closed;
-use judging::received::check_numbers;
 use vectors::all_below;
+use vectors::times;
 ghost use mathlib.Core.Path.{_≡_};
 ghost use mathlib.Core.Bool.{true};
 ghost use Prim.Native.Nat.{_≤_, _<_};

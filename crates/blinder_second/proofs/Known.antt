@@ -18,7 +18,7 @@ use Rattle.protocol.specs.System.{sideSize, blinderSecondTests, blinderSecondEf
 use Rattle.protocol.proofs.StepTests.{BlinderFits, blinder-second}
 use Rattle.judging.specs.InOrder.{judged}
 use Rattle.judging.proofs.InOrder.{accepted-by}
-use Rattle.tape.proofs.Sides.{unknowns}
+use Rattle.tape.proofs.Sides.{unknowns, one-column}
 use Rattle.blinder.proofs.Kept.{side-is, side-bound, square-bound, wide-bound, scratch-sum}
 use Rattle.blinder.proofs.Halves.{half-is}
 use Rattle.blinder_later.specs.Groups.{laterStep, writtenSize}
@@ -32,7 +32,7 @@ module _ (t : Terms) (fits : sidesFit system (t .m) (t .k) (t .p) ≡ true) wher
 
   -- p is n and the right-hand sides' columns
   pub wide-is : t .m + (t .p - t .m) ≡ t .p
-  wide-is = let u = unknowns (t .m) (t .k) (t .p) fits in omega (arith, u .wide)
+  wide-is = let u = unknowns (t .m) (t .k) (t .p) fits in omega (arith, u .least, u .most, u .some)
 
 module _ (x : BlinderSession) (s : Slot) (scratch : List ℕ) (a : Message) (room : ℕ) where
   pub second-tests : laterStep 3 x s scratch a room ≡ blinderSecondTests x s scratch a room
@@ -74,7 +74,7 @@ second-lent t slot scratch mm y f out h em ey =
         small-q = h .small-q;
         some-n = u .some;
         few-n = u .few;
-        one = omega (arith, u .wide);
+        one = omega (arith, one-column (t .m) (t .k) (t .p) (h .sides));
         square = square-bound t (h .sides);
         side = omega (arith, side, side-bound t (h .sides));
       };

@@ -1,8 +1,8 @@
 // The formulas of step 4, over slices of exactly their matrices' sizes, for n unknowns and rhs columns of right-hand sides.
-use vectors::write_cols;
 use matrix::write_deal;
 use matrix::write_product;
 use matrix::write_share;
+use vectors::write_cols;
 use vectors::write_sum;
 ghost use mathlib.Core.Path.{_≡_};
 ghost use Prim.Native.Nat.{_+_, _*_, _≤_};

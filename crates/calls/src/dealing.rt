@@ -1,8 +1,8 @@
 // The dealer. The terms' session is not looked at, and for a system m is the number of unknowns.
 use crate::words;
-use judging::received::no_head;
 use dealer::deal_product;
 use dealer::deal_system;
+use judging::message::no_head;
 
 #[no_mangle]
 pub extern "C" fn call_deal_product(

@@ -3,7 +3,7 @@ use crate::words;
 use dropping::blinder_drop;
 use dropping::right_drop;
 use dropping::solver_drop;
-use judging::received::no_head;
+use judging::message::no_head;
 
 #[no_mangle]
 pub extern "C" fn call_right_drop(

@@ -1,9 +1,9 @@
 // Lines of bytes. A report has how many residues, numbers or bytes there are, and the head that was read.
 use crate::words;
 use decimal::Count;
+use judging::message::no_head;
 use line::Received;
 use line::Written;
-use judging::received::no_head;
 
 fn received(r: Received, report: &mut [u32]) -> u32 {
     if report.len() < 8 {

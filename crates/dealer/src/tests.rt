@@ -1,9 +1,9 @@
 // The dealer's tests, before it writes: first those on numbers, then those on words.
-use judging::Check;
 use drawing::Reading;
 use field::Field;
 use field::FieldAnswer;
 use field::refusal_in;
+use judging::Check;
 use matrix::Matrix;
 use protocol::Refusal;
 use protocol::TapeId;

@@ -2,16 +2,16 @@
 //   check_open     of any session
 //   check_blinder  the same with the scratch
 use judging::Check;
-use vectors::times;
+use judging::half::check_tape;
+use judging::need;
+use judging::numbers::check_modulus;
+use judging::numbers::check_sizes;
+use judging::worst;
 use protocol::Refusal;
 use protocol::Terms;
 use tape::End;
-use judging::need;
-use judging::worst;
-use judging::numbers::check_modulus;
-use judging::numbers::check_sizes;
-use judging::half::check_tape;
 use tape::is_slot;
+use vectors::times;
 ghost use mathlib.Core.Path.{_≡_};
 ghost use mathlib.Core.List.{_++_};
 ghost use lib.Dec.{leb};

@@ -36,16 +36,16 @@ pub tape-as-two : (role : Role) (status : ℕ) (t : Terms) (ws : List ℕ)
 unfolding judge tapeTests bears numbersAre clear
 tape-as-two role status t ws =
     same-judge refusals _ _ tt (λ r.
-      let e = isSame r Stranger in
-      ap (both (cond (isSame r Mark) (eqb (statusOf ws) status) true))
-      (merge e _ _ (merge e _ _ (merge e _ _ (merge e _ _ (merge e _ _ (last e _))))) ∙ sym (last e _)))
+    let e = isSame r Stranger in
+    ap (both (cond (isSame r Mark) (eqb (statusOf ws) status) true))
+    (merge e _ _ (merge e _ _ (merge e _ _ (merge e _ _ (merge e _ _ (last e _))))) ∙ sym (last e _)))
 
 pub same-as-two : (a : Head) (t : Terms) → judged (sameTests a t) ≡ judged (needs Stranger (sameIds (a .terms) t) ∷ needs Stranger (sameSides (a .terms) t) ∷ [])
 unfolding judge sameTests sameIds sameSides clear
 same-as-two a t =
     same-judge refusals _ _ tt (λ r.
-      let e = isSame r Stranger in
-      split e _ _ (merge e _ _ (merge e _ _ (merge e _ _ (last e _))) ∙ sym (last e _)))
+    let e = isSame r Stranger in
+    split e _ _ (merge e _ _ (merge e _ _ (merge e _ _ (last e _))) ∙ sym (last e _)))
   where
     split : (e a b : Bool) {x y : Bool} → x ≡ y → both (cond e a true) (both (cond e b true) x) ≡ both (cond e (both a b) true) y
     split true true b h = unfold both in ap (both b) h

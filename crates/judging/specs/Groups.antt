@@ -1,5 +1,5 @@
 -- The groups of tests that the steps share, over the numbers that the code has at that point. Assumes nothing.
-use mathlib.Core.List.{List, [], _∷_}
+use mathlib.Core.List.{List, [], _∷_, _++_}
 use mathlib.Core.Bool.{Bool}
 use Prim.Native.Nat.{ℕ, _/_}
 use lib.Dec.{eqb, ltb, leb}
@@ -38,6 +38,10 @@ idTests t fits = needs Size (leb 1 (t .session .0)) ∷ needs Size fits ∷ need
 -- a message's count of residues
 unfoldable pub countTests : Head → (count : ℕ) → List Test
 countTests a count = needs Size (eqb count (messageSize (a .kind) (a .terms))) ∷ []
+
+-- all that a message shows by its head and its count of residues
+unfoldable pub messageNumbers : Head → (count : ℕ) → List Test
+messageNumbers a count = kindTests a ++ (numberTests (kindSort (a .kind)) (a .terms) ++ countTests a count)
 
 -- a message bears the session's numbers
 unfoldable pub sameTests : Head → Terms → List Test

@@ -24,7 +24,7 @@ ghost use Rattle.protocol.specs.Message.{kindSort};
 ghost use Rattle.field.specs.Field.{made, sortFieldOf, fieldJudged};
 ghost use Rattle.judging.specs.InOrder.{checked, judged};
 ghost use Rattle.tape.specs.Ends.{role, sort, joint};
-ghost use Rattle.judging.specs.Groups.{modulusTests, kindTests, numberTests, placeTests, idTests, countTests, sameTests, sameIds, sameSides};
+ghost use Rattle.judging.specs.Groups.{modulusTests, kindTests, numberTests, placeTests, idTests, countTests, messageNumbers, sameTests, sameIds, sameSides};
 
 // ---- the modulus
 
@@ -136,6 +136,15 @@ pub fn check_head(a: Head, count: usize) -> Check
         return numbers;
     };
     need(Refusal::Size, count == message_size(a.kind, t))
+}
+
+// All that a message shows by itself but its residues.
+pub fn check_message(a: Head, count: usize) -> Check
+    ensures { λ r. ⌜ checked r ≡ judged (messageNumbers a count) ⌝ }
+{
+    let kind = check_kind(a);
+    let head = check_head(a, count);
+    worst(kind, head)
 }
 
 fn same_ids(a: Terms, t: Terms) -> bool

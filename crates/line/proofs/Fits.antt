@@ -18,7 +18,7 @@ use Rattle.protocol.specs.Message.{Message, kindSort, messageLayout, messageSiz
 use Rattle.judging.specs.InOrder.{verdict}
 use Rattle.judging.proofs.InOrder.{verdict-all}
 use Rattle.tape.proofs.Sides.{sides}
-use Rattle.message.specs.Groups.{headTests, messageSizes}
+use Rattle.line.specs.Order.{headTests, messageSizes}
 use Rattle.judging.proofs.KindLaws.{few-columns}
 use Rattle.protocol.proofs.Judge.{All, all-split}
 use Rattle.line.specs.Order.{restTests, inSize}

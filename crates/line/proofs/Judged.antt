@@ -25,7 +25,7 @@ use Rattle.judging.specs.declared.Check.{Check}
 use Rattle.judging.specs.declared.Check.the-variants as check
 use Rattle.judging.proofs.InOrder.{judge-sorted, refused-by, accepted-by, verdict-all, stops, goes-on}
 use Rattle.protocol.proofs.Judge.{all-split}
-use Rattle.message.specs.Groups.{headTests, messageSizes}
+use Rattle.line.specs.Order.{headTests, messageSizes}
 use Rattle.line.specs.Order.{shortOrder, parseOrder, restTests, inSize}
 
 pub read-judged : (room : ℕ) (xs : List ℕ) → 7 ≤ length xs

@@ -3,8 +3,8 @@
 //   parse  a line's form alone: 1; where the residues have no room, the lowest of 1 to 4 that applies to the message by itself
 //   read   all that a message shows by itself: 1, 2, 3, 4 and 8, the lowest that applies
 //   write  a message's line, judged as it is when read
-use judging::Check;
 use decimal::Tally;
+use judging::Check;
 use protocol::Head;
 use protocol::Refusal;
 use protocol::SessionId;
@@ -23,7 +23,7 @@ ghost use Rattle.judging.specs.InOrder.{checked, verdict};
 ghost use Rattle.protocol.specs.Message.{messageWith};
 ghost use Rattle.decimal.specs.Writing.{headNumbers};
 ghost use Rattle.line.specs.Entries.{receivedReply, noArrival, arrivedOf, residuesAfter, receivedBy, writtenReply, bytesOf, bytesAfter, writtenBy};
-ghost use Rattle.line.specs.Order.{shortOrder, parseOrder, restTests, inSize};
+ghost use Rattle.line.specs.Order.{headTests, shortOrder, parseOrder, restTests, inSize};
 
 // What a line is read as: a message's head and how many residues were stored, or why none.
 pub enum Received {
@@ -92,11 +92,18 @@ fn refused(c: Check) -> Received
     }
 }
 
+// What a message shows by its head and its count of residues.
+fn check_head(h: Head, count: usize) -> Check
+    ensures { λ r. ⌜ checked r ≡ verdict (headTests h count) ⌝ }
+{
+    judging::numbers::check_message(h, count)
+}
+
 // A message whose residues have no room: the lowest refusal that applies to it by itself, and 4 where none lower does.
 fn check_short(h: Head, count: usize) -> Check
     ensures { λ r. ⌜ checked r ≡ verdict (shortOrder h count) ⌝ }
 {
-    let own = judging::message::check_head(h, count);
+    let own = check_head(h, count);
     let Check::Passed = own else {
         return own;
     };
@@ -134,7 +141,7 @@ fn check_read(h: Head, count: usize, words: &[u32], room: usize) -> Check
     requires { ⌜ length (now words) ≡ 3079 ⌝ }
     ensures { λ r. ⌜ ((rs : List ℕ) → length rs ≡ count → (count ≤ mostSent → take count (drop 7 (now (words .entry))) ≡ rs) → checked r ≡ verdict (inSize h rs count room)) ⌝ }
 {
-    let head = judging::message::check_head(h, count);
+    let head = check_head(h, count);
     let Check::Passed = head else {
         return head;
     };
@@ -213,7 +220,7 @@ fn message_length(h: Head, residues: &[u32]) -> usize
 fn check_write(h: Head, residues: &[u32], room: usize) -> Check
     ensures { λ r. ⌜ checked r ≡ verdict (inSize h (now (residues .entry)) (length (messageLine (messageWith h (now (residues .entry))))) room) ⌝ }
 {
-    let head = judging::message::check_head(h, residues.len());
+    let head = check_head(h, residues.len());
     let Check::Passed = head else {
         return head;
     };

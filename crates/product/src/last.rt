@@ -2,7 +2,10 @@
 use crate::RightAnswer;
 use judging::Check;
 use judging::answer_of;
-use vectors::times;
+use judging::message::no_head;
+use judging::need;
+use judging::received::check_closed;
+use judging::worst;
 use matrix::write_share;
 use protocol::Answer;
 use protocol::Head;
@@ -10,11 +13,8 @@ use protocol::Refusal;
 use protocol::RightSession;
 use protocol::Terms;
 use tape::End;
-use judging::need;
-use judging::worst;
 use tape::change::spend;
-use judging::received::check_closed;
-use judging::received::no_head;
+use vectors::times;
 ghost use mathlib.Core.Path.{_≡_};
 ghost use mathlib.Core.Bool.{true};
 ghost use mathlib.Core.List.{[]};
@@ -53,7 +53,15 @@ fn check_open(
 ) -> Check
     ensures { λ r. ⌜ checked r ≡ judged (lastNumbers s a count pool size index share) ⌝ }
 {
-    let numbers = judging::received::check_numbers(End::Right, s.terms, a, count, pool, size, index);
+    let numbers = judging::received::check_numbers(
+        End::Right,
+        s.terms,
+        a,
+        count,
+        pool,
+        size,
+        index,
+    );
     let turn = check_turn(s.terms, s.due, a.kind, share);
     worst(numbers, turn)
 }

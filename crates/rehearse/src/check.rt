@@ -1,15 +1,15 @@
 // What the run's calls need of what the lines say, before any of them is made: first the numbers, then the words.
 use judging::Check;
-use vectors::times;
+use judging::need;
+use judging::numbers::check_modulus;
+use judging::received::check_coins;
+use judging::worst;
 use matrix::Matrix;
 use protocol::Refusal;
 use protocol::Terms;
 use tape::End;
-use judging::need;
-use judging::worst;
-use judging::numbers::check_modulus;
-use judging::received::check_coins;
 use vectors::all_below;
+use vectors::times;
 ghost use mathlib.Core.Path.{_≡_};
 ghost use Prim.Native.Nat.{_+_, _*_, _≤_, _<_};
 ghost use Rattle.judging.specs.InOrder.{checked, judged};

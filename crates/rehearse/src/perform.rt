@@ -1,12 +1,12 @@
 // The run: dealing into two empty pools of one slot, and the three steps, each message handed on as it was sent.
-use vectors::times;
+use dealer::deal_product;
 use product::left_step;
 use product::right_first;
 use product::right_last;
 use protocol::Head;
 use protocol::Terms;
 use rehearse_lines::print;
-use dealer::deal_product;
+use vectors::times;
 ghost use mathlib.Core.Path.{_≡_};
 ghost use Prim.Native.Nat.{_*_, _≤_};
 ghost use lib.ListN.{length};

@@ -22,7 +22,8 @@ use Rattle.protocol.specs.Bounds.{columns}
 use Rattle.protocol.specs.System.{padded, sideSize}
 use Rattle.solver.specs.Formulas.{shareOf, sumOf, sideOf}
 use Rattle.protocol.specs.Tape.{solver, bodySize, body, matrices}
-use Rattle.vectors.proofs.Written.{after-over, over-part, part-of-start}
+use Rattle.vectors.proofs.Written.{after-over, over-part}
+use Rattle.protocol.proofs.Matrices.{part-of-start}
 
 -- the same behind the header
 behind : (a k n from stop : ℕ) (l : List ℕ) → from ≡ 7 + a → stop ≡ from + k → a + k ≤ n → take (stop - from) (drop from l) ≡ take k (drop a (take n (drop 7 l)))

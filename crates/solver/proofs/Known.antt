@@ -26,7 +26,7 @@ use Rattle.protocol.proofs.Judge.{passed}
 use Rattle.protocol.proofs.StepTests.{SolverFits, solver-second, solver-last}
 use Rattle.judging.specs.InOrder.{judged}
 use Rattle.judging.proofs.InOrder.{accepted-by}
-use Rattle.tape.proofs.Sides.{Modulus, modulus}
+use Rattle.tape.proofs.Sides.{Modulus, modulus, one-column}
 use Rattle.tape.proofs.Slots.{slot-inside}
 use Rattle.judging.specs.Groups.{modulusTests, numberTests, placeTests}
 use Rattle.tape.proofs.Sides.{unknowns}
@@ -55,19 +55,20 @@ pub few : (t : Terms) → sidesFit system (t .m) (t .k) (t .p) ≡ true → Few 
 unfolding columns sideSize
 few t e =
     let u = unknowns (t .m) (t .k) (t .p) e in
-    let one : t .p - t .m ≡ 1 = omega (arith, u .wide) in
-    let p17 : t .p ≤ 17 = omega (arith, u .wide, u .few) in
+    let wide = one-column (t .m) (t .k) (t .p) e in
+    let one : t .p - t .m ≡ 1 = omega arith in
+    let p17 : t .p ≤ 17 = omega (arith, u .few) in
     record {
       some = u .some;
       few = u .few;
-      wide = u .wide;
+      wide = wide;
       mm = mul-le-mul {n₁ = t .m} {m₁ = t .m} {n₂ = 16} {m₂ = 16} (u .few) (u .few);
       mp = mul-le-mul {n₁ = t .m} {m₁ = t .p} {n₂ = 16} {m₂ = 17} (u .few) p17;
       mk-is = ap (λ (x : ℕ). t .m * x) (u .square);
       kp-is = ap (λ (x : ℕ). x * t .p) (u .square);
       columns-is = one;
       side-is = ap (λ (x : ℕ). t .m * x) one ∙ omega arith;
-      whole = omega (arith, u .wide);
+      whole = omega arith;
     }
 
 pub solver-size : (m k p : ℕ) → 7 + k * p + m * p + m * k + m * k ≡ tapeSize solver m k p

@@ -1,16 +1,16 @@
 // What the solver checks at its second step and its last: the session is open, the step is due, and the half and the message are its own.
 use judging::Check;
 use judging::message::side_size;
+use judging::need;
+use judging::received::check_closed;
+use judging::received::check_numbers;
+use judging::received::check_words;
+use judging::worst;
 use protocol::Head;
 use protocol::Refusal;
 use protocol::SolverSession;
 use protocol::Terms;
 use tape::End;
-use judging::need;
-use judging::worst;
-use judging::received::check_closed;
-use judging::received::check_numbers;
-use judging::received::check_words;
 use vectors::all_below;
 ghost use mathlib.Core.Path.{_≡_};
 ghost use mathlib.Core.Bool.{true};

@@ -11,15 +11,15 @@ mod last;
 mod later;
 mod second;
 
-use judging::Check;
 pub use first::solver_first;
+use judging::Check;
+use judging::message::no_head;
 pub use last::solver_last;
 use protocol::Answer;
 use protocol::Head;
 use protocol::SolverSession;
 use protocol::Terms;
 pub use second::solver_second;
-use judging::received::no_head;
 ghost use mathlib.Core.Path.{_≡_};
 ghost use Rattle.protocol.specs.Message.{noMessage};
 ghost use Rattle.judging.specs.InOrder.{answerOf};

@@ -1,5 +1,5 @@
 -- What sides and moduli that fit are bounded by.
---   Sides, sides-of        the bounds on the sides, for both sorts
+--   Sides, sides, sides-of the bounds on the sides, of a product and for both sorts
 --   Unknowns, unknowns     the sides of a system: p is n + 1 at the most, and n at least
 --   one-column             its one column of right-hand sides
 --   Modulus, modulus       a modulus
@@ -20,12 +20,13 @@ pub record Sides (m k p : ℕ) : Type 0 where
   pub some-m : 0 < m
   pub few-m : m ≤ 32
   pub few-k : k ≤ 2048
+  pub some-p : 0 < p
   pub few-p : p ≤ 32
   pub few-mk : m * k ≤ 2048
   pub few-kp : k * p ≤ 2048
   pub few-mp : m * p ≤ 1024
 
-sides : (m k p : ℕ) → sidesFit product m k p ≡ true → Sides m k p
+pub sides : (m k p : ℕ) → sidesFit product m k p ≡ true → Sides m k p
 unfolding within sidesFit
 sides m k p e =
     let hm = and-left _ _ e in
@@ -40,6 +41,7 @@ sides m k p e =
       some-m = leb-true 1 m (and-left _ _ hm);
       few-m = m32;
       few-k = leb-true k 2048 (and-right _ _ hk);
+      some-p = leb-true 1 p (and-left _ _ hp);
       few-p = p32;
       few-mk = leb-true (m * k) 2048 (and-left _ _ e3);
       few-kp = leb-true (k * p) 2048 (and-right _ _ e3);
@@ -87,6 +89,7 @@ sides-of system m k p e =
       some-m = u .some;
       few-m = omega (arith, u .few);
       few-k = omega arith;
+      some-p = omega (arith, u .some, u .least);
       few-p = omega arith;
       few-mk = omega arith;
       few-kp = omega arith;

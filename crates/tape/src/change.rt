@@ -11,8 +11,9 @@ ghost use mathlib.Core.Bool.{true};
 ghost use Prim.Native.Nat.{_+_, _≤_};
 ghost use lib.ListN.{length};
 ghost use Rattle.protocol.specs.Bounds.{sidesFit};
-ghost use Rattle.protocol.specs.Tape.{headerSize, isSlot, slotAt, slotWords, poolWith, tapeSize, withStatus, spent, wordsInUse, wordsSpent};
+ghost use Rattle.protocol.specs.Tape.{headerSize, slotAt, slotWords, poolWith, tapeSize, withStatus, spent, wordsInUse, wordsSpent};
 ghost use Rattle.tape.specs.Ends.{role, sort};
+ghost use Rattle.tape.specs.Placed.{Placed};
 
 fn set_status(status: u32, slot: &mut [u32])
     requires { ⌜ headerSize ≤ length (now slot) ⌝ }
@@ -22,13 +23,21 @@ fn set_status(status: u32, slot: &mut [u32])
 }
 
 // Status 2.
-pub fn take_up(pool: &mut [u32], size: usize, index: usize)
-    requires { ⌜ (isSlot (slotAt (now pool) size index) ≡ true) × (headerSize ≤ size) ⌝ }
+pub fn take_up(slot: &mut [u32])
+    requires { ⌜ headerSize ≤ length (now slot) ⌝ }
+    ensures { λ _. ⌜ now (slot .exit) ≡ wordsInUse (now (slot .entry)) ⌝ }
+{
+    set_status(header::IN_USE, slot);
+}
+
+// The same in a pool.
+pub fn take_up_at(end: End, t: Terms, pool: &mut [u32], size: usize, index: usize)
+    requires { ⌜ Placed (role end) t (slotAt (now pool) size index) ⌝ }
     ensures { λ _. ⌜ now (pool .exit) ≡ poolWith (slotAt (now (pool .entry)) size index) (wordsInUse (slotWords (slotAt (now (pool .entry)) size index))) ⌝ }
 {
     let at = index * size;
-    let end = at + size;
-    set_status(header::IN_USE, &mut pool[at..end]);
+    let stop = at + size;
+    take_up(&mut pool[at..stop]);
 }
 
 // Status 3, and zeros in n words of matrices.
@@ -41,12 +50,20 @@ fn write_spent(n: usize, slot: &mut [u32])
 }
 
 // Status 3, and zeros in the matrices.
-pub fn spend(end: End, t: Terms, pool: &mut [u32], size: usize, index: usize)
-    requires { ⌜ (isSlot (slotAt (now pool) size index) ≡ true) × (sidesFit (sort end) (t .m) (t .k) (t .p) ≡ true) × (tapeSize (role end) (t .m) (t .k) (t .p) ≤ size) ⌝ }
-    ensures { λ _. ⌜ now (pool .exit) ≡ poolWith (slotAt (now (pool .entry)) size index) (wordsSpent (role end) t (slotWords (slotAt (now (pool .entry)) size index))) ⌝ }
+pub fn spend(end: End, t: Terms, slot: &mut [u32])
+    requires { ⌜ (sidesFit (sort end) (t .m) (t .k) (t .p) ≡ true) × (tapeSize (role end) (t .m) (t .k) (t .p) ≤ length (now slot)) ⌝ }
+    ensures { λ _. ⌜ now (slot .exit) ≡ wordsSpent (role end) t (now (slot .entry)) ⌝ }
 {
     let half = half_size(end, t);
+    write_spent(half - header::SIZE, slot);
+}
+
+// The same in a pool.
+pub fn spend_at(end: End, t: Terms, pool: &mut [u32], size: usize, index: usize)
+    requires { ⌜ Placed (role end) t (slotAt (now pool) size index) ⌝ }
+    ensures { λ _. ⌜ now (pool .exit) ≡ poolWith (slotAt (now (pool .entry)) size index) (wordsSpent (role end) t (slotWords (slotAt (now (pool .entry)) size index))) ⌝ }
+{
     let at = index * size;
     let stop = at + size;
-    write_spent(half - header::SIZE, &mut pool[at..stop]);
+    spend(end, t, &mut pool[at..stop]);
 }

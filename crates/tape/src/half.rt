@@ -1,5 +1,6 @@
 // A half in its slot: where each of its matrices stands, and its tests. Left: X0, A0. Right: Y0, B0. Blinder: X0, A0, Q, G. Solver: Y0, B0, R, V.
 //   matrix_at          where a matrix begins: matrix j stands in slot[matrix_at(j)..matrix_at(j + 1)]
+//   matrix_start       the same in a pool
 //   half_size          the words of a half
 //   holds_residues     its matrices hold residues
 use crate::End;
@@ -9,11 +10,12 @@ use vectors::all_below;
 use vectors::times;
 ghost use mathlib.Core.Path.{_≡_};
 ghost use mathlib.Core.Bool.{true};
-ghost use Prim.Native.Nat.{_≤_};
+ghost use Prim.Native.Nat.{_+_, _*_, _≤_};
 ghost use lib.ListN.{length, getD};
 ghost use Rattle.protocol.specs.Bounds.{sidesFit, allBelow};
-ghost use Rattle.protocol.specs.Tape.{layout, matrixAt, tapeSize, body};
+ghost use Rattle.protocol.specs.Tape.{slotAt, layout, matrixAt, tapeSize, body};
 ghost use Rattle.tape.specs.Ends.{role, sort};
+ghost use Rattle.tape.specs.Placed.{Placed};
 
 // The entries of the first matrix: X0 or Y0.
 fn first_size(end: End, t: Terms) -> usize
@@ -62,6 +64,14 @@ pub fn matrix_at(end: End, t: Terms, j: usize) -> usize
         at += matrix_size(end, t, i);
     }
     at
+}
+
+// The same in a pool.
+pub fn matrix_start(end: End, t: Terms, j: usize, pool: &[u32], size: usize, index: usize) -> usize
+    requires { ⌜ Placed (role end) t (slotAt (now pool) size index) × (j ≤ 4) ⌝ }
+    ensures { λ r. ⌜ r ≡ index * size + matrixAt (role end) (t .m) (t .k) (t .p) j ⌝ }
+{
+    index * size + matrix_at(end, t, j)
 }
 
 pub fn half_size(end: End, t: Terms) -> usize

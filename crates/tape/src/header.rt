@@ -16,16 +16,25 @@ ghost use Rattle.tape.specs.Ends.{role, sort};
 ghost use Rattle.tape.specs.Bears.{numbersAre, bears};
 
 const EMPTY: u32 = 0;
+
 pub const READY: u32 = 1;
+
 pub const IN_USE: u32 = 2;
+
 pub const SPENT: u32 = 3;
 
 pub const STATUS_AT: usize = 0;
+
 const TAPE_AT: usize = 1;
+
 const SORT_AT: usize = 2;
+
 const Q_AT: usize = 3;
+
 const M_AT: usize = 4;
+
 const K_AT: usize = 5;
+
 const P_AT: usize = 6;
 
 // How many words the header has.

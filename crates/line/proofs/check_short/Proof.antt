@@ -3,7 +3,7 @@ use mathlib.Core.Path.{sym, ap, _∙_}
 use borrow.Author.Needs.{needs}
 use Rattle.judging.specs.InOrder.{checked, inOrder}
 use Rattle.judging.proofs.InOrder.{stops, goes-on}
-use Rattle.message.specs.Groups.{headTests}
+use Rattle.line.specs.Order.{headTests}
 use Rattle.line.specs.Order.{shortOrder}
 use Rattle.line.proofs.check_short.Statement.{statement}
 use Rattle.line.proofs.check_short.Tie as tie

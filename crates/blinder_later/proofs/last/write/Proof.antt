@@ -83,7 +83,7 @@ write-product-requires c κs =
     record {
       some-q = h .some-q;
       small-q = h .small-q;
-      some-p = omega (arith, u .wide);
+      some-p = omega (arith, u .least, u .most, u .some);
       few-k = omega (arith, u .few);
       few-y = omega (arith, side-is (a .t) (h .sides), side-bound (a .t) (h .sides));
       full-x = simp (length-take, length-drop) (omega (arith, b, times .ensures));
