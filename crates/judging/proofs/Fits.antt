@@ -1,15 +1,21 @@
 -- What is known where the numbers of a step that takes a message passed.
 --   Received, received-fits  the moduli and the sizes
+--   first-placed, open-placed   the half of an accepted first step, and of an open session, has its place
+--   sizes-placed             the same from the numbers alone
 -- Assumes nothing.
 use mathlib.Core.Path.{_≡_}
 use mathlib.Core.Bool.{true}
+use mathlib.Core.List.{List, _++_}
 use Prim.Native.Nat.{ℕ, _+_, _*_, _≤_}
+use lib.ListN.{length}
 use borrow.Author.Tests.{leb-true}
 use Rattle.protocol.specs.declared.Terms.{Terms}
 use Rattle.protocol.specs.declared.Head.{Head}
-use Rattle.protocol.specs.Judge.{done}
+use Rattle.protocol.specs.Judge.{Test, done}
 use Rattle.protocol.specs.Bounds.{fieldFits, sidesFit}
-use Rattle.protocol.specs.Tape.{Role, sortOf, tapeSize}
+use Rattle.protocol.specs.Tape.{Role, sortOf, tapeSize, Slot, slotAt, isSlot}
+use Rattle.protocol.proofs.Tests.{FirstFits, OpenFits}
+use Rattle.tape.specs.Placed.{Placed}
 use Rattle.protocol.proofs.Judge.{passed}
 use Rattle.judging.specs.InOrder.{judged}
 use Rattle.tape.proofs.Sides.{Modulus, modulus}
@@ -37,3 +43,27 @@ received-fits role t a count pool size index e =
       inside = slot-inside pool size index (s .1 .1 .1 .1 .1 .1 .1 .0);
       half = leb-true _ _ (s .1 .1 .1 .1 .1 .1 .1 .1 .0);
     }
+
+-- ---- a half that has its place
+
+module _ (role : Role) (t : Terms) where
+  pub first-placed : (s : Slot) → FirstFits role t s → Placed role t s
+  first-placed s f = record { sides = f .terms .sides; inside = f .half .inside; room = f .half .room }
+
+  pub open-placed : {due : ℕ} (s : Slot) → OpenFits role due t s → Placed role t s
+  open-placed s f = record { sides = f .terms .sides; inside = f .half .inside; room = f .half .room }
+
+  -- `ts`: the tests that were made besides
+  pub sizes-placed : (ts : List Test) (pool : List ℕ) (size index : ℕ)
+      → judged ((numberTests (sortOf role) t ++ placeTests role t (length pool) size index) ++ ts) ≡ done tt → Placed role t (slotAt pool size index)
+  unfolding numberTests placeTests isSlot
+  sizes-placed ts pool size index e =
+      let f = passed ((numberTests (sortOf role) t ++ placeTests role t (length pool) size index) ++ ts) e .0 in
+      record { sides = f .1 .0; inside = f .1 .1 .1 .0; room = leb-true _ _ (f .1 .1 .1 .1 .0) }
+
+  pub received-placed : (a : Head) (count : ℕ) (pool : List ℕ) (size index : ℕ)
+      → judged (receivedNumbers role t a count (length pool) size index) ≡ done tt → Placed role t (slotAt pool size index)
+  unfolding receivedNumbers kindTests modulusTests numberTests countTests placeTests isSlot
+  received-placed a count pool size index e =
+      let s = passed (receivedNumbers role t a count (length pool) size index) e .0 .1 .1 .1 .1 .1 .1 .1 .1 .1 in
+      record { sides = s .1 .0; inside = s .1 .1 .1 .0; room = leb-true _ _ (s .1 .1 .1 .1 .0) }

@@ -1,19 +1,20 @@
 -- What a step leaves: everything as it was where it is refused, and its effect where all tests passed.
---   refused-leaves, accepted-leaves
+--   refused-leaves, accepted-leaves   from the verdict on the tests
+--   step-leaves                       of a step that was checked, computed, and whose tape then changed
 -- Assumes nothing.
-use mathlib.Core.Path.{_≡_, ap}
+use mathlib.Core.Path.{_≡_, sym, ap}
 use mathlib.Core.List.{List}
 use Prim.Native.Nat.{ℕ}
 use Rattle.algebra.specs.Words.{over}
 use Rattle.protocol.specs.declared.Refusal.{Refusal}
 use Rattle.protocol.specs.declared.Answer.the-variants.{Refused}
 use Rattle.protocol.specs.Judge.{Test, refused, done, judge}
-use Rattle.protocol.specs.Tape.{Slot}
+use Rattle.protocol.specs.Tape.{Slot, poolWith}
 use Rattle.protocol.specs.Message.{noMessage}
 use Rattle.protocol.specs.Step.{answerReply, Effect}
 use Rattle.judging.specs.InOrder.{judged}
 use Rattle.judging.proofs.InOrder.{refused-by, accepted-by}
-use Rattle.judging.specs.Leaves.{Leaves, leaves}
+use Rattle.judging.specs.Leaves.{Leaves, leaves, Computed, computed}
 
 -- everything is as it was
 abbrev pub kept : {S : Type 0} → Refusal → S → Slot → (scratch sent result : List ℕ) → Leaves S
@@ -34,3 +35,9 @@ module _ {S : Type 0} (x : S) (s : Slot) (scratch sent result : List ℕ) (ts : 
 
   pub accepted-leaves : judged ts ≡ done tt → leaves x s scratch sent result (judge ts e) ≡ leaves x s scratch sent result (done e)
   accepted-leaves h = ap (leaves x s scratch sent result) (accepted-by ts e h)
+
+  -- the three parts of a step, put together
+  pub step-leaves : {c : Computed S} {pool : List ℕ} → judged ts ≡ done tt → c ≡ computed scratch sent result e → pool ≡ poolWith s (e .slot)
+      → record { answer = c .answer; session = c .session; head = c .head; pool = pool; scratch = c .scratch; sent = c .sent; result = c .result }
+      ≡ leaves x s scratch sent result (judge ts e)
+  step-leaves h k p = rw (k, p) (sym (accepted-leaves h))

@@ -1,11 +1,14 @@
--- Everything that a step's code leaves, as one term of the definition's outcome: a step's contract is one equation with it. Assumes nothing.
+-- Everything that a step's code leaves, as one term of the definition's outcome: a step's contract is one equation with it.
+--   Leaves, leaves      all that a step leaves
+--   Computed, computed  the same without the pool: what it computes where its tests passed, before the tape changes
+-- Assumes nothing.
 use mathlib.Core.List.{List}
 use Prim.Native.Nat.{ℕ}
 use Rattle.algebra.specs.Words.{over}
 use Rattle.protocol.specs.declared.Head.{Head}
 use Rattle.protocol.specs.Judge.{Reply}
 use Rattle.protocol.specs.Tape.{Slot}
-use Rattle.protocol.specs.Step.{answerReply, Outcome, answerAfter, sessionAfter, poolAfter, scratchAfter, sentAfter, resultAfter}
+use Rattle.protocol.specs.Step.{answerReply, Effect, Outcome, answerAfter, sessionAfter, poolAfter, scratchAfter, sentAfter, resultAfter}
 
 pub record Leaves (S : Type 0) : Type 0 where
   -- its number, and the words read
@@ -28,4 +31,23 @@ leaves x s scratch sent result o = record {
   scratch = over (scratchAfter o) scratch;
   sent = over (sentAfter o .residues) sent;
   result = over (resultAfter o) result;
+}
+
+pub record Computed (S : Type 0) : Type 0 where
+  pub answer : Reply ℕ
+  pub session : S
+  pub head : Head
+  pub scratch : List ℕ
+  pub sent : List ℕ
+  pub result : List ℕ
+
+-- from the effect, and the lent slices as they were
+abbrev pub computed : {S : Type 0} → (scratch sent result : List ℕ) → Effect S → Computed S
+computed scratch sent result e = record {
+  answer = answerReply (e .answer);
+  session = e .session;
+  head = e .sent .head;
+  scratch = over (e .scratch) scratch;
+  sent = over (e .sent .residues) sent;
+  result = over (e .result) result;
 }

@@ -1,5 +1,6 @@
 -- The tests of every step that takes a message, in the groups in which the code makes them. Assumes nothing.
 --   receivedNumbers  the numbers of the message, the session and the slot
+--   sentTests        the words of the message
 --   receivedWords    the words of the half and of the message
 --   closedTests      what is left of them where the session is closed
 use mathlib.Core.Bool.{false}
@@ -21,6 +22,10 @@ receivedNumbers role t a count pool size index =
     kindTests a
     ++ (modulusTests (sortOf role) (t .q)
     ++ ((numberTests (kindSort (a .kind)) (a .terms) ++ countTests a count) ++ (numberTests (sortOf role) t ++ placeTests role t pool size index)))
+
+-- the message bears the session's numbers and holds residues
+unfoldable pub sentTests : Terms → Head → (residues : List ℕ) → List Test
+sentTests t a residues = sameTests a t ++ (needs Residue (allBelow (a .terms .q) residues) ∷ [])
 
 unfoldable pub receivedWords : Role → (status : ℕ) → Terms → Head → (slot residues : List ℕ) → List Test
 receivedWords role status t a slot residues =

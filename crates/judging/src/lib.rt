@@ -4,10 +4,11 @@
 //   order              one test, and the worse of two checks: the order in which refusals are given
 //   message            a message's kind and size
 //   numbers            the numbers of a session, of its slot and of a message
-//   half               the words of a half
+//   half, held         the words of a half, in its slot and in its pool
 //   received           what every step checks that takes a message
 // No function here is for hosts.
 pub mod half;
+pub mod held;
 pub mod message;
 pub mod numbers;
 pub mod order;

@@ -1,5 +1,5 @@
 -- What is known where tests passed.
---   Placed, first-placed         the numbers of step 1
+--   first-placed                 the numbers of step 1
 --   last-received                the numbers of step 3
 --   first-known, left-known, last-known   a step that is accepted
 --   masks, left-shape, last-shape   what the writers ask
@@ -16,7 +16,8 @@ use Rattle.protocol.specs.declared.Head.{Head}
 use Rattle.protocol.specs.declared.RightSession.{RightSession}
 use Rattle.protocol.specs.Judge.{done}
 use Rattle.protocol.specs.Bounds.{sidesFit}
-use Rattle.protocol.specs.Tape.{Slot, Role, right, sortOf, layout, tapeSize, slotWords}
+use Rattle.protocol.specs.Tape.{Slot, isSlot, slotAt, Role, right, layout, slotWords}
+use Rattle.tape.specs.Placed.{Placed}
 use Rattle.protocol.specs.Message.{Message}
 use Rattle.protocol.specs.Product.{rightFirstEffect, rightFirstTests, rightFirst, leftEffect, leftTests, leftStep, rightLastEffect, rightLastTests, rightLast}
 use Rattle.protocol.proofs.Judge.{passed}
@@ -28,7 +29,7 @@ use Rattle.protocol.proofs.StepTests.{RightFirstFits, right-first, LeftFits, le
 use Rattle.judging.specs.InOrder.{judged}
 use Rattle.judging.proofs.InOrder.{accepted-by}
 use Rattle.tape.proofs.Sides.{sides}
-use Rattle.tape.proofs.Slots.{slot-inside, left-size, right-size}
+use Rattle.tape.proofs.Slots.{left-size, right-size}
 use Rattle.judging.specs.Groups.{modulusTests, numberTests, placeTests}
 use Rattle.judging.specs.Received.{receivedNumbers}
 use Rattle.judging.proofs.Fits.{Received, received-fits}
@@ -37,17 +38,12 @@ use Rattle.product.specs.Shape.{Masks, LeftShape, LastShape}
 use Rattle.judging.proofs.Join.{first-passed}
 use Rattle.judging.proofs.KindLaws.{size-1, size-2}
 
--- the sides fit, the slot lies in its pool, and the half in the slot
-pub record Placed (role : Role) (t : Terms) (pool size index : ℕ) : Type 0 where
-  pub sides : sidesFit (sortOf role) (t .m) (t .k) (t .p) ≡ true
-  pub inside : index * size + size ≤ pool
-  pub room : tapeSize role (t .m) (t .k) (t .p) ≤ size
-
-pub first-placed : (t : Terms) (pool size index y room : ℕ) → judged (firstNumbers t pool size index y room) ≡ done tt → Placed right t pool size index
-unfolding firstNumbers modulusTests numberTests placeTests
+pub first-placed : (t : Terms) (pool : List ℕ) (size index y room : ℕ) → judged (firstNumbers t (length pool) size index y room) ≡ done tt
+    → Placed right t (slotAt pool size index)
+unfolding firstNumbers modulusTests numberTests placeTests isSlot
 first-placed t pool size index y room e =
-    let s = passed (firstNumbers t pool size index y room) e .0 .1 .1 in
-    record { sides = s .1 .0; inside = slot-inside pool size index (s .1 .1 .1 .0); room = leb-true _ _ (s .1 .1 .1 .1 .0) }
+    let s = passed (firstNumbers t (length pool) size index y room) e .0 .1 .1 in
+    record { sides = s .1 .0; inside = s .1 .1 .1 .0; room = leb-true _ _ (s .1 .1 .1 .1 .0) }
 
 -- ---- with a message
 

@@ -1,10 +1,9 @@
 // Step 1: right sends Y1 = Y − Y0, and its half is in use.
 use crate::RightAnswer;
+use crate::refused;
 use judging::Check;
-use judging::answer_of;
-use judging::half::check_body;
-use judging::half::check_tape;
-use judging::message::no_head;
+use judging::held::check_body;
+use judging::held::check_tape;
 use judging::need;
 use judging::numbers::check_modulus;
 use judging::numbers::check_sizes;
@@ -15,26 +14,23 @@ use protocol::Refusal;
 use protocol::RightSession;
 use protocol::Terms;
 use tape::End;
-use tape::change::take_up;
+use tape::change::take_up_at;
+use tape::half::matrix_start;
+use tape::header::READY;
 use vectors::all_below;
 use vectors::subtract_residues;
 use vectors::times;
 ghost use mathlib.Core.Path.{_≡_};
-ghost use mathlib.Core.Bool.{true};
 ghost use mathlib.Core.List.{[]};
-ghost use Prim.Native.Nat.{_*_, _≤_};
 ghost use lib.ListN.{length};
-ghost use Rattle.algebra.specs.Count.{part};
-ghost use Rattle.algebra.specs.Words.{over};
-ghost use Rattle.algebra.specs.Product.{sendY};
-ghost use Rattle.protocol.specs.Bounds.{sidesFit, product};
-ghost use Rattle.protocol.specs.Tape.{right, slotAt, tapeSize, matrices, wordsInUse};
-ghost use Rattle.protocol.specs.Product.{noRight, rightFirstTests, rightFirst};
-ghost use Rattle.judging.specs.InOrder.{checked, judged};
+ghost use Rattle.protocol.specs.Judge.{done};
+ghost use Rattle.protocol.specs.Tape.{right, slotAt, slotWords};
+ghost use Rattle.protocol.specs.Product.{noRight, rightFirstEffect, rightFirstTests, rightFirst};
 ghost use Rattle.protocol.specs.Step.{answerReply};
-ghost use Rattle.judging.specs.Leaves.{Leaves, leaves};
+ghost use Rattle.tape.specs.Placed.{Placed};
+ghost use Rattle.judging.specs.InOrder.{checked, judged};
+ghost use Rattle.judging.specs.Leaves.{Leaves, leaves, Computed, computed};
 ghost use Rattle.product.specs.Groups.{firstNumbers, firstWords};
-ghost use Rattle.product.specs.Shape.{Masks};
 
 fn check_numbers(t: Terms, pool: usize, size: usize, index: usize, y: usize, room: usize) -> Check
     ensures { λ r. ⌜ checked r ≡ judged (firstNumbers t pool size index y room) ⌝ }
@@ -47,12 +43,12 @@ fn check_numbers(t: Terms, pool: usize, size: usize, index: usize, y: usize, roo
     worst(modulus, worst(sizes, worst(input, sent)))
 }
 
-fn check_words(t: Terms, y: &[u32], slot: &[u32]) -> Check
-    requires { ⌜ (sidesFit product (t .m) (t .k) (t .p) ≡ true) × (tapeSize right (t .m) (t .k) (t .p) ≤ length (now slot)) ⌝ }
-    ensures { λ r. ⌜ checked r ≡ judged (firstWords t (now (y .entry)) (now (slot .entry))) ⌝ }
+fn check_words(t: Terms, y: &[u32], pool: &[u32], size: usize, index: usize) -> Check
+    requires { ⌜ Placed right t (slotAt (now pool) size index) ⌝ }
+    ensures { λ r. ⌜ checked r ≡ judged (firstWords t (now (y .entry)) (slotWords (slotAt (now (pool .entry)) size index))) ⌝ }
 {
-    let tape = check_tape(End::Right, 1, t, slot);
-    let body = check_body(End::Right, t, slot);
+    let tape = check_tape(End::Right, READY, t, pool, size, index);
+    let body = check_body(End::Right, t, pool, size, index);
     let input = need(Refusal::Residue, all_below(t.q, y));
     worst(tape, worst(body, input))
 }
@@ -64,20 +60,31 @@ fn check(pool: &[u32], size: usize, index: usize, t: Terms, y: &[u32], room: usi
     let Check::Passed = numbers else {
         return numbers;
     };
-    let at = index * size;
-    let end = at + size;
-    check_words(t, y, &pool[at..end])
+    check_words(t, y, pool, size, index)
 }
 
-fn write(t: Terms, y: &[u32], slot: &mut [u32], out: &mut [u32])
-    requires { ⌜ Masks right t (t .k * t .p) (now y) (now slot) × (tapeSize right (t .m) (t .k) (t .p) ≤ length (now slot)) × (t .k * t .p ≤ length (now out)) ⌝ }
-    ensures { λ _. ⌜ now (slot .exit) ≡ wordsInUse (now (slot .entry)) ⌝ }
-    ensures { λ _. ⌜ now (out .exit) ≡ over (sendY (t .q) (t .m) (t .k) (t .p) (now (y .entry)) (part 0 (matrices right t (now (slot .entry))))) (now (out .entry)) ⌝ }
+// Y1 goes into `out`; the session waits for kind 2.
+fn compute(
+    pool: &[u32],
+    size: usize,
+    index: usize,
+    t: Terms,
+    y: &[u32],
+    out: &mut [u32],
+) -> RightAnswer
+    requires { ⌜ judged (rightFirstTests t (slotAt (now pool) size index) (now y) (length (now out))) ≡ done tt ⌝ }
+    ensures { λ r. ⌜ _≡_ {A = Computed RightSession}
+        (record { answer = answerReply (r .answer); session = r .session; head = r .head; scratch = []; sent = now (out .exit); result = [] })
+        (computed [] (now (out .entry)) [] (rightFirstEffect t (slotAt (now (pool .entry)) size index) (now (y .entry)))) ⌝ }
 {
-    let kp = times(t.k, t.p);
-    let end = 7 + kp;
-    subtract_residues(t.q, kp, y, &slot[7..end], out);
-    take_up(slot);
+    let from = matrix_start(End::Right, t, 0, pool, size, index);
+    let stop = matrix_start(End::Right, t, 1, pool, size, index);
+    subtract_residues(t.q, times(t.k, t.p), y, &pool[from..stop], out);
+    RightAnswer {
+        answer: Answer::Accepted(0),
+        session: RightSession { terms: t, due: 2 },
+        head: Head { kind: 1, terms: t },
+    }
 }
 
 // Step 1 (RULES 4.2): Y1 = Y − Y0.
@@ -95,21 +102,10 @@ pub fn right_first(
         (rightFirst t (slotAt (now (pool .entry)) size index) (now (y .entry)) (length (now (out .entry))))) ⌝ }
 {
     let checked = check(pool, size, index, t, y, out.len());
-    let none = no_head();
-    let terms = none.terms;
     let Check::Passed = checked else {
-        return RightAnswer {
-            answer: answer_of(checked),
-            session: RightSession { terms, due: 0 },
-            head: none,
-        };
+        return refused(checked);
     };
-    let at = index * size;
-    let end = at + size;
-    write(t, y, &mut pool[at..end], out);
-    RightAnswer {
-        answer: Answer::Accepted(0),
-        session: RightSession { terms: t, due: 2 },
-        head: Head { kind: 1, terms: t },
-    }
+    let done = compute(pool, size, index, t, y, out);
+    take_up_at(End::Right, t, pool, size, index);
+    done
 }

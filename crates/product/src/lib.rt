@@ -9,11 +9,18 @@ mod last;
 mod left;
 
 pub use first::right_first;
+use judging::Check;
+use judging::answer_of;
+use judging::message::no_head;
 pub use last::right_last;
 pub use left::left_step;
 use protocol::Answer;
 use protocol::Head;
 use protocol::RightSession;
+ghost use mathlib.Core.Path.{_≡_};
+ghost use Rattle.judging.specs.InOrder.{answerOf};
+ghost use Rattle.protocol.specs.Message.{noMessage};
+ghost use Rattle.protocol.specs.Product.{noRight};
 
 // What a step of the right end answers: besides the answer its session, and the head of the message that it sends.
 pub struct RightAnswer {
@@ -26,4 +33,17 @@ pub struct RightAnswer {
 pub struct LeftAnswer {
     pub answer: Answer,
     pub head: Head,
+}
+
+// A refused first step: there is no session, and nothing is sent.
+fn refused(c: Check) -> RightAnswer
+    ensures { λ r. ⌜ r ≡ record { answer = answerOf c; session = noRight; head = noMessage .head } ⌝ }
+{
+    let none = no_head();
+    let terms = none.terms;
+    RightAnswer {
+        answer: answer_of(c),
+        session: RightSession { terms, due: 0 },
+        head: none,
+    }
 }

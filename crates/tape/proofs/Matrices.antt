@@ -1,14 +1,14 @@
 -- The sizes of a half's matrices, past the first: the same for every end of one sort.
 --   second-size, later-sizes   the second matrix, and those behind it
 --   half-bound                 no half passes 8,192 words behind its header
---   matrix-in-pool             matrix j of a half is one part of its pool
+--   Stands, matrix-stands      matrix j of a half is one part of its pool
 -- Assumes nothing.
 use mathlib.Core.Path.{_≡_, refl, sym, ap, _∙_}
 use mathlib.Core.Bool.{true}
 use mathlib.Core.List.{List}
 use Prim.Native.Nat.{ℕ, zero, suc, _+_, _-_, _*_, _≤_, _<_}
 use native.Mathlib.Omega.{arith}
-use lib.ListN.{getD, take, drop}
+use lib.ListN.{length, getD, take, drop}
 use lib.Seq.{drop-drop}
 use Rattle.algebra.specs.Count.{part}
 use Rattle.protocol.specs.declared.Terms.{Terms}
@@ -17,6 +17,7 @@ use Rattle.protocol.specs.Tape.{headerSize, Role, left, right, blinder, solver,
 use Rattle.protocol.proofs.Matrices.{part-of-start, matrix-next, matrix-within, matrix-part}
 use Rattle.tape.specs.Placed.{Placed}
 use Rattle.tape.proofs.Sides.{sides-of}
+use Rattle.tape.proofs.Slots.{slot-room}
 
 pub second-size : (role : Role) (t : Terms) → getD (layout role (t .m) (t .k) (t .p)) 1 0 ≡ t .m * t .p
 second-size left t = refl
@@ -41,16 +42,28 @@ half-bound right m k p e = let s = sides-of (sortOf right) m k p e in omega (ari
 half-bound blinder m k p e = let s = sides-of (sortOf blinder) m k p e in omega (arith, s .few-mk, s .few-kp, s .few-mp)
 half-bound solver m k p e = let s = sides-of (sortOf solver) m k p e in omega (arith, s .few-mk, s .few-kp, s .few-mp)
 
+-- the words of a pool from one place to another
+pub record Stands (from stop : ℕ) (pool words : List ℕ) : Type 0 where
+  pub starts : from ≤ stop
+  pub ends : stop ≤ length pool
+  pub is : take (stop - from) (drop from pool) ≡ words
+
 -- where matrix j stands in the pool, for a half that has its place
-pub matrix-in-pool : (role : Role) (t : Terms) (j : ℕ) (pool : List ℕ) (size index : ℕ) {from stop : ℕ} → Placed role t (slotAt pool size index)
+pub matrix-stands : (role : Role) (t : Terms) (j : ℕ) (pool : List ℕ) (size index : ℕ) {from stop : ℕ} → Placed role t (slotAt pool size index)
     → from ≡ index * size + matrixAt role (t .m) (t .k) (t .p) j → stop ≡ index * size + matrixAt role (t .m) (t .k) (t .p) (suc j)
-    → take (stop - from) (drop from pool) ≡ part j (matrices role t (slotWords (slotAt pool size index)))
+    → Stands from stop pool (part j (matrices role t (slotWords (slotAt pool size index))))
 unfolding slotWords
-matrix-in-pool role t j pool size index {from} {stop} p e f =
+matrix-stands role t j pool size index {from} {stop} p e f =
     let a = matrixAt role (t .m) (t .k) (t .p) j in
     let b = matrixAt role (t .m) (t .k) (t .p) (suc j) in
+    let next = matrix-next role (t .m) (t .k) (t .p) j in
+    let within = matrix-within role (t .m) (t .k) (t .p) (suc j) in
     let n : stop - from ≡ b - a = omega arith in
-    let inside : a + (b - a) ≤ size = omega (arith, p .room, matrix-within role (t .m) (t .k) (t .p) (suc j), matrix-next role (t .m) (t .k) (t .p) j) in
-    rw (n, e)
-    (ap (take (b - a)) (sym (drop-drop a (index * size) pool))
-    ∙ (sym (part-of-start (b - a) size a (drop (index * size) pool) inside) ∙ matrix-part role t j (take size (drop (index * size) pool))))
+    let inside : a + (b - a) ≤ size = omega (arith, p .room, next) in
+    record {
+      starts = omega (arith, next);
+      ends = omega (arith, p .room, within, slot-room pool size index (p .inside));
+      is = rw (n, e)
+          (ap (take (b - a)) (sym (drop-drop a (index * size) pool))
+          ∙ (sym (part-of-start (b - a) size a (drop (index * size) pool) inside) ∙ matrix-part role t j (take size (drop (index * size) pool))));
+    }

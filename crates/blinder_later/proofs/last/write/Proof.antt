@@ -4,7 +4,7 @@ use Prim.Native.Nat.{ℕ, _+_, _*_, _-_, _≤_}
 use native.Mathlib.Omega.{arith}
 use lib.ListN.{length, length-take, length-drop}
 use borrow.Author.Needs.{needs}
-use Rattle.tape.proofs.Sides.{unknowns}
+use Rattle.tape.proofs.Sides.{unknowns, one-column}
 use Rattle.blinder.proofs.Kept.{side-is, side-bound, square-bound, wide-bound, wide-enough}
 use Rattle.blinder.proofs.Halves.{half-is}
 use Rattle.judging.proofs.KindLaws.{few}
@@ -83,7 +83,7 @@ write-product-requires c κs =
     record {
       some-q = h .some-q;
       small-q = h .small-q;
-      some-p = omega (arith, u .least, u .most, u .some);
+      some-p = omega (arith, one-column (a .t .m) (a .t .k) (a .t .p) (h .sides));
       few-k = omega (arith, u .few);
       few-y = omega (arith, side-is (a .t) (h .sides), side-bound (a .t) (h .sides));
       full-x = simp (length-take, length-drop) (omega (arith, b, times .ensures));

@@ -1,15 +1,12 @@
 -- `product::first::check_words` meets its contract. Assumes nothing.
-use native.Mathlib.Omega.{arith}
-use borrow.Author.Needs.{needs}
 use Rattle.judging.proofs.Join.{also}
 use Rattle.product.specs.Groups.{firstWords}
-use Rattle.tape.proofs.Slots.{half-body}
-use Rattle.protocol.specs.Tape.{right}
+use borrow.Author.Needs.{needs}
 use Rattle.product.proofs.first.check_words.Statement.{statement}
 use Rattle.product.proofs.first.check_words.Tie as tie
 
 check-tape-requires : tie.Need-check-tape-requires
-check-tape-requires c κs = omega (arith, c .before .before .pre .1, half-body right (c .before .before .args .t))
+check-tape-requires c κs = search needs
 
 check-body-requires : tie.Need-check-body-requires
 check-body-requires c κs = search needs
@@ -30,7 +27,8 @@ returns : tie.Need-returns
 unfolding firstWords
 returns c =
     also _ _ (c .worst2 .ensures) (c .before .before .before .before .before .check-tape .ensures)
-    (also _ _ (c .before .worst .ensures) (c .before .before .before .before .check-body .ensures) (rw (c .before .before .before .all-below .ensures) at (c .before .before .need .ensures)))
+    (also _ _ (c .before .worst .ensures) (c .before .before .before .before .check-body .ensures)
+    (rw (c .before .before .before .all-below .ensures) at (c .before .before .need .ensures)))
 
 pub check-words-spec : {M : Type 1} → statement M
 check-words-spec =

@@ -1,0 +1,69 @@
+// The words of a half in its slot of a pool, and what a step with a message tests beside them.
+//   check_tape, check_body   the tape's status and numbers, and its matrices
+//   check_arrived            both, and the words of the message
+use crate::Check;
+use crate::half;
+use crate::numbers::check_same;
+use crate::order::need;
+use crate::order::worst;
+use protocol::Head;
+use protocol::Refusal;
+use protocol::Terms;
+use tape::End;
+use vectors::all_below;
+ghost use mathlib.Core.Path.{_≡_};
+ghost use Rattle.protocol.specs.Tape.{slotAt, slotWords, tapeTests, bodyTests};
+ghost use Rattle.tape.specs.Ends.{role};
+ghost use Rattle.tape.specs.Placed.{Placed};
+ghost use Rattle.judging.specs.InOrder.{checked, judged};
+ghost use Rattle.judging.specs.Received.{sentTests, receivedWords};
+
+// The status, and the numbers of the tape.
+pub fn check_tape(end: End, status: u32, t: Terms, pool: &[u32], size: usize, index: usize) -> Check
+    requires { ⌜ Placed (role end) t (slotAt (now pool) size index) ⌝ }
+    ensures { λ r. ⌜ checked r ≡ judged (tapeTests (role end) status t (slotWords (slotAt (now (pool .entry)) size index))) ⌝ }
+{
+    let at = index * size;
+    let stop = at + size;
+    half::check_tape(end, status, t, &pool[at..stop])
+}
+
+// The matrices hold residues.
+pub fn check_body(end: End, t: Terms, pool: &[u32], size: usize, index: usize) -> Check
+    requires { ⌜ Placed (role end) t (slotAt (now pool) size index) ⌝ }
+    ensures { λ r. ⌜ checked r ≡ judged (bodyTests (role end) t (slotWords (slotAt (now (pool .entry)) size index))) ⌝ }
+{
+    let at = index * size;
+    let stop = at + size;
+    half::check_body(end, t, &pool[at..stop])
+}
+
+// The message's numbers are the session's, and it holds residues.
+fn check_sent(t: Terms, a: Head, residues: &[u32]) -> Check
+    ensures { λ r. ⌜ checked r ≡ judged (sentTests t a (now (residues .entry))) ⌝ }
+{
+    let b = a.terms;
+    let same = check_same(a, t);
+    let sent = need(Refusal::Residue, all_below(b.q, residues));
+    worst(same, sent)
+}
+
+// The tape's status and numbers, the message's numbers, and the residues of both.
+pub fn check_arrived(
+    end: End,
+    status: u32,
+    t: Terms,
+    a: Head,
+    residues: &[u32],
+    pool: &[u32],
+    size: usize,
+    index: usize,
+) -> Check
+    requires { ⌜ Placed (role end) t (slotAt (now pool) size index) ⌝ }
+    ensures { λ r. ⌜ checked r ≡ judged (receivedWords (role end) status t a (slotWords (slotAt (now (pool .entry)) size index)) (now (residues .entry))) ⌝ }
+{
+    let tape = check_tape(end, status, t, pool, size, index);
+    let sent = check_sent(t, a, residues);
+    let body = check_body(end, t, pool, size, index);
+    worst(tape, worst(sent, body))
+}
