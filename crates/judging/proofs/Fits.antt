@@ -1,7 +1,7 @@
 -- What is known where the numbers of a step that takes a message passed.
 --   Received, received-fits  the moduli and the sizes
 --   first-placed, open-placed   the half of an accepted first step, and of an open session, has its place
---   sizes-placed             the same from the numbers alone
+--   numbers-placed, received-placed, turn-placed   the same from the numbers alone
 -- Assumes nothing.
 use mathlib.Core.Path.{_≡_}
 use mathlib.Core.Bool.{true}
@@ -20,8 +20,9 @@ use Rattle.protocol.proofs.Judge.{passed}
 use Rattle.judging.specs.InOrder.{judged}
 use Rattle.tape.proofs.Sides.{Modulus, modulus}
 use Rattle.tape.proofs.Slots.{slot-inside}
-use Rattle.judging.specs.Groups.{modulusTests, kindTests, numberTests, placeTests, countTests}
+use Rattle.judging.specs.Groups.{modulusTests, kindTests, numberTests, placeTests, countTests, openNumbers}
 use Rattle.judging.specs.Received.{receivedNumbers}
+use Rattle.judging.proofs.Join.{first-passed}
 
 pub record Received (role : Role) (t : Terms) (pool size index : ℕ) : Type 0 where
   pub modulus-fits : Modulus (t .q)
@@ -53,13 +54,12 @@ module _ (role : Role) (t : Terms) where
   pub open-placed : {due : ℕ} (s : Slot) → OpenFits role due t s → Placed role t s
   open-placed s f = record { sides = f .terms .sides; inside = f .half .inside; room = f .half .room }
 
-  -- `ts`: the tests that were made besides
-  pub sizes-placed : (ts : List Test) (pool : List ℕ) (size index : ℕ)
-      → judged ((numberTests (sortOf role) t ++ placeTests role t (length pool) size index) ++ ts) ≡ done tt → Placed role t (slotAt pool size index)
-  unfolding numberTests placeTests isSlot
-  sizes-placed ts pool size index e =
-      let f = passed ((numberTests (sortOf role) t ++ placeTests role t (length pool) size index) ++ ts) e .0 in
-      record { sides = f .1 .0; inside = f .1 .1 .1 .0; room = leb-true _ _ (f .1 .1 .1 .1 .0) }
+  -- from the numbers alone
+  pub numbers-placed : (pool : List ℕ) (size index : ℕ) → judged (openNumbers role t (length pool) size index) ≡ done tt → Placed role t (slotAt pool size index)
+  unfolding openNumbers modulusTests numberTests placeTests isSlot
+  numbers-placed pool size index e =
+      let s = passed (openNumbers role t (length pool) size index) e .0 .1 .1 in
+      record { sides = s .1 .0; inside = s .1 .1 .1 .0; room = leb-true _ _ (s .1 .1 .1 .1 .0) }
 
   pub received-placed : (a : Head) (count : ℕ) (pool : List ℕ) (size index : ℕ)
       → judged (receivedNumbers role t a count (length pool) size index) ≡ done tt → Placed role t (slotAt pool size index)
@@ -67,3 +67,8 @@ module _ (role : Role) (t : Terms) where
   received-placed a count pool size index e =
       let s = passed (receivedNumbers role t a count (length pool) size index) e .0 .1 .1 .1 .1 .1 .1 .1 .1 .1 in
       record { sides = s .1 .0; inside = s .1 .1 .1 .0; room = leb-true _ _ (s .1 .1 .1 .1 .0) }
+
+  -- the same with tests of the turn behind them
+  pub turn-placed : (a : Head) (count : ℕ) (pool : List ℕ) (size index : ℕ) (ts : List Test)
+      → judged (receivedNumbers role t a count (length pool) size index ++ ts) ≡ done tt → Placed role t (slotAt pool size index)
+  turn-placed a count pool size index ts e = received-placed a count pool size index (first-passed (receivedNumbers role t a count (length pool) size index) ts e)

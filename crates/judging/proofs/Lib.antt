@@ -5,6 +5,7 @@
 -- KindLaws the two sorts of message: their sides and sizes
 -- Header   the numbers of a tape's header as one test
 -- Phases   the shared groups of tests, in the phases in which the code makes them
+-- Steps    the tests of steps, in the phases in which the code makes them
 -- Fits     what is known where the shared tests of a received message passed
 -- Leaving  what a step leaves, refused and accepted
 pub mod InOrder
@@ -13,5 +14,6 @@ pub mod Join
 pub mod KindLaws
 pub mod Header
 pub mod Phases
+pub mod Steps
 pub mod Fits
 pub mod Leaving

@@ -1,15 +1,15 @@
 -- The groups of tests that the steps share, over the numbers that the code has at that point. Assumes nothing.
 use mathlib.Core.List.{List, [], _∷_, _++_}
-use mathlib.Core.Bool.{Bool}
+use mathlib.Core.Bool.{Bool, false}
 use Prim.Native.Nat.{ℕ, _/_}
 use lib.Dec.{eqb, ltb, leb}
 use Rattle.algebra.specs.Count.{both}
 use Rattle.protocol.specs.declared.Terms.{Terms}
 use Rattle.protocol.specs.declared.Head.{Head}
-use Rattle.protocol.specs.declared.Refusal.the-variants.{Form, Modulus, Composite, Size, Stranger}
+use Rattle.protocol.specs.declared.Refusal.the-variants.{Form, Modulus, Composite, Size, Turn, Stranger}
 use Rattle.protocol.specs.Judge.{Test, needs}
 use Rattle.protocol.specs.Bounds.{Sort, within, largestModulus, fieldFits, sidesFit}
-use Rattle.protocol.specs.Tape.{Role, tapeSize}
+use Rattle.protocol.specs.Tape.{Role, sortOf, tapeSize}
 use Rattle.protocol.specs.Message.{kindSort, messageSize}
 
 -- the modulus of a session
@@ -31,7 +31,15 @@ unfoldable pub placeTests : Role → Terms → (pool size index : ℕ) → List 
 placeTests role t pool size index =
     needs Size (ltb index (pool / size)) ∷ needs Size (leb (tapeSize role (t .m) (t .k) (t .p)) size) ∷ []
 
--- the same where it is known whether the sides fit
+-- a session's numbers, its modulus and its half's place
+unfoldable pub openNumbers : Role → Terms → (pool size index : ℕ) → List Test
+openNumbers role t pool size index = modulusTests (sortOf role) (t .q) ++ (numberTests (sortOf role) t ++ placeTests role t pool size index)
+
+-- of a closed session without a message: its slot, and that nothing is due
+unfoldable pub noneDue : (pool size index : ℕ) → List Test
+noneDue pool size index = needs Size (ltb index (pool / size)) ∷ needs Turn false ∷ []
+
+-- the numbers of a session where it is known whether the sides fit
 unfoldable pub idTests : Terms → (fits : Bool) → List Test
 idTests t fits = needs Size (leb 1 (t .session .0)) ∷ needs Size fits ∷ needs Size (leb 1 (t .tape .0)) ∷ []
 

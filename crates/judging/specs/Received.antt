@@ -3,10 +3,11 @@
 --   sentTests        the words of the message
 --   receivedWords    the words of the half and of the message
 --   closedTests      what is left of them where the session is closed
+--   firstReceived, laterReceived   the numbers with the turn
 use mathlib.Core.Bool.{false}
 use mathlib.Core.List.{List, [], _∷_, _++_}
 use Prim.Native.Nat.{ℕ, _/_}
-use lib.Dec.{ltb}
+use lib.Dec.{eqb, ltb}
 use Rattle.protocol.specs.declared.Terms.{Terms}
 use Rattle.protocol.specs.declared.Head.{Head}
 use Rattle.protocol.specs.declared.Refusal.the-variants.{Size, Turn, Residue}
@@ -37,3 +38,12 @@ closedTests a count pool size index =
     kindTests a
     ++ ((numberTests (kindSort (a .kind)) (a .terms) ++ countTests a count)
     ++ (needs Size (ltb index (pool / size)) ∷ needs Turn false ∷ []))
+
+-- the numbers of a first step that takes a message of this kind, and that it is due
+unfoldable pub firstReceived : Role → (kind : ℕ) → Terms → Head → (count pool size index : ℕ) → List Test
+firstReceived role kind t a count pool size index = receivedNumbers role t a count pool size index ++ (needs Turn (eqb (a .kind) kind) ∷ [])
+
+-- the same of a later step, which has to be due itself
+unfoldable pub laterReceived : Role → (kind due : ℕ) → Terms → Head → (count pool size index : ℕ) → List Test
+laterReceived role kind due t a count pool size index =
+    receivedNumbers role t a count pool size index ++ (needs Turn (eqb due kind) ∷ needs Turn (eqb (a .kind) kind) ∷ [])

@@ -6,6 +6,7 @@
 //   numbers            the numbers of a session, of its slot and of a message
 //   half, held         the words of a half, in its slot and in its pool
 //   received           what every step checks that takes a message
+//   step               what steps and drops check, whatever their end
 // No function here is for hosts.
 pub mod half;
 pub mod held;
@@ -13,6 +14,7 @@ pub mod message;
 pub mod numbers;
 pub mod order;
 pub mod received;
+pub mod step;
 
 pub use order::need;
 pub use order::worst;

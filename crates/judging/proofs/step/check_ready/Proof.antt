@@ -1,0 +1,21 @@
+-- `judging::step::check_ready` meets its contract. Assumes nothing.
+use Rattle.judging.proofs.Join.{also}
+use borrow.Author.Needs.{needs}
+use Rattle.judging.proofs.step.check_ready.Statement.{statement}
+use Rattle.judging.proofs.step.check_ready.Tie as tie
+
+check-tape-requires : tie.Need-check-tape-requires
+check-tape-requires c κs = search needs
+
+check-body-requires : tie.Need-check-body-requires
+check-body-requires c κs = search needs
+
+worst-requires : tie.Need-worst-requires
+worst-requires c κs = search needs
+
+returns : tie.Need-returns
+returns c = also _ _ (c .worst .ensures) (c .before .before .check-tape .ensures) (c .before .check-body .ensures)
+
+pub check-ready-spec : {M : Type 1} → statement M
+check-ready-spec =
+    tie.close (tie.spec check-tape-requires check-body-requires worst-requires returns)

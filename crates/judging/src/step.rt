@@ -1,0 +1,169 @@
+// What steps and drops check, whatever their end: the tests of a session, its slot and its message. A step joins its own tests by `worst`.
+//   check_first            a first step: `firstTests`
+//   check_first_received   a first step that takes a message
+//   check_later            a later step, which takes one too
+//   check_open             a drop: `openTests`
+use crate::Check;
+use crate::held::check_arrived;
+use crate::held::check_body;
+use crate::held::check_tape;
+use crate::numbers::check_modulus;
+use crate::numbers::check_sizes;
+use crate::order::need;
+use crate::order::worst;
+use crate::received;
+use protocol::Head;
+use protocol::Refusal;
+use protocol::Terms;
+use tape::End;
+use tape::header::IN_USE;
+use tape::header::READY;
+use tape::is_slot;
+ghost use mathlib.Core.Path.{_≡_};
+ghost use mathlib.Core.List.{_++_};
+ghost use lib.ListN.{length};
+ghost use Rattle.protocol.specs.Tape.{slotAt, slotWords, tapeTests, bodyTests};
+ghost use Rattle.protocol.specs.Message.{messageWith, messageTests, dueTests};
+ghost use Rattle.protocol.specs.Step.{firstTests, openTests, laterTests};
+ghost use Rattle.protocol.specs.Tape.{READY};
+ghost use Rattle.tape.specs.Ends.{role};
+ghost use Rattle.tape.specs.Placed.{Placed};
+ghost use Rattle.judging.specs.InOrder.{checked, judged};
+ghost use Rattle.judging.specs.Groups.{openNumbers, noneDue};
+ghost use Rattle.judging.specs.Received.{firstReceived, laterReceived};
+
+// ---- without a message
+
+// The numbers of a session, and its slot's.
+fn check_numbers(end: End, t: Terms, pool: usize, size: usize, index: usize) -> Check
+    ensures { λ r. ⌜ checked r ≡ judged (openNumbers (role end) t pool size index) ⌝ }
+{
+    let modulus = check_modulus(end, t.q);
+    let sizes = check_sizes(end, t, pool, size, index);
+    worst(modulus, sizes)
+}
+
+// The words of a half that is ready.
+fn check_ready(end: End, t: Terms, pool: &[u32], size: usize, index: usize) -> Check
+    requires { ⌜ Placed (role end) t (slotAt (now pool) size index) ⌝ }
+    ensures { λ r. ⌜ checked r ≡ judged (tapeTests (role end) READY t (slotWords (slotAt (now (pool .entry)) size index)) ++ bodyTests (role end) t (slotWords (slotAt (now (pool .entry)) size index))) ⌝ }
+{
+    let tape = check_tape(end, READY, t, pool, size, index);
+    let body = check_body(end, t, pool, size, index);
+    worst(tape, body)
+}
+
+pub fn check_first(end: End, t: Terms, pool: &[u32], size: usize, index: usize) -> Check
+    ensures { λ r. ⌜ checked r ≡ judged (firstTests (role end) t (slotAt (now (pool .entry)) size index)) ⌝ }
+{
+    let numbers = check_numbers(end, t, pool.len(), size, index);
+    let Check::Passed = numbers else {
+        return numbers;
+    };
+    check_ready(end, t, pool, size, index)
+}
+
+// Nothing is due: of the session's own numbers none is judged.
+fn check_none_due(pool: usize, size: usize, index: usize) -> Check
+    ensures { λ r. ⌜ checked r ≡ judged (noneDue pool size index) ⌝ }
+{
+    let slot = need(Refusal::Size, is_slot(pool, size, index));
+    let due = need(Refusal::Turn, false);
+    worst(slot, due)
+}
+
+pub fn check_open(end: End, due: u32, t: Terms, pool: &[u32], size: usize, index: usize) -> Check
+    ensures { λ r. ⌜ checked r ≡ judged (openTests (role end) due t (slotAt (now (pool .entry)) size index)) ⌝ }
+{
+    if due == 0 {
+        return check_none_due(pool.len(), size, index);
+    }
+    let numbers = check_numbers(end, t, pool.len(), size, index);
+    let Check::Passed = numbers else {
+        return numbers;
+    };
+    check_tape(end, IN_USE, t, pool, size, index)
+}
+
+// ---- with a message
+
+// The numbers of session, slot and message, and that it is the message due.
+fn check_first_numbers(
+    end: End,
+    kind: u32,
+    t: Terms,
+    a: Head,
+    count: usize,
+    pool: usize,
+    size: usize,
+    index: usize,
+) -> Check
+    ensures { λ r. ⌜ checked r ≡ judged (firstReceived (role end) kind t a count pool size index) ⌝ }
+{
+    let numbers = received::check_numbers(end, t, a, count, pool, size, index);
+    let due = need(Refusal::Turn, a.kind == kind);
+    worst(numbers, due)
+}
+
+pub fn check_first_received(
+    end: End,
+    kind: u32,
+    t: Terms,
+    a: Head,
+    residues: &[u32],
+    pool: &[u32],
+    size: usize,
+    index: usize,
+) -> Check
+    ensures { λ r. ⌜ checked r ≡ judged (messageTests (messageWith a (now (residues .entry))) ++ (firstTests (role end) t (slotAt (now (pool .entry)) size index) ++ dueTests kind t (messageWith a (now (residues .entry))))) ⌝ }
+{
+    let numbers = check_first_numbers(end, kind, t, a, residues.len(), pool.len(), size, index);
+    let Check::Passed = numbers else {
+        return numbers;
+    };
+    check_arrived(end, READY, t, a, residues, pool, size, index)
+}
+
+// The same of a later step, which has to be due itself.
+fn check_later_numbers(
+    end: End,
+    kind: u32,
+    due: u32,
+    t: Terms,
+    a: Head,
+    count: usize,
+    pool: usize,
+    size: usize,
+    index: usize,
+) -> Check
+    ensures { λ r. ⌜ checked r ≡ judged (laterReceived (role end) kind due t a count pool size index) ⌝ }
+{
+    let numbers = received::check_numbers(end, t, a, count, pool, size, index);
+    let step = need(Refusal::Turn, due == kind);
+    let message = need(Refusal::Turn, a.kind == kind);
+    worst(numbers, worst(step, message))
+}
+
+pub fn check_later(
+    end: End,
+    kind: u32,
+    due: u32,
+    t: Terms,
+    a: Head,
+    residues: &[u32],
+    pool: &[u32],
+    size: usize,
+    index: usize,
+) -> Check
+    ensures { λ r. ⌜ checked r ≡ judged (messageTests (messageWith a (now (residues .entry))) ++ (laterTests (role end) kind due t (slotAt (now (pool .entry)) size index) ++ dueTests kind t (messageWith a (now (residues .entry))))) ⌝ }
+{
+    let count = residues.len();
+    if due == 0 {
+        return received::check_closed(a, count, pool.len(), size, index);
+    }
+    let numbers = check_later_numbers(end, kind, due, t, a, count, pool.len(), size, index);
+    let Check::Passed = numbers else {
+        return numbers;
+    };
+    check_arrived(end, IN_USE, t, a, residues, pool, size, index)
+}
