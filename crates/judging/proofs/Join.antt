@@ -5,10 +5,11 @@
 --   also           the same of what check functions answered
 --   first-passed   the first of two groups passed where both did
 --   judged-phases  where the sorted tests are the phases' sorted tests, one after the other
+--   last-phase     tests that come last may be made where the others passed
 --   hands-on, goes-past  what a caller of a check function concludes
 -- Assumes nothing.
 use mathlib.Core.Path.{_≡_, refl, sym, ap, ap₂, _∙_}
-use mathlib.Core.Bool.{Bool, true, false}
+use mathlib.Core.Bool.{Bool, true, false, false≢true}
 use mathlib.Core.List.{List, [], _∷_, _++_}
 use Prim.Native.Nat.{_<_, _≤_}
 use native.Mathlib.Omega.{arith}
@@ -99,6 +100,32 @@ phases (p ∷ ps) = verdict-then (sorted p) (sortedPhases ps) ∙ ap₂ after (s
 
 pub judged-phases : (ts : List Test) (ps : List (List Test)) → sorted ts ≡ sortedPhases ps → judged ts ≡ inPhases ps
 judged-phases ts ps e = judge-sorted ts tt ∙ ap verdict e ∙ phases ps
+
+-- tests of which none comes before r, made where those that do not come after it passed
+pub last-phase : (r : Refusal) (ts us : List Test) → ((s : Refusal) → placeOf r < placeOf s → clear s ts ≡ true) → ((s : Refusal) → placeOf s < placeOf r → clear s us ≡ true)
+    → judged (ts ++ us) ≡ after (judged ts) (judged us)
+last-phase r ts us h k = judged-join ts us ∙ go (judged ts) refl
+  where
+    -- what is refused among ts does not come after r, and so not after any of us
+    go : (v : Judged Unit) → judged ts ≡ v → lower v (judged us) ≡ after v (judged us)
+    go (done u) e = refl
+    go (refused s) e = pick (judged us) refl
+      where
+        not-later : placeOf s ≤ placeOf r
+        not-later =
+            elim (decLt (placeOf r) (placeOf s)) [
+              | yes l ↦ absurd (false≢true (sym (lowest ts tt s e .applies) ∙ h s l))
+              | no l ↦ omega arith
+            ]
+
+        pick : (w : Judged Unit) → judged us ≡ w → lower (refused s) w ≡ refused s
+        pick (done u) f = refl
+        pick (refused x) f =
+            let least : placeOf r ≤ placeOf x = elim (decLt (placeOf x) (placeOf r)) [
+              | yes l ↦ absurd (false≢true (sym (lowest us tt x f .applies) ∙ k x l))
+              | no l ↦ omega arith
+            ] in
+            rw (le-ltb (placeOf x) (placeOf s) (omega (arith, not-later)))
 
 -- ---- an inner answer, handed on or passed
 

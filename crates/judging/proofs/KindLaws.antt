@@ -1,15 +1,18 @@
--- The two sorts of message: `few`, the bound on a message's residues; `size-1` to `size-5`, its residues by kind; `whole-message`.
+-- The two sorts of message: `few`, the bound on a message's residues; `size-1` to `size-5`, its residues by kind; `whole-message`;
+-- `two-parts`, `no-second`, `room-left`, for the room of a message.
 -- Assumes nothing.
-use mathlib.Core.Path.{_≡_}
-use mathlib.Core.Bool.{true}
-use Prim.Native.Nat.{ℕ, _+_, _*_, _≤_, _<_}
-use native.Mathlib.Nat.{mul-le-mul, mul-le-mul-left}
+use mathlib.Core.Path.{_≡_, refl, sym, _∙_}
+use mathlib.Core.Bool.{Bool, true, false, cond}
+use mathlib.Core.List.{List, [], _∷_}
+use Prim.Native.Nat.{ℕ, _+_, _-_, _*_, _≤_, _<_}
+use native.Mathlib.Nat.{mul-le-mul-left}
+use native.Mathlib.Decide.{decLe}
 use native.Mathlib.Omega.{arith}
-use lib.ListN.{length}
+use lib.Dec.{eqb, leb}
+use lib.ListN.{length, getD}
 use lib.Seq.{take-all}
-use borrow.Author.Tests.{lt-ltb, le-ltb, ne-eqb, leb-true, eqb-true}
-use Rattle.algebra.specs.Count.{part, parts}
-use Rattle.algebra.proofs.Count.{and-left, and-right}
+use borrow.Author.Tests.{lt-ltb, le-ltb, le-leb, lt-leb, ne-eqb}
+use Rattle.algebra.specs.Count.{part, parts, total}
 use Rattle.protocol.specs.declared.Terms.{Terms}
 use Rattle.protocol.specs.Bounds.{Sort, product, system, within, sidesFit, columns}
 use Rattle.protocol.specs.Message.{Message, kindSort, messageLayout, messageSize, messageParts}
@@ -56,3 +59,41 @@ module _ (t : Terms) where
 pub whole-message : (t : Terms) (a : Message) → length (a .residues) ≡ t .k * t .p → part 0 (messageParts 1 t a) ≡ a .residues
 unfolding messageParts messageLayout parts
 whole-message t a e = take-all (t .k * t .p) (a .residues) (omega arith)
+
+-- ---- the two parts of a message
+
+-- by the tests on its kind
+cases : (kind : ℕ) (P : List ℕ → Type 0) (t : Terms) → P (t .k * t .p ∷ []) → P (t .m * t .k ∷ t .m * t .p ∷ []) → P (t .m * t .k ∷ [])
+    → P (t .m * t .k ∷ t .m * columns (t .m) (t .p) ∷ []) → P (t .m * columns (t .m) (t .p) ∷ []) → P (messageLayout kind (t .m) (t .k) (t .p))
+unfolding messageLayout
+cases kind P t a b c d e = go (eqb kind 1) (eqb kind 2) (eqb kind 3) (eqb kind 4)
+  where
+    go : (x y z w : Bool) → P (cond x (t .k * t .p ∷ []) (cond y (t .m * t .k ∷ t .m * t .p ∷ []) (cond z (t .m * t .k ∷ [])
+        (cond w (t .m * t .k ∷ t .m * columns (t .m) (t .p) ∷ []) (t .m * columns (t .m) (t .p) ∷ [])))))
+    go true y z w = a
+    go false true z w = b
+    go false false true w = c
+    go false false false true = d
+    go false false false false = e
+
+pub two-parts : (kind : ℕ) (t : Terms) → getD (messageLayout kind (t .m) (t .k) (t .p)) 0 0 + getD (messageLayout kind (t .m) (t .k) (t .p)) 1 0 ≡ messageSize kind t
+unfolding messageSize
+two-parts kind t = cases kind (λ l. getD l 0 0 + getD l 1 0 ≡ total l) t (omega arith) (omega arith) (omega arith) (omega arith) (omega arith)
+
+-- no kind but 2 and 4 has a second part
+pub no-second : (kind : ℕ) (t : Terms) → (kind ≡ 2 → ⊥) → (kind ≡ 4 → ⊥) → getD (messageLayout kind (t .m) (t .k) (t .p)) 1 0 ≡ 0
+unfolding messageLayout
+no-second kind t a b = rw (ne-eqb kind 2 a, ne-eqb kind 4 b) (go (eqb kind 1) (eqb kind 3))
+  where
+    go : (x z : Bool) → getD (cond x (t .k * t .p ∷ []) (cond z (t .m * t .k ∷ []) (t .m * columns (t .m) (t .p) ∷ []))) 1 0 ≡ 0
+    go true z = refl
+    go false true = refl
+    go false false = refl
+
+-- room for two, tested by taking the first from it
+pub room-left : (a b room : ℕ) → a ≤ room → leb b (room - a) ≡ leb (a + b) room
+room-left a b room h = go (decLe b (room - a))
+  where
+    go : Dec (b ≤ room - a) → leb b (room - a) ≡ leb (a + b) room
+    go (yes l) = le-leb b (room - a) l ∙ sym (le-leb (a + b) room (omega arith))
+    go (no l) = lt-leb b (room - a) (omega arith) ∙ sym (lt-leb (a + b) room (omega arith))

@@ -1,6 +1,6 @@
 // A message's kind and size.
 //   kind_known, kind_field, kind_sides_fit   its kind, its modulus and its sides
-//   message_size, side_size                  how many residues it has
+//   message_size, side_size, has_room        how many residues it has, and room for them
 //   no_head                                  the head where nothing is sent
 use field::Field;
 use field::FieldAnswer;
@@ -13,7 +13,9 @@ use vectors::times;
 ghost use mathlib.Core.Path.{_≡_};
 ghost use Prim.Native.Nat.{_+_, _*_, _≤_};
 ghost use Rattle.protocol.specs.Bounds.{within, sidesFit};
-ghost use Rattle.protocol.specs.Message.{kindSort, messageSize, noMessage};
+ghost use lib.Dec.{leb};
+ghost use lib.ListN.{getD};
+ghost use Rattle.protocol.specs.Message.{kindSort, messageLayout, messageSize, noMessage};
 ghost use Rattle.protocol.specs.System.{sideSize};
 ghost use Rattle.field.specs.Field.{made, sortFieldOf};
 
@@ -76,6 +78,48 @@ pub fn message_size(kind: u32, t: Terms) -> usize
         return times(t.m, t.k) + side_size(t);
     }
     side_size(t)
+}
+
+// The first and the second part of a message.
+fn first_part(kind: u32, t: Terms) -> usize
+    ensures { λ r. ⌜ r ≡ getD (messageLayout kind (t .m) (t .k) (t .p)) 0 0 ⌝ }
+{
+    if kind == 1 {
+        return times(t.k, t.p);
+    }
+    if kind == 2 {
+        return times(t.m, t.k);
+    }
+    if kind == 3 {
+        return times(t.m, t.k);
+    }
+    if kind == 4 {
+        return times(t.m, t.k);
+    }
+    side_size(t)
+}
+
+fn second_part(kind: u32, t: Terms) -> usize
+    ensures { λ r. ⌜ r ≡ getD (messageLayout kind (t .m) (t .k) (t .p)) 1 0 ⌝ }
+{
+    if kind == 2 {
+        return times(t.m, t.p);
+    }
+    if kind == 4 {
+        return side_size(t);
+    }
+    0
+}
+
+// A message has room; any sides may be handed over.
+pub fn has_room(kind: u32, t: Terms, room: usize) -> bool
+    ensures { λ r. ⌜ r ≡ leb (messageSize kind t) room ⌝ }
+{
+    let first = first_part(kind, t);
+    if room < first {
+        return false;
+    }
+    second_part(kind, t) <= room - first
 }
 
 pub fn no_head() -> Head

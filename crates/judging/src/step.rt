@@ -3,6 +3,7 @@
 //   check_first_received   a first step that takes a message
 //   check_later            a later step, which takes one too
 //   check_open             a drop: `openTests`
+//   check_room             room that an open session asks for
 use crate::Check;
 use crate::held::check_arrived;
 use crate::held::check_body;
@@ -20,11 +21,13 @@ use tape::header::IN_USE;
 use tape::header::READY;
 use tape::is_slot;
 ghost use mathlib.Core.Path.{_≡_};
-ghost use mathlib.Core.List.{_++_};
+ghost use mathlib.Core.List.{[], _∷_, _++_};
+ghost use Rattle.protocol.specs.declared.Refusal.the-variants.{Size};
+ghost use Rattle.protocol.specs.Judge.{needs, given};
 ghost use lib.ListN.{length};
 ghost use Rattle.protocol.specs.Tape.{slotAt, slotWords, tapeTests, bodyTests};
 ghost use Rattle.protocol.specs.Message.{messageWith, messageTests, dueTests};
-ghost use Rattle.protocol.specs.Step.{firstTests, openTests, laterTests};
+ghost use Rattle.protocol.specs.Step.{firstTests, isOpen, openTests, laterTests};
 ghost use Rattle.protocol.specs.Tape.{READY};
 ghost use Rattle.tape.specs.Ends.{role};
 ghost use Rattle.tape.specs.Placed.{Placed};
@@ -166,4 +169,14 @@ pub fn check_later(
         return numbers;
     };
     check_arrived(end, IN_USE, t, a, residues, pool, size, index)
+}
+
+// Room that an open session asks for.
+pub fn check_room(due: u32, fits: bool) -> Check
+    ensures { λ r. ⌜ checked r ≡ judged (given (isOpen due) (needs Size fits ∷ [])) ⌝ }
+{
+    if due == 0 {
+        return Check::Passed;
+    }
+    need(Refusal::Size, fits)
 }
