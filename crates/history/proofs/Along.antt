@@ -45,11 +45,11 @@ module _ (size : Party → ℕ) (start : Party → List ℕ) (empty : Empty size
       agrees = record {
         is-begun = g .is-begun;
         role-is = g .role-is ∙ sym (p .own-half d none (found .1));
-        tape-is = ap (λ (t : Terms). t .tape .0) (g .terms-are) ∙ sym (g .half .tape-is) ∙ ap (λ (z : List ℕ). getD z tapeAt 0) words ∙ tape-number _ _ d _;
-        q-is = ap (λ (t : Terms). t .q) (g .terms-are) ∙ sym (g .half .q-is) ∙ ap (λ (z : List ℕ). getD z qAt 0) words ∙ tape-q _ _ d _;
-        m-is = ap (λ (t : Terms). t .m) (g .terms-are) ∙ sym (g .half .m-is) ∙ ap (λ (z : List ℕ). getD z mAt 0) words ∙ tape-m _ _ d _;
-        k-is = ap (λ (t : Terms). t .k) (g .terms-are) ∙ sym (g .half .k-is) ∙ ap (λ (z : List ℕ). getD z kAt 0) words ∙ tape-k _ _ d _;
-        p-is = ap (λ (t : Terms). t .p) (g .terms-are) ∙ sym (g .half .p-is) ∙ ap (λ (z : List ℕ). getD z pAt 0) words ∙ tape-p _ _ d _;
+        tape-is = ap (λ (t : Terms). t .tape .0) (g .terms-are) ∙ sym (g .first .half .tape-is) ∙ ap (λ (z : List ℕ). getD z tapeAt 0) words ∙ tape-number _ _ d _;
+        q-is = ap (λ (t : Terms). t .q) (g .terms-are) ∙ sym (g .first .half .q-is) ∙ ap (λ (z : List ℕ). getD z qAt 0) words ∙ tape-q _ _ d _;
+        m-is = ap (λ (t : Terms). t .m) (g .terms-are) ∙ sym (g .first .half .m-is) ∙ ap (λ (z : List ℕ). getD z mAt 0) words ∙ tape-m _ _ d _;
+        k-is = ap (λ (t : Terms). t .k) (g .terms-are) ∙ sym (g .first .half .k-is) ∙ ap (λ (z : List ℕ). getD z kAt 0) words ∙ tape-k _ _ d _;
+        p-is = ap (λ (t : Terms). t .p) (g .terms-are) ∙ sym (g .first .half .p-is) ∙ ap (λ (z : List ℕ). getD z pAt 0) words ∙ tape-p _ _ d _;
       };
       way = Way.fresh t k refl refl new g;
       acted = acts;
@@ -59,10 +59,10 @@ module _ (size : Party → ℕ) (start : Party → List ℕ) (empty : Empty size
         g = begins-sound t k (slotOf size (st .pools) w i) (st .scratches b) f acts
 
         inside : isSlot (slotOf size start w i) ≡ true
-        inside = inside-start size start v w i (g .half .inside)
+        inside = inside-start size start v w i (g .first .half .inside)
 
         found : (d : Dealing) × (place l w i ≡ holds d none)
-        found = ready-place size start (st .sessions) w i (empty w i inside) (place l w i) (sym (ap statusOf (v .shown w i inside)) ∙ g .half .status-is)
+        found = ready-place size start (st .sessions) w i (empty w i inside) (place l w i) (sym (ap statusOf (v .shown w i inside)) ∙ g .first .half .status-is)
 
         d : Dealing
         d = found .0
