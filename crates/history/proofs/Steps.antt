@@ -309,7 +309,13 @@ pub t-sends : (y : SolverSession) (s : Slot) (m : Message) → TermsFit system (
 t-sends y s m t true e = inr (t-sent y s m t e)
 t-sends y s m t false e = inl (unfold solverLastEffect in rw e)
 
+-- a step that takes a message waits for one of a kind from 1 up
+abbrev pub Waits : (takes : ℕ) → List Message → Type 0
+Waits takes [] = Unit
+Waits takes (_ ∷ _) = 0 < takes
+
 pub record LaterLaw (k : Later) (x : Session) (s : Slot) (u : List ℕ) : Type 1 where
+  pub waits : Waits (laterRow k .takes) (takenLater k)
   pub Needs : Type 0
   pub effect : Effect Session
   pub decides : Decides (runLater k x s u) effect Needs
@@ -318,12 +324,14 @@ pub record LaterLaw (k : Later) (x : Session) (s : Slot) (u : List ℕ) : Type 1
 unfoldable pub later-law : (k : Later) (x : Session) (s : Slot) (u : List ℕ) → LaterLaw k x s u
 unfolding runLater rightLastEffect solverSecondEffect solverLastEffect blinderSecondEffect blinderLastEffect
 later-law (right-last m room) x s u = record {
+  waits = omega arith;
   Needs = tests.RightLastFits (asRight x) s m room;
   effect = asAny rightEnd (rightLastEffect (asRight x) s m);
   decides = any-decides rightEnd (tests.right-last (asRight x) s m room);
   known = λ n. went x refl (n .later .session-open) (n .later .due-is, inl refl) (n .message, λ p. refl) (inl refl);
 }
 later-law (solver-second m room) x s u = record {
+  waits = omega arith;
   Needs = tests.SolverFits 2 (asSolver x) s m (messageSize 3 (asSolver x .terms)) room;
   effect = asAny solverEnd (solverSecondEffect (asSolver x) s m);
   decides = any-decides solverEnd (tests.solver-second (asSolver x) s m room);
@@ -331,6 +339,7 @@ later-law (solver-second m room) x s u = record {
       went x refl (n .later .session-open) (n .later .due-is, inr (omega arith)) (n .message, λ p. in-system p) (inr (f-sent (asSolver x) s m (n .later .session-open .terms)));
 }
 later-law (solver-last m room) x s u = record {
+  waits = omega arith;
   Needs = tests.SolverFits 4 (asSolver x) s m (messageSize 5 (asSolver x .terms)) room;
   effect = asAny solverEnd (solverLastEffect (asSolver x) s m);
   decides = any-decides solverEnd (tests.solver-last (asSolver x) s m room);
@@ -338,6 +347,7 @@ later-law (solver-last m room) x s u = record {
       went x refl (n .later .session-open) (n .later .due-is, inl refl) (n .message, λ p. in-system p) (t-sends (asSolver x) s m (n .later .session-open .terms) _ refl);
 }
 later-law (blinder-second m room) x s u = record {
+  waits = omega arith;
   Needs = tests.BlinderFits 3 (asBlinder x) s u m (messageSize 4 (asBlinder x .terms)) room;
   effect = asAny blinderEnd (blinderSecondEffect (asBlinder x) s u m);
   decides = any-decides blinderEnd (tests.blinder-second (asBlinder x) s u m room);
@@ -345,24 +355,28 @@ later-law (blinder-second m room) x s u = record {
       went x refl (n .later .session-open) (n .later .due-is, inr (omega arith)) (n .message, λ p. in-system p) (inr (w-sent (asBlinder x) s u m (n .later .session-open .terms)));
 }
 later-law (blinder-last m room) x s u = record {
+  waits = omega arith;
   Needs = tests.BlinderFits 5 (asBlinder x) s u m (sideSize (asBlinder x .terms)) room;
   effect = asAny blinderEnd (blinderLastEffect (asBlinder x) s u m);
   decides = any-decides blinderEnd (tests.blinder-last (asBlinder x) s u m room);
   known = λ n. went x refl (n .later .session-open) (n .later .due-is, inl refl) (n .message, λ p. in-system p) (inl refl);
 }
 later-law right-drop x s u = record {
+  waits = tt;
   Needs = OpenFits right (asRight x .due) (asRight x .terms) s;
   effect = asAny rightEnd (dropped (closedRight (asRight x)) (wordsSpent right (asRight x .terms) (slotWords s)) []);
   decides = any-decides rightEnd (tests.drop-right (asRight x) s);
   known = λ n. went x refl n refl tt (inl refl);
 }
 later-law solver-drop x s u = record {
+  waits = tt;
   Needs = OpenFits solver (asSolver x .due) (asSolver x .terms) s;
   effect = asAny solverEnd (dropped (closedSolver (asSolver x)) (wordsSpent solver (asSolver x .terms) (slotWords s)) []);
   decides = any-decides solverEnd (tests.drop-solver (asSolver x) s);
   known = λ n. went x refl n refl tt (inl refl);
 }
 later-law blinder-drop x s u = record {
+  waits = tt;
   Needs = tests.DropBlinderFits (asBlinder x) s u;
   effect = asAny blinderEnd (dropped (closedBlinder (asBlinder x)) (wordsSpent blinder (asBlinder x .terms) (slotWords s)) (zeros (scratchSize (asBlinder x .terms))));
   decides = any-decides blinderEnd (tests.drop-blinder (asBlinder x) s u);
