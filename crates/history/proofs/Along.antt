@@ -19,7 +19,8 @@ use Rattle.history.specs.Log.{Party, opposite, State, Call, dealing, beg
 use Rattle.history.specs.Claim.{Empty}
 use Rattle.history.specs.Contents.{servedWords, halfWords, placeWords}
 use Rattle.history.proofs.Words.{tape-number, tape-q, tape-m, tape-k, tape-p}
-use Rattle.history.proofs.Steps.{Begins, Continues, begins-sound, continues-sound}
+use Rattle.history.proofs.Accepted.{Begins, Continues}
+use Rattle.history.proofs.Steps.{begins-sound, continues-sound}
 use Rattle.history.proofs.Facts.{untouched≢, same-server, same-name, one-half}
 use Rattle.history.proofs.Named.{unbegun}
 use Rattle.history.proofs.Kept.{Agrees, agrees-on, Home, Inv, ready-place, used-place, inside-start, stateAfter, Way, Move, move-keeps, deal-keeps}

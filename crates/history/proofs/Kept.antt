@@ -26,7 +26,7 @@ use Rattle.history.specs.Ends.{Session, absent, isBegun, dueIn, termsIn,
 use Rattle.history.specs.Log.{choose, setAt, Party, party-eq, opposite, State, Dealing, Did, Entry, dealt, did, slotOf, afterDealing, afterStep, halfRole, Place, untouched, holds, serving, here, placeAfter, place, WasDealt, numberOf, Distinct, Stated}
 use Rattle.history.specs.Contents.{half, tapeOn, servedWords, halfWords, placeWords}
 use Rattle.history.proofs.Words.{length-pool, same-slot, other-slot, tail-stays, tape-status, length-tape, tape-marked, tape-spent}
-use Rattle.history.proofs.Steps.{leaveFirst, leaveLater, Begins, Continues}
+use Rattle.history.proofs.Accepted.{leaveFirst, leaveLater, Begins, Continues}
 use Rattle.history.proofs.Facts.{chosen-yes, chosen-no, set-same, set-other, none≢, absent≢, same-dealing, same-server, same-name, elsewhere, begun-here, gone-on, place-known, one-half}
 use Rattle.history.proofs.Dealt.{Fine, dealt-fine, dealt-pools}
 

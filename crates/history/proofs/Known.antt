@@ -3,11 +3,10 @@
 --   SeenBy                      the same with what the session itself keeps, while it is open
 --   first-seen                  after a first step
 -- Assumes nothing.
-use mathlib.Core.Path.{_≡_, refl, sym, ap, _∙_, subst, subst₂}
+use mathlib.Core.Path.{_≡_, refl, sym, _∙_, subst, subst₂}
 use mathlib.Core.Bool.{true}
 use mathlib.Core.List.{List, [], _∷_}
-use Prim.Native.Nat.{ℕ, suc, _+_, _*_, _≤_, _<_}
-use native.Mathlib.Omega.{arith}
+use Prim.Native.Nat.{ℕ, suc, _+_, _≤_, _<_}
 use lib.ListN.{length}
 use Rattle.algebra.specs.Matrix.{Residues, matMul}
 use Rattle.algebra.specs.Count.{part, parts, total}
@@ -18,23 +17,21 @@ use Rattle.protocol.specs.declared.Terms.{Terms}
 use Rattle.protocol.specs.declared.RightSession.{RightSession}
 use Rattle.protocol.specs.declared.SolverSession.{SolverSession}
 use Rattle.protocol.specs.declared.BlinderSession.{BlinderSession}
-use Rattle.protocol.specs.Judge.{done}
 use Rattle.protocol.specs.Drawing.{wordsFor}
 use Rattle.protocol.specs.Bounds.{columns}
 use Rattle.protocol.specs.Tape.{Slot, slotWords, Role, left, right, blinder, solver, sortOf, layout, matrices}
-use Rattle.protocol.specs.Message.{Message, messageLayout, messageSize}
+use Rattle.protocol.specs.Message.{messageLayout, messageSize}
 use Rattle.protocol.specs.Step.{Effect}
-use Rattle.protocol.specs.Product.{rightFirstEffect, leftEffect}
-use Rattle.protocol.specs.System.{padded, coinsOf, scratchSize, solverFirstEffect, blinderFirstEffect}
+use Rattle.protocol.specs.System.{padded}
 use Rattle.protocol.specs.View.{View, facing, coinLayout, kindsSent}
 use Rattle.protocol.specs.Completion.{messagesOf, blinderMessages, coinsFit, Taken}
 use Rattle.protocol.proofs.Tests.{TermsFit, MessageFits}
 use Rattle.protocol.proofs.CompletionLaws.{halfSlot, viewOf}
-use Rattle.protocol.proofs.Completion.{Messages, no-more, _before_, ahead, ownMask, Arises}
-use Rattle.history.specs.Ends.{Session, absent, leftEnd, rightEnd, solverEnd, blinderEnd, First, right-first, left-only, solver-first, blinder-first, roleFirst, runFirst}
+use Rattle.protocol.proofs.Completion.{Messages, ahead, ownMask, Arises}
+use Rattle.history.specs.Ends.{Session, absent, leftEnd, rightEnd, solverEnd, blinderEnd, First, roleFirst}
 use Rattle.history.specs.Seen.{inputOf, coinsDrawn, takenFirst, heard, viewFirst}
-use Rattle.history.proofs.Steps.{Begins, first-law}
-use Rattle.history.proofs.Replay.{said-is, incoming-whole, y-sent, x-sent, y1-sent, x1-sent, right-sends, left-sends, solverOne, solverTwo, SolverBegan, solver-none, y1-is, blinderOne, BlinderBegan, blinder-one, x1-is}
+use Rattle.history.proofs.Accepted.{Begins}
+use Rattle.history.proofs.Replay.{said-is, solverOne, solverTwo, SolverBegan, blinderOne, BlinderBegan}
 
 -- ---- every view
 
@@ -165,11 +162,11 @@ own-mask solver t ls h = refl
 own-mask blinder t ls h = h refl
 
 module _ (t : Terms) (k : First) (s : Slot) (ls : List (List ℕ)) (e : matrices (roleFirst k) t (slotWords s) ≡ ls) where
-  half-now : {f : Effect Session} → Begins t k s f → Fits (t .q) (layout (roleFirst k) (t .m) (t .k) (t .p)) ls
+  pub half-now : {f : Effect Session} → Begins t k s f → Fits (t .q) (layout (roleFirst k) (t .m) (t .k) (t .p)) ls
   half-now g = subst (λ (ls : List (List ℕ)). Fits (t .q) (layout (roleFirst k) (t .m) (t .k) (t .p)) ls) e (g .first .matrices-fit)
 
   -- by the one message that it sent, and the one that it took if there is one
-  first-known : {f : Effect Session} {kind : ℕ} → Begins t k s f → (roleFirst k ≡ blinder → regular (t .q) (t .m) (part 2 ls) ≡ true) → MessageFits (suc kind) t (f .sent)
+  pub first-known : {f : Effect Session} {kind : ℕ} → Begins t k s f → (roleFirst k ≡ blinder → regular (t .q) (t .m) (part 2 ls) ≡ true) → MessageFits (suc kind) t (f .sent)
       → f .sent .residues ∷ [] ≡ messagesOf (roleFirst k) t (halfSlot (roleFirst k) t ls) (coinsDrawn t k) (inputOf k) (heard (f .answer) (takenFirst k))
       → Messages t (kindsSent (roleFirst k)) (f .sent .residues ∷ []) → Messages t (kindsSent (facing (roleFirst k))) (heard (f .answer) (takenFirst k))
       → length (heard (f .answer) (takenFirst k)) ≤ 1 + ahead (roleFirst k) → Known (roleFirst k) t (viewFirst t k ls f)
@@ -187,70 +184,3 @@ module _ (t : Terms) (k : First) (s : Slot) (ls : List (List ℕ)) (e : matrices
     received-fit = mg;
     in-turn = subst (λ (z : List (List ℕ)). length (heard (f .answer) (takenFirst k)) ≤ length z + ahead (roleFirst k)) (sym (said-is m)) l;
   }
-
-first-view : (t : Terms) (k : First) (s : Slot) (u : List ℕ) (ls : List (List ℕ)) → first-law t k s u .Needs → matrices (roleFirst k) t (slotWords s) ≡ ls
-    → (roleFirst k ≡ blinder → regular (t .q) (t .m) (part 2 ls) ≡ true) → Begins t k s (first-law t k s u .effect)
-    → let f = first-law t k s u .effect in SeenBy (f .session) (viewFirst t k ls f) × Gave (roleFirst k) t (f .result) (viewFirst t k ls f)
-unfolding first-law rightFirstEffect leftEffect solverFirstEffect blinderFirstEffect
-first-view t (right-first y room) s u ls n e rq g =
-    let m = y-sent t s y (n .first .terms) in (
-      record {
-        known = first-known t _ s ls e g rq m (sym (right-sends t ls s y room n e [])) (m .residues before no-more) no-more (omega arith);
-        one-sent = ap length (said-is m);
-        waits = λ z. refl;
-      },
-      λ z. absurd (omega (arith, z)),
-    )
-first-view t (left-only x words a room shareRoom) s u ls n e rq g =
-    let m = x-sent t s x words a (n .first .terms) in (
-      first-known t _ s ls e g rq m (sym (left-sends t ls s x words a room shareRoom n e (g .drew))) (m .residues before no-more)
-          (n .message .residues before no-more) (omega arith),
-      refl,
-    )
-first-view t (solver-first l x room) s u ls n e rq g =
-    let m = y1-sent t s l x (n .first .terms) in
-    let b : SolverBegan t ls l x = record { terms = n .first .terms; fits = half-now t _ s ls e g; l-fits = n .l-fits; x-fits = n .x-fits; l-regular = n .l-regular } in (
-      record {
-        known = first-known t _ s ls e g rq m (ap (λ (m : Message). m .residues ∷ []) (y1-is t ls l x b s e) ∙ sym (solver-none t ls l x b))
-            (m .residues before no-more) no-more (omega arith);
-        l = l;
-        x = x;
-        input-is = refl;
-        began = b;
-        stage = s-first refl refl;
-      },
-      tt,
-    )
-first-view t (blinder-first mm y words a room) s u ls n e rq g =
-    let m = x1-sent t s mm y words a (n .first .terms) in
-    let rm = n .message .residues in
-    let b : BlinderBegan t ls mm y (coinsOf t words) = record {
-      terms = n .first .terms;
-      fits = half-now t _ s ls e g;
-      m-fits = n .m-fits;
-      y-fits = n .y-fits;
-      m-regular = n .m-regular;
-      coins-fit = unfold scratchSize in g .drew;
-      p-regular = n .p-regular;
-    } in (
-      record {
-        known = first-known t _ s ls e g rq m
-            (ap (λ (b : Message). b .residues ∷ []) (x1-is t ls mm y (coinsOf t words) b (a .residues) rm s words a (incoming-whole (n .message)) e refl)
-            ∙ sym (blinder-one t ls mm y (coinsOf t words) b (a .residues) rm))
-            (m .residues before no-more) (rm before no-more) (omega arith);
-        mm = mm;
-        y = y;
-        input-is = refl;
-        began = b;
-        stage = b-first (a .residues) rm refl refl;
-      },
-      λ z. absurd (omega (arith, z)),
-    )
-
-pub first-seen : (t : Terms) (k : First) (s : Slot) (u : List ℕ) (f : Effect Session) (ls : List (List ℕ)) → runFirst t k s u ≡ done f → matrices (roleFirst k) t (slotWords s) ≡ ls
-    → (roleFirst k ≡ blinder → regular (t .q) (t .m) (part 2 ls) ≡ true) → SeenBy (f .session) (viewFirst t k ls f) × Gave (roleFirst k) t (f .result) (viewFirst t k ls f)
-first-seen t k s u f ls h e rq =
-    let law = first-law t k s u in
-    let m = law .decides .means h in
-    subst (λ (f : Effect Session). SeenBy (f .session) (viewFirst t k ls f) × Gave (roleFirst k) t (f .result) (viewFirst t k ls f)) (m .1)
-    (first-view t k s u ls (m .0) e rq (law .known (m .0)))

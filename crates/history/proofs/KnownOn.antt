@@ -1,49 +1,44 @@
 -- What is known of a session's view after a later step or a drop.
 --   later-seen
 -- Assumes nothing.
-use mathlib.Core.Path.{_≡_, refl, sym, ap, ap₂, _∙_, subst, subst₂}
+use mathlib.Core.Path.{_≡_, refl, sym, ap, ap₂, _∙_, subst}
 use mathlib.Core.Bool.{Bool, true, false}
 use mathlib.Core.List.{List, [], _∷_, _++_, append-nil}
 use Prim.Native.Nat.{ℕ, _<_}
 use native.Mathlib.Omega.{arith}
 use lib.ListN.{length}
-use Rattle.algebra.specs.Matrix.{Residues, matMul}
-use Rattle.algebra.specs.Count.{part}
+use Rattle.algebra.specs.Matrix.{Residues}
 use Rattle.algebra.specs.Elimination.{regular}
-use Rattle.algebra.specs.Product.{rightShare}
 use Rattle.protocol.specs.declared.Terms.{Terms}
 use Rattle.protocol.specs.declared.SolverSession.{SolverSession}
 use Rattle.protocol.specs.declared.BlinderSession.{BlinderSession}
 use Rattle.protocol.specs.declared.Answer.{Answer}
 use Rattle.protocol.specs.declared.Answer.the-variants.{Accepted, Refused}
 use Rattle.protocol.specs.declared.Refusal.the-variants.{Singular}
-use Rattle.protocol.specs.Judge.{done}
 use Rattle.protocol.specs.Drawing.{wordsFor}
-use Rattle.protocol.specs.Bounds.{allBelow, columns}
-use Rattle.protocol.specs.Tape.{Slot, slotWords, Role, blinder, solver, matrices}
-use Rattle.protocol.specs.Message.{Message, noMessage, messageSize, messageParts}
-use Rattle.protocol.specs.Step.{Effect}
-use Rattle.protocol.specs.Product.{closedRight, rightLastEffect}
-use Rattle.protocol.specs.System.{closedSolver, closedBlinder, keptS, keptM, keptY, jointSum, scratchParts, solverFirstEffect, solverSecondEffect, solverLastEffect, blinderFirstEffect, blinderSecondEffect, blinderLastEffect}
+use Rattle.protocol.specs.Bounds.{allBelow}
+use Rattle.protocol.specs.Tape.{Slot, slotWords, blinder, solver, matrices}
+use Rattle.protocol.specs.Message.{Message, noMessage, messageSize}
+use Rattle.protocol.specs.Product.{closedRight}
+use Rattle.protocol.specs.System.{closedSolver, closedBlinder, keptS, keptM, keptY, jointSum, scratchParts, solverFirstEffect, solverSecondEffect, solverLastEffect, blinderFirstEffect, blinderSecondEffect}
 use Rattle.protocol.specs.View.{View}
 use Rattle.protocol.specs.Completion.{said, rightMessages, solverMessages, blinderMessages}
 use Rattle.protocol.proofs.Tests.{MessageFits}
 use Rattle.protocol.proofs.StepTests as tests
 use Rattle.protocol.proofs.CompletionLaws.{halfSlot}
 use Rattle.protocol.proofs.Completion.{no-more, _before_}
-use Rattle.history.specs.Ends.{Session, absent, leftEnd, rightEnd, solverEnd, blinderEnd, dueIn, termsIn, roleIn, asRight, asSolver, asBlinder, Later, right-last, solver-second, solver-last, blinder-second, blinder-last, right-drop, solver-drop, blinder-drop, roleLater, runLater}
-use Rattle.history.specs.Seen.{heard, viewLater}
-use Rattle.history.proofs.Steps.{ownEnd, later-law, taken-up, continues-sound}
+use Rattle.history.specs.Ends.{Session, absent, leftEnd, rightEnd, solverEnd, blinderEnd, dueIn, termsIn, roleIn}
+use Rattle.history.specs.Seen.{heard}
 use Rattle.history.proofs.Replay.{said-is, incoming-whole, f-sent, w-sent, t-sent, y1-sent, x1-sent, solverOne, solverTwo, solverThree, solver-none, solver-one, solver-two, f-is, t-is, blinderOne, blinderTwo, blinder-one, blinder-two, w-is}
-use Rattle.history.proofs.Known.{Known, viewWith, known-with, known-still, SolverStage, s-first, s-second, s-over, SolverSeen, BlinderStage, b-first, b-second, b-over, BlinderSeen, SeenBy, cut, Gave}
+use Rattle.history.proofs.Known.{Known, viewWith, known-with, known-still, SolverStage, s-first, s-second, s-over, SolverSeen, BlinderStage, b-first, b-second, b-over, BlinderSeen, SeenBy, Gave}
 
-quiet : (l : List (List ℕ)) → l ++ said noMessage ≡ l
+pub quiet : (l : List (List ℕ)) → l ++ said noMessage ≡ l
 unfolding said
 quiet l = append-nil l
 
 -- ---- drops: the view stays, and the session closes
 
-abbrev shut : Session → Session
+abbrev pub shut : Session → Session
 shut absent = absent
 shut (leftEnd t) = leftEnd t
 shut (rightEnd x) = rightEnd (closedRight x)
@@ -51,7 +46,7 @@ shut (solverEnd x) = solverEnd (closedSolver x)
 shut (blinderEnd x) = blinderEnd (closedBlinder x)
 
 -- an open blinder awaits a message
-open-short : {t : Terms} {half : List (List ℕ)} {mm y coins : List ℕ} (z : BlinderSession) {got : List (List ℕ)} → BlinderStage t half mm y coins z got → 0 < z .due → length got < 3
+pub open-short : {t : Terms} {half : List (List ℕ)} {mm y coins : List ℕ} (z : BlinderSession) {got : List (List ℕ)} → BlinderStage t half mm y coins z got → 0 < z .due → length got < 3
 open-short z (b-first a ra p q) o = omega (arith, ap length p)
 open-short z (b-second a b b2 b4 ra rb p d kept two) o = omega (arith, ap length p)
 open-short z (b-over d) o = absurd (omega (arith, o, d))
@@ -73,13 +68,13 @@ shut-seen (blinderEnd x) v seen o es eg = (
   λ z. absurd (omega (arith, z, ap length eg, open-short x (seen .stage) o)),
 )
 
-drop-view : (x : Session) (v : View) → SeenBy x v → 0 < dueIn x
+pub drop-view : (x : Session) (v : View) → SeenBy x v → 0 < dueIn x
     → let w = viewWith v (v .sent ++ said noMessage) (v .received ++ []) in SeenBy (shut x) w × Gave (roleIn x) (termsIn x) [] w
 drop-view x v seen o = shut-seen x v seen o (quiet (v .sent)) (append-nil (v .received))
 
 -- ---- right
 
-right-any : (t : Terms) (s : Slot) (i got got′ : List (List ℕ)) → rightMessages t s i got ≡ rightMessages t s i got′
+pub right-any : (t : Terms) (s : Slot) (i got got′ : List (List ℕ)) → rightMessages t s i got ≡ rightMessages t s i got′
 unfolding rightMessages
 right-any t s i got got′ = refl
 
@@ -91,7 +86,7 @@ module _ {v : View} {t : Terms} {l x : List ℕ} (k : Known solver t v) (is : v 
   solver-sent e = k .sent-is ∙ ap₂ (λ (i g : List (List ℕ)). solverMessages t (halfSlot solver t (v .half)) i g) is e
 
 -- after its second step, by the stage before it
-f-stage : (y : SolverSession) (v : View) (s : Slot) (m : Message) (room : ℕ) (seen : SolverSeen y v) → tests.SolverFits 2 y s m (messageSize 3 (y .terms)) room
+pub f-stage : (y : SolverSession) (v : View) (s : Slot) (m : Message) (room : ℕ) (seen : SolverSeen y v) → tests.SolverFits 2 y s m (messageSize 3 (y .terms)) room
     → matrices solver (y .terms) (slotWords s) ≡ v .half → SolverStage (y .terms) (v .half) (seen .l) (seen .x) y (v .received)
     → SolverSeen (solverSecondEffect y s m .session) (viewWith v (v .sent ++ said (solverSecondEffect y s m .sent)) (v .received ++ (m .residues ∷ [])))
 unfolding solverSecondEffect
@@ -131,7 +126,7 @@ module _ (y : SolverSession) (s : Slot) (m : Message) where
   unfolding solverLastEffect
   refuses r = (rw r, rw r)
 
-t-stage : (y : SolverSession) (v : View) (s : Slot) (m : Message) (room : ℕ) (seen : SolverSeen y v) → tests.SolverFits 4 y s m (messageSize 5 (y .terms)) room
+pub t-stage : (y : SolverSession) (v : View) (s : Slot) (m : Message) (room : ℕ) (seen : SolverSeen y v) → tests.SolverFits 4 y s m (messageSize 5 (y .terms)) room
     → matrices solver (y .terms) (slotWords s) ≡ v .half → (b : Bool) → regular (y .terms .q) (y .terms .m) (jointSum y s m) ≡ b
     → SolverStage (y .terms) (v .half) (seen .l) (seen .x) y (v .received)
     → Known solver (y .terms) (viewWith v (v .sent ++ said (solverLastEffect y s m .sent)) (v .received ++ heard (solverLastEffect y s m .answer) (m ∷ [])))
@@ -170,7 +165,7 @@ module _ {v : View} {t : Terms} {mm y : List ℕ} (k : Known blinder t v) (is : 
       ≡ blinderMessages t (halfSlot blinder t (v .half)) (v .input) got (wordsFor (t .q) (v .coins))
   input-back got = ap (λ (i : List (List ℕ)). blinderMessages t (halfSlot blinder t (v .half)) i got (wordsFor (t .q) (v .coins))) (sym is)
 
-w-stage : (z : BlinderSession) (v : View) (s : Slot) (u : List ℕ) (m : Message) (room : ℕ) (seen : BlinderSeen z v)
+pub w-stage : (z : BlinderSession) (v : View) (s : Slot) (u : List ℕ) (m : Message) (room : ℕ) (seen : BlinderSeen z v)
     → tests.BlinderFits 3 z s u m (messageSize 4 (z .terms)) room → matrices blinder (z .terms) (slotWords s) ≡ v .half
     → scratchParts (z .terms) u ≡ scratchParts (z .terms) (v .coins) → BlinderStage (z .terms) (v .half) (seen .mm) (seen .y) (v .coins) z (v .received)
     → BlinderSeen (blinderSecondEffect z s u m .session) (viewWith v (v .sent ++ said (blinderSecondEffect z s u m .sent)) (v .received ++ (m .residues ∷ [])))
@@ -204,7 +199,7 @@ w-stage z v s u m room seen o e c (b-first a ra p q) =
 w-stage z v s u m room seen o e c (b-second a b b2 b4 ra rb p d kept two) = absurd (omega (arith, o .later .due-is, d))
 w-stage z v s u m room seen o e c (b-over d) = absurd (omega (arith, o .later .due-is, d))
 
-z-stage : (z : BlinderSession) (v : View) (m : Message) (seen : BlinderSeen z v) → z .due ≡ 5 → MessageFits 5 (z .terms) m
+pub z-stage : (z : BlinderSession) (v : View) (m : Message) (seen : BlinderSeen z v) → z .due ≡ 5 → MessageFits 5 (z .terms) m
     → BlinderStage (z .terms) (v .half) (seen .mm) (seen .y) (v .coins) z (v .received)
     → (a : List ℕ) × (b : List ℕ) × (v .received ≡ a ∷ b ∷ []) × Known blinder (z .terms) (viewWith v (v .sent) (v .received ++ (m .residues ∷ [])))
 unfolding blinderFirstEffect
@@ -218,77 +213,3 @@ z-stage z v m seen w f (b-second a b b2 b4 ra rb p d kept two) =
     in
     (a, b, p, known)
 z-stage z v m seen w f (b-over d) = absurd (omega (arith, w, d))
-
--- ---- by the step
-
-later-view : (k : Later) (x : Session) (v : View) (s : Slot) (u : List ℕ) → let y = ownEnd (roleLater k) x in let f = later-law k x s u .effect in
-    SeenBy y v → later-law k x s u .Needs → matrices (roleLater k) (termsIn y) (slotWords s) ≡ v .half
-    → (roleLater k ≡ blinder → scratchParts (termsIn y) u ≡ scratchParts (termsIn y) (v .coins))
-    → SeenBy (f .session) (viewLater v k f) × Gave (roleLater k) (termsIn y) (f .result) (viewLater v k f)
-unfolding later-law rightLastEffect solverSecondEffect solverLastEffect blinderSecondEffect blinderLastEffect messageParts
-later-view (right-last m room) x v s u seen n e c =
-    let t = asRight x .terms in
-    let w = n .later .session-open .is-open in
-    let got : v .received ++ (m .residues ∷ []) ≡ m .residues ∷ [] = ap (λ (z : List (List ℕ)). z ++ (m .residues ∷ [])) (seen .waits w) in (
-      record {
-        known = known-with (seen .known) (v .sent) (m .residues ∷ []) (quiet (v .sent)) got (seen .known .sent-is ∙ right-any _ _ _ _ _) (seen .known .sent-fit)
-            (n .message .residues before no-more) (omega (arith, seen .one-sent));
-        one-sent = ap length (quiet (v .sent)) ∙ seen .one-sent;
-        waits = λ z. absurd (omega (arith, z));
-      },
-      λ z. (
-        m .residues,
-        got,
-        ap (λ (ls : List (List ℕ)). rightShare (t .q) (t .m) (t .k) (t .p) (part 0 (cut 2 t (m .residues))) (part 0 ls) (part 1 (cut 2 t (m .residues))) (part 1 ls)) e,
-      ),
-    )
-later-view (solver-second m room) x v s u seen n e c = (f-stage (asSolver x) v s m room seen n e (seen .stage), tt)
-later-view (solver-last m room) x v s u seen n e c = (
-  record {
-    known = t-stage (asSolver x) v s m room seen n e _ refl (seen .stage);
-    l = seen .l;
-    x = seen .x;
-    input-is = seen .input-is;
-    began = seen .began;
-    stage = s-over refl;
-  },
-  tt,
-)
-later-view (blinder-second m room) x v s u seen n e c =
-    let w = w-stage (asBlinder x) v s u m room seen n e (c refl) (seen .stage) in
-    (w, λ z. absurd (omega (arith, z, open-short _ (w .stage) (omega arith))))
-later-view (blinder-last m room) x v s u seen n e c =
-    let t = asBlinder x .terms in
-    let w = z-stage (asBlinder x) v m seen (n .later .due-is) (n .message) (seen .stage) in (
-      record {
-        known = known-still (w .3) (quiet (v .sent)) refl;
-        mm = seen .mm;
-        y = seen .y;
-        input-is = seen .input-is;
-        began = seen .began;
-        stage = b-over refl;
-      },
-      λ z. (
-        w .0,
-        w .1,
-        m .residues,
-        ap (λ (z : List (List ℕ)). z ++ (m .residues ∷ [])) (w .2),
-        ap (λ (ls : List (List ℕ)). matMul (t .q) (t .m) (t .m) (columns (t .m) (t .p)) (part 2 ls) (part 0 (cut 5 t (m .residues)))) e,
-      ),
-    )
-later-view right-drop x v s u seen n e c = drop-view (rightEnd (asRight x)) v seen (n .is-open)
-later-view solver-drop x v s u seen n e c = drop-view (solverEnd (asSolver x)) v seen (n .is-open)
-later-view blinder-drop x v s u seen n e c = drop-view (blinderEnd (asBlinder x)) v seen (n .session-open .is-open)
-
-pub later-seen : (k : Later) (x : Session) (v : View) (s : Slot) (u : List ℕ) (f : Effect Session) → SeenBy x v → runLater k x s u ≡ done f
-    → matrices (roleIn x) (termsIn x) (slotWords s) ≡ v .half → (roleIn x ≡ blinder → scratchParts (termsIn x) u ≡ scratchParts (termsIn x) (v .coins))
-    → SeenBy (f .session) (viewLater v k f) × Gave (roleLater k) (termsIn x) (f .result) (viewLater v k f)
-later-seen k x v s u f sn h e c =
-    let m = taken-up k x s u h in
-    let r : roleIn x ≡ roleLater k = continues-sound k x s u f h .role-was in
-    let t : termsIn (ownEnd (roleLater k) x) ≡ termsIn x = ap termsIn (m .2) in
-    let seen = later-view k x v s u (subst (λ z. SeenBy z v) (sym (m .2)) sn) (m .0)
-    (subst₂ (λ (r : Role) (t : Terms). matrices r t (slotWords s) ≡ v .half) r (sym t) e)
-    (λ b. subst (λ (t : Terms). scratchParts t u ≡ scratchParts t (v .coins)) (sym t) (c (r ∙ b)))
-    in
-    subst₂ (λ (t : Terms) (f : Effect Session). SeenBy (f .session) (viewLater v k f) × Gave (roleLater k) t (f .result) (viewLater v k f)) t (m .1) seen

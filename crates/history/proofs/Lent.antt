@@ -23,7 +23,7 @@ use Rattle.history.specs.Ends.{Session, absent, isBegun, dueIn, termsIn,
 use Rattle.history.specs.Log.{choose, Party, State, Call, Did, Entry, did, run, lentAfter, lentTo, OwnScratchBy, Premises}
 use Rattle.history.specs.Contents.{tenantOf, tenantAfter, tenant, keptBy, coinsBy, coinsIn, keptWords, termsBy, scratchWords}
 use Rattle.history.proofs.Words.{over-over, over-nothing}
-use Rattle.history.proofs.Steps.{firstRow, Begins, Continues, wipeScratch}
+use Rattle.history.proofs.Accepted.{firstRow, Begins, Continues, wipeScratch}
 use Rattle.history.proofs.Facts.{set-same, set-other, none≢, absent≢}
 use Rattle.history.proofs.Kept.{slotBy, stateAfter, Way, fresh, onward, Move}
 use Rattle.history.specs.Claim.{Empty}

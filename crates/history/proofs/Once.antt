@@ -13,11 +13,10 @@ use native.Mathlib.Omega.{arith}
 use native.Mathlib.Decide.{ℕ-discrete, decLt}
 use Rattle.history.specs.Ends.{isBegun, dueIn, Step, StepKind, kind-eq, Turn, opens, awaits, drops, row, kindOf}
 use Rattle.history.specs.Log.{choose, both?, Party, State, Call, Did, Entry, did, run, Premises}
-use Rattle.history.specs.Claim.{timesBy, timesOf, times}
-use Rattle.history.proofs.Steps.{firstRow, laterRow, InTurn}
+use Rattle.history.specs.Claim.{timesBy, timesOf, times, Empty}
+use Rattle.history.proofs.Accepted.{firstRow, laterRow, InTurn}
 use Rattle.history.proofs.Facts.{set-same, set-other, absent≢}
 use Rattle.history.proofs.Kept.{Inv, stateAfter, Way, fresh, onward, Move}
-use Rattle.history.specs.Claim.{Empty}
 use Rattle.history.proofs.Along.{along}
 
 -- ---- turns

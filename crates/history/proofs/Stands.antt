@@ -26,7 +26,8 @@ use Rattle.history.specs.Log.{Party, State, Call, Dealing, Did, Entry, d
 use Rattle.history.specs.Seen.{view, takenFirst, takenLater, takenBy, withSent, AcceptedBy, Stands, as-answered, as-accepted}
 use Rattle.history.specs.Claim.{Empty}
 use Rattle.history.proofs.Facts.{absent≢, one-dealing}
-use Rattle.history.proofs.Steps.{firstRow, laterRow, Hears, begins-sound, continues-sound}
+use Rattle.history.proofs.Accepted.{firstRow, laterRow, Hears}
+use Rattle.history.proofs.Steps.{begins-sound, continues-sound}
 use Rattle.history.proofs.Kept.{stateAfter, Move}
 use Rattle.history.proofs.Along.{along}
 use Rattle.history.proofs.Served.{served}

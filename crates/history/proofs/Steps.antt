@@ -1,157 +1,66 @@
--- What an accepted step or drop needs and leaves, whatever its kind. The one module that looks into each step's definition, with a clause for each: all else
--- goes by the table of steps (specs/Ends) and these laws.
---   Begins, Continues         what is known of an accepted one
---   first-law, later-law      a step's needs and effect, and that it is accepted exactly where they are met
---   ownEnd, own-open, own-is  a session as its own end's
---   begins-sound, continues-sound   the laws, of a call that was accepted
---   Sends, step-sends, step-ends    what any step sends, and whether it ends its session
+-- The laws of every step and drop, with a clause for each: the one module that looks into their definitions. All else goes by the table of steps (specs/Ends)
+-- and by these laws.
+--   FirstLaw, first-law       a first step's needs and effect: accepted exactly where they are met, what is known of it then, what it makes of the view, and that
+--                             an end that keeps to the rules meets them
+--   LaterLaw, later-law       the same of a later step or a drop
+--   begins-sound, continues-sound, first-seen, later-seen, first-goes, later-goes   the laws, of any step
+--   step-sends, step-ends     what it sends, and whether it ends its session
 -- Assumes nothing.
 use mathlib.Core.Path.{_≡_, refl, sym, ap, _∙_, subst, subst₂}
 use mathlib.Core.Logic.{_⊎_, inl, inr, _↔_}
 use mathlib.Core.Bool.{Bool, true, false}
-use mathlib.Core.List.{List, [], _∷_}
-use Prim.Native.Nat.{ℕ, zero, suc, _*_, _≤_, _<_}
+use mathlib.Core.List.{List, [], _∷_, _++_}
+use Prim.Native.Nat.{ℕ, zero, suc, _*_}
 use native.Mathlib.Omega.{arith}
 use lib.ListN.{length}
-use Rattle.algebra.specs.Matrix.{Residues, zeros}
-use Rattle.algebra.specs.Count.{parts, total}
+use Rattle.algebra.specs.Matrix.{zeros, matMul}
+use Rattle.algebra.specs.Count.{part}
 use Rattle.algebra.specs.Elimination.{regular}
 use Rattle.algebra.proofs.Lists.{residues-none}
 use Rattle.protocol.specs.declared.Terms.{Terms}
 use Rattle.protocol.specs.declared.SolverSession.{SolverSession}
-use Rattle.protocol.specs.Judge.{refused, done}
-use Rattle.protocol.specs.Drawing.{residuesOf, drawn}
-use Rattle.protocol.specs.Bounds.{product, system}
-use Rattle.protocol.specs.Tape.{Slot, slotWords, Role, left, right, blinder, solver, sortOf, wordsInUse, wordsSpent}
-use Rattle.protocol.specs.Message.{Message, noMessage, messageSize}
-use Rattle.protocol.specs.Step.{Effect, Outcome}
+use Rattle.protocol.specs.Judge.{done}
+use Rattle.protocol.specs.Bounds.{system, columns}
+use Rattle.protocol.specs.Tape.{Slot, slotWords, Role, left, right, blinder, solver, sortOf, wordsSpent, matrices, READY, IN-USE}
+use Rattle.protocol.specs.Message.{Message, noMessage, messageSize, messageParts}
+use Rattle.protocol.specs.Step.{Effect}
 use Rattle.protocol.specs.Product.{closedRight, rightFirstEffect, leftEffect, rightLastEffect}
 use Rattle.protocol.specs.System.{closedSolver, closedBlinder, sideSize, scratchSize, scratchParts, coinsOf, jointSum, solverFirstEffect, blinderFirstEffect, solverSecondEffect, blinderSecondEffect, solverLastEffect, blinderLastEffect}
 use Rattle.protocol.specs.Drop.{dropped}
-use Rattle.protocol.specs.View.{facing, coinLayout, kindsSent}
-use Rattle.protocol.specs.Completion.{coinsFit, Taken}
-use Rattle.protocol.proofs.Judge.{refused≢done}
-use Rattle.protocol.proofs.Residues.{residues-drawn}
-use Rattle.protocol.proofs.Tests.{Decides, TermsFit, FirstFits, OpenFits, MessageFits, draw-tests}
+use Rattle.protocol.specs.View.{View}
+use Rattle.protocol.specs.Completion.{takenTests}
+use Rattle.protocol.proofs.Judge.{passed}
+use Rattle.protocol.proofs.Residues.{input-residues}
+use Rattle.protocol.proofs.Tests.{Decides, TermsFit, OpenFits, MessageFits}
 use Rattle.protocol.proofs.StepTests as tests
 use Rattle.protocol.proofs.CompletionInputs.{taken-by-right, taken-by-left, taken-by-solver, taken-by-blinder}
-use Rattle.history.specs.Ends.{Session, absent, leftEnd, rightEnd, solverEnd, blinderEnd, isBegun, dueIn, termsIn, roleIn, asRight, asSolver, asBlinder, First, right-first, left-only, solver-first, blinder-first, Later, right-last, solver-second, solver-last, blinder-second, blinder-last, right-drop, solver-drop, blinder-drop, StepKind, Turn, opens, awaits, drops, Row, row, kindFirst, kindLater, kindOf, roleFirst, roleLater, asAny, ofAny, runFirst, runLater, Step, begins, goes-on, runStep}
-use Rattle.history.specs.Contents.{coinsBy}
-use Rattle.history.specs.Seen.{inputOf, coinsDrawn, takenFirst, takenLater}
+use Rattle.history.specs.Ends.{Session, leftEnd, rightEnd, solverEnd, blinderEnd, isBegun, dueIn, termsIn, roleIn, asRight, asSolver, asBlinder, First, right-first, left-only, solver-first, blinder-first, Later, right-last, solver-second, solver-last, blinder-second, blinder-last, right-drop, solver-drop, blinder-drop, kindOf, roleFirst, roleLater, asAny, runFirst, runLater, Step, begins, goes-on, runStep}
+use Rattle.history.specs.Seen.{takenLater, viewLater, viewFirst}
 use Rattle.history.specs.Claim.{Last, Ends}
-use Rattle.history.proofs.Replay.{y-sent, x-sent, y1-sent, x1-sent, f-sent, w-sent, t-sent}
-
--- an accepted outcome, as that of the end's own step
-pub of-any : {S : Type 0} (f : S → Session) (o : Outcome S) {e : Effect Session} → ofAny f o ≡ done e → (e₀ : Effect S) × (o ≡ done e₀) × (asAny f e₀ ≡ e)
-of-any f (refused r) p = absurd (refused≢done p)
-of-any f (done e₀) p = (e₀, refl, cc)
-
-pub any-decides : {S : Type 0} (g : S → Session) {o : Outcome S} {e : Effect S} {F : Type 0} → Decides o e F → Decides (ofAny g o) (asAny g e) F
-any-decides g {o} d = record {
-  accepts = λ f. ap (ofAny g) (d .accepts f);
-  means = λ h.
-      let a = of-any g o h in
-      let m = d .means (a .1) in
-      (m .0, ap (asAny g) (m .1) ∙ a .2);
-}
-
-abbrev pub firstRow : First → Row
-firstRow k = row (kindFirst k)
-
-abbrev pub laterRow : Later → Row
-laterRow k = row (kindLater k)
-
--- ---- what steps leave and send
-
--- what is left of the session, the slot's words, and the words written over the scratch
-pub record Left : Type 0 where
-  pub begun : Bool
-  pub role : Role
-  pub terms : Terms
-  pub due : ℕ
-  pub slot : List ℕ
-  pub scratch : List ℕ
-
-abbrev pub leftBy : Effect Session → Left
-leftBy e = record {
-  begun = isBegun (e .session);
-  role = roleIn (e .session);
-  terms = termsIn (e .session);
-  due = dueIn (e .session);
-  slot = e .slot;
-  scratch = e .scratch;
-}
-
--- a message of the row's kind, or none
-abbrev pub Sends : StepKind → Effect Session → Type 0
-Sends k e = (e .sent ≡ noMessage) ⊎ MessageFits (row k .sends) (termsIn (e .session)) (e .sent)
-
--- the message that it took fits; in a product the facing end sends no other
-abbrev pub Hears : Row → Terms → List Message → Type 0
-Hears r t [] = Unit
-Hears r t (a ∷ _) = MessageFits (r .takes) t a × (sortOf (r .role) ≡ product → kindsSent (facing (r .role)) ≡ r .takes ∷ [])
-
-pub in-system : {A : Type 0} → system ≡ product → A
-in-system e = absurd (let z : _≡_ {A = ℕ} 0 1 = cc in omega arith)
+use Rattle.history.proofs.Replay.{y-sent, x-sent, y1-sent, x1-sent, f-sent, w-sent, t-sent, said-is, incoming-whole, solver-none, blinder-one, right-sends, left-sends, SolverBegan, y1-is, BlinderBegan, x1-is}
+use Rattle.history.specs.Log.{World}
+use Rattle.history.specs.Right.{FairFirst}
+use Rattle.history.proofs.Accepted.{any-decides, firstRow, laterRow, Sends, in-system, Begins, began, coins-drawn, Continues, ownEnd, own-open, own-is, went, Waits}
+use Rattle.history.proofs.Known.{known-with, known-still, s-first, s-over, b-first, b-over, SeenBy, cut, Gave, half-now, first-known}
+use Rattle.history.proofs.KnownOn.{quiet, open-short, drop-view, right-any, f-stage, t-stage, w-stage, z-stage}
+use Rattle.history.proofs.Needs.{Handed, FairBy, in-time, drop-needs, solver-needs, Coins, long-enough, blinder-needs}
+use Rattle.algebra.specs.Product.{rightShare}
+use Rattle.protocol.proofs.Completion.{no-more, _before_}
+use Rattle.protocol.proofs.Halves.{Holding, first-fits}
+use Rattle.protocol.proofs.CompletionSystem.{taken-pair}
 
 -- ---- first steps
 
--- the slot's words, by the turn that is due afterwards
-abbrev pub leaveFirst : ℕ → Role → Terms → Slot → List ℕ
-leaveFirst zero role t s = wordsSpent role t (slotWords s)
-leaveFirst (suc _) role t s = wordsInUse (slotWords s)
-
-pub record Begins (t : Terms) (k : First) (s : Slot) (e : Effect Session) : Type 0 where
-  pub is-begun : isBegun (e .session) ≡ true
-  pub role-is : roleIn (e .session) ≡ roleFirst k
-  pub terms-are : termsIn (e .session) ≡ t
-  pub due-is : dueIn (e .session) ≡ firstRow k .next
-  pub turn-is : firstRow k .turn ≡ opens
-  -- only left's session ends with it
-  pub stays : (roleFirst k ≡ left) ⊎ (0 < firstRow k .next)
-  pub first : FirstFits (roleFirst k) t s
-  pub input-taken : Taken (roleFirst k) t (inputOf k)
-  pub drew : Residues (t .q) (total (coinLayout (roleFirst k) t)) (coinsDrawn t k)
-  pub coins-fit : coinsFit (roleFirst k) t (parts (coinLayout (roleFirst k) t) (coinsDrawn t k)) ≡ true
-  pub heard : Hears (firstRow k) t (takenFirst k)
-  pub wrote : e .slot ≡ leaveFirst (dueIn (e .session)) (roleFirst k) t s
-  pub laid : e .scratch ≡ coinsBy t k
-  pub sends : Sends (kindFirst k) e
-
-module _ {t : Terms} {k : First} {s : Slot} {e : Effect Session} where
-  pub began : leftBy e
-      ≡ record { begun = true; role = roleFirst k; terms = t; due = firstRow k .next; slot = leaveFirst (firstRow k .next) (roleFirst k) t s; scratch = coinsBy t k }
-      → firstRow k .turn ≡ opens → (roleFirst k ≡ left) ⊎ (0 < firstRow k .next) → FirstFits (roleFirst k) t s → Taken (roleFirst k) t (inputOf k)
-      → Residues (t .q) (total (coinLayout (roleFirst k) t)) (coinsDrawn t k) → coinsFit (roleFirst k) t (parts (coinLayout (roleFirst k) t) (coinsDrawn t k)) ≡ true
-      → Hears (firstRow k) t (takenFirst k) → Sends (kindFirst k) e → Begins t k s e
-  began l turn stays f i c cf h m = record {
-    is-begun = ap (λ (z : Left). z .begun) l;
-    role-is = ap (λ (z : Left). z .role) l;
-    terms-are = ap (λ (z : Left). z .terms) l;
-    due-is = ap (λ (z : Left). z .due) l;
-    turn-is = turn;
-    stays = stays;
-    first = f;
-    input-taken = i;
-    drew = c;
-    coins-fit = cf;
-    heard = h;
-    wrote = ap (λ (z : Left). z .slot) l ∙ ap (λ (d : ℕ). leaveFirst d (roleFirst k) t s) (sym (ap (λ (z : Left). z .due) l));
-    laid = ap (λ (z : Left). z .scratch) l;
-    sends = m;
-  }
-
-pub coins-drawn : {sort : _} (t : Terms) (n : ℕ) (words : List ℕ) → TermsFit sort t → n ≤ length (residuesOf (t .q) words) → Residues (t .q) n (drawn (t .q) n words)
-coins-drawn t n words f e = residues-drawn (t .q) n words (omega (arith, f .big)) (draw-tests _ _ _ .1 e .all)
-
--- what it needs, what it then leaves, and what is known of it
 pub record FirstLaw (t : Terms) (k : First) (s : Slot) (u : List ℕ) : Type 1 where
   pub Needs : Type 0
   pub effect : Effect Session
   pub decides : Decides (runFirst t k s u) effect Needs
   pub known : Needs → Begins t k s effect
+  pub seen : (ls : List (List ℕ)) → matrices (roleFirst k) t (slotWords s) ≡ ls → (roleFirst k ≡ blinder → regular (t .q) (t .m) (part 2 ls) ≡ true) → Needs
+      → Begins t k s effect → SeenBy (effect .session) (viewFirst t k ls effect) × Gave (roleFirst k) t (effect .result) (viewFirst t k ls effect)
+  pub met : (o : World) → Handed o → {ls : List (List ℕ)} → TermsFit (sortOf (roleFirst k)) t → Holding (roleFirst k) READY t ls s → FairFirst o t k (length u) → Needs
 
-unfoldable pub first-law : (t : Terms) (k : First) (s : Slot) (u : List ℕ) → FirstLaw t k s u
+pub first-law : (t : Terms) (k : First) (s : Slot) (u : List ℕ) → FirstLaw t k s u
 unfolding runFirst rightFirstEffect leftEffect solverFirstEffect blinderFirstEffect coinsOf scratchSize scratchParts
 first-law t (right-first y room) s u =
     let d = tests.right-first t s y room in
@@ -161,16 +70,44 @@ first-law t (right-first y room) s u =
       decides = any-decides rightEnd d;
       known = λ n.
           began refl refl (inr (omega arith)) (n .first) (taken-by-right t s y room (d .accepts n)) residues-none refl tt (inr (y-sent t s y (n .first .terms)));
+      seen = λ ls e rq n g.
+          let m = y-sent t s y (n .first .terms) in (
+            record {
+              known = first-known t _ s ls e g rq m (sym (right-sends t ls s y room n e [])) (m .residues before no-more) no-more (omega arith);
+              one-sent = ap length (said-is m);
+              waits = λ z. refl;
+            },
+            λ z. absurd (omega (arith, z)),
+          );
+      met = λ o handed terms held f. record {
+        first = first-fits held terms;
+        y-fits = input-residues (t .q) (t .k * t .p) y (passed (takenTests right t (y ∷ [])) (f .0) .0);
+        message-room = f .1;
+      };
     }
-first-law t (left-only x words m room shareRoom) s u =
-    let d = tests.left-step t s x words m room shareRoom in
+first-law t (left-only x words a room shareRoom) s u =
+    let d = tests.left-step t s x words a room shareRoom in
     record {
-      Needs = tests.LeftFits t s x words m room shareRoom;
-      effect = asAny (λ (z : Unit). leftEnd t) (leftEffect t s x words m);
+      Needs = tests.LeftFits t s x words a room shareRoom;
+      effect = asAny (λ (z : Unit). leftEnd t) (leftEffect t s x words a);
       decides = any-decides (λ (z : Unit). leftEnd t) d;
       known = λ n.
-          began refl refl (inl refl) (n .first) (taken-by-left t s x words m room shareRoom (d .accepts n))
-          (coins-drawn t (t .m * t .p) words (n .first .terms) (n .enough)) refl (n .message, λ p. refl) (inr (x-sent t s x words m (n .first .terms)));
+          began refl refl (inl refl) (n .first) (taken-by-left t s x words a room shareRoom (d .accepts n))
+          (coins-drawn t (t .m * t .p) words (n .first .terms) (n .enough)) refl (n .message, λ p. refl) (inr (x-sent t s x words a (n .first .terms)));
+      seen = λ ls e rq n g.
+          let m = x-sent t s x words a (n .first .terms) in (
+            first-known t _ s ls e g rq m (sym (left-sends t ls s x words a room shareRoom n e (g .drew))) (m .residues before no-more)
+                (n .message .residues before no-more) (omega arith),
+            refl,
+          );
+      met = λ o handed terms held f. record {
+        first = first-fits held terms;
+        message = handed left t 1 a (omega arith) (f .1);
+        x-fits = input-residues (t .q) (t .m * t .k) x (passed (takenTests left t (x ∷ [])) (f .0) .0);
+        message-room = f .2;
+        share-room = f .3;
+        enough = f .4;
+      };
     }
 first-law t (solver-first l x room) s u =
     let d = tests.solver-first t s l x room in
@@ -181,17 +118,78 @@ first-law t (solver-first l x room) s u =
       known = λ n.
           began refl refl (inr (omega arith)) (n .first) (taken-by-solver t s l x room (d .accepts n)) residues-none refl tt
           (inr (y1-sent t s l x (n .first .terms)));
+      seen = λ ls e rq n g.
+          let m = y1-sent t s l x (n .first .terms) in
+          let b : SolverBegan t ls l x = record {
+            terms = n .first .terms;
+            fits = half-now t _ s ls e g;
+            l-fits = n .l-fits;
+            x-fits = n .x-fits;
+            l-regular = n .l-regular;
+          } in (
+            record {
+              known = first-known t _ s ls e g rq m (ap (λ (m : Message). m .residues ∷ []) (y1-is t ls l x b s e) ∙ sym (solver-none t ls l x b))
+                  (m .residues before no-more) no-more (omega arith);
+              l = l;
+              x = x;
+              input-is = refl;
+              began = b;
+              stage = s-first refl refl;
+            },
+            tt,
+          );
+      met = λ o handed terms held f.
+          let i = taken-pair t (l ∷ x ∷ []) (f .0) in
+          record { first = first-fits held terms; l-fits = i .matrix; x-fits = i .side; message-room = f .1; l-regular = i .inverse };
     }
-first-law t (blinder-first mm y words m room) s u =
-    let d = tests.blinder-first t s (length u) mm y words m room in
+first-law t (blinder-first mm y words a room) s u =
+    let d = tests.blinder-first t s (length u) mm y words a room in
     record {
-      Needs = tests.BlinderFirstFits t s (length u) mm y words m room;
-      effect = asAny blinderEnd (blinderFirstEffect t s mm y words m);
+      Needs = tests.BlinderFirstFits t s (length u) mm y words a room;
+      effect = asAny blinderEnd (blinderFirstEffect t s mm y words a);
       decides = any-decides blinderEnd d;
       known = λ n.
-          began refl refl (inr (omega arith)) (n .first) (taken-by-blinder t s (length u) mm y words m room (d .accepts n))
+          began refl refl (inr (omega arith)) (n .first) (taken-by-blinder t s (length u) mm y words a room (d .accepts n))
           (coins-drawn t (scratchSize t) words (n .first .terms) (n .enough)) (n .p-regular) (n .message, λ p. in-system p)
-          (inr (x1-sent t s mm y words m (n .first .terms)));
+          (inr (x1-sent t s mm y words a (n .first .terms)));
+      seen = λ ls e rq n g.
+          let m = x1-sent t s mm y words a (n .first .terms) in
+          let rm = n .message .residues in
+          let b : BlinderBegan t ls mm y (coinsOf t words) = record {
+            terms = n .first .terms;
+            fits = half-now t _ s ls e g;
+            m-fits = n .m-fits;
+            y-fits = n .y-fits;
+            m-regular = n .m-regular;
+            coins-fit = g .drew;
+            p-regular = n .p-regular;
+          } in (
+            record {
+              known = first-known t _ s ls e g rq m
+                  (ap (λ (b : Message). b .residues ∷ []) (x1-is t ls mm y (coinsOf t words) b (a .residues) rm s words a (incoming-whole (n .message)) e refl)
+                  ∙ sym (blinder-one t ls mm y (coinsOf t words) b (a .residues) rm))
+                  (m .residues before no-more) (rm before no-more) (omega arith);
+              mm = mm;
+              y = y;
+              input-is = refl;
+              began = b;
+              stage = b-first (a .residues) rm refl refl;
+            },
+            λ z. absurd (omega (arith, z)),
+          );
+      met = λ o handed terms held f.
+          let i = taken-pair t (mm ∷ y ∷ []) (f .0) in
+          record {
+            first = first-fits held terms;
+            message = handed blinder t 1 a (omega arith) (f .1);
+            m-fits = i .matrix;
+            y-fits = i .side;
+            scratch-room = f .3;
+            message-room = f .2;
+            enough = f .4;
+            m-regular = i .inverse;
+            p-regular = f .5;
+          };
     }
 
 pub begins-sound : (t : Terms) (k : First) (s : Slot) (u : List ℕ) (e : Effect Session) → runFirst t k s u ≡ done e → Begins t k s e
@@ -200,143 +198,76 @@ begins-sound t k s u e h =
     let m = law .decides .means h in
     subst (Begins t k s) (m .1) (law .known (m .0))
 
+pub first-seen : (t : Terms) (k : First) (s : Slot) (u : List ℕ) (f : Effect Session) (ls : List (List ℕ)) → runFirst t k s u ≡ done f
+    → matrices (roleFirst k) t (slotWords s) ≡ ls → (roleFirst k ≡ blinder → regular (t .q) (t .m) (part 2 ls) ≡ true)
+    → SeenBy (f .session) (viewFirst t k ls f) × Gave (roleFirst k) t (f .result) (viewFirst t k ls f)
+first-seen t k s u f ls h e rq =
+    let law = first-law t k s u in
+    let m = law .decides .means h in
+    subst (λ (f : Effect Session). SeenBy (f .session) (viewFirst t k ls f) × Gave (roleFirst k) t (f .result) (viewFirst t k ls f)) (m .1)
+    (law .seen ls e rq (m .0) (law .known (m .0)))
+
+pub first-goes : (o : World) → Handed o → (t : Terms) (k : First) (s : Slot) (u : List ℕ) {ls : List (List ℕ)} → TermsFit (sortOf (roleFirst k)) t
+    → Holding (roleFirst k) READY t ls s → FairFirst o t k (length u) → (f : Effect Session) × (runFirst t k s u ≡ done f)
+first-goes o handed t k s u terms held f = let law = first-law t k s u in (law .effect, law .decides .accepts (law .met o handed terms held f))
+
 -- ---- later steps and drops
 
--- the slot's words, by the turn that is due afterwards
-abbrev pub leaveLater : ℕ → Role → Terms → Slot → List ℕ
-leaveLater zero role t s = wordsSpent role t (slotWords s)
-leaveLater (suc _) role t s = slotWords s
-
--- what is written over the scratch
-abbrev pub wipeScratch : ℕ → Role → Terms → List ℕ
-wipeScratch zero left t = []
-wipeScratch zero right t = []
-wipeScratch zero blinder t = zeros (scratchSize t)
-wipeScratch zero solver t = []
-wipeScratch (suc _) role t = []
-
--- a later step is made while its message is due, and a drop leaves none due
-abbrev pub InTurn : Turn → (takes next due : ℕ) → Type 0
-InTurn opens takes next due = ⊥
-InTurn awaits takes next due = (due ≡ takes) × ((next ≡ 0) ⊎ (takes < next))
-InTurn drops takes next due = next ≡ 0
-
-pub record Continues (k : Later) (x : Session) (s : Slot) (e : Effect Session) : Type 0 where
-  pub was-begun : isBegun x ≡ true
-  pub role-was : roleIn x ≡ roleLater k
-  pub session-open : OpenFits (roleLater k) (dueIn x) (termsIn x) s
-  pub is-begun : isBegun (e .session) ≡ true
-  pub role-is : roleIn (e .session) ≡ roleIn x
-  pub terms-are : termsIn (e .session) ≡ termsIn x
-  pub due-is : dueIn (e .session) ≡ laterRow k .next
-  pub moved : (dueIn (e .session) ≡ 0) ⊎ (dueIn x < dueIn (e .session))
-  pub in-turn : InTurn (laterRow k .turn) (laterRow k .takes) (laterRow k .next) (dueIn x)
-  pub heard : Hears (laterRow k) (termsIn x) (takenLater k)
-  pub wrote : e .slot ≡ leaveLater (dueIn (e .session)) (roleIn x) (termsIn x) s
-  pub cleared : e .scratch ≡ wipeScratch (dueIn (e .session)) (roleIn x) (termsIn x)
-  pub sends : Sends (kindLater k) e
-
--- a session as an end's own
-abbrev pub ownEnd : Role → Session → Session
-ownEnd left x = leftEnd (termsIn x)
-ownEnd right x = rightEnd (asRight x)
-ownEnd solver x = solverEnd (asSolver x)
-ownEnd blinder x = blinderEnd (asBlinder x)
-
-own-begun : (r : Role) (x : Session) → (isBegun (ownEnd r x) ≡ true) × (roleIn (ownEnd r x) ≡ r)
-own-begun left x = (refl, refl)
-own-begun right x = (refl, refl)
-own-begun solver x = (refl, refl)
-own-begun blinder x = (refl, refl)
-
--- a session that is open for an end is one of this end
-pub own-open : (r : Role) (x : Session) → 0 < dueIn (ownEnd r x) → ownEnd r x ≡ x
-own-open left x h = absurd (omega arith)
-own-open right absent h = absurd (omega arith)
-own-open right (leftEnd t) h = absurd (omega arith)
-own-open right (rightEnd x) h = refl
-own-open right (solverEnd x) h = absurd (omega arith)
-own-open right (blinderEnd x) h = absurd (omega arith)
-own-open solver absent h = absurd (omega arith)
-own-open solver (leftEnd t) h = absurd (omega arith)
-own-open solver (rightEnd x) h = absurd (omega arith)
-own-open solver (solverEnd x) h = refl
-own-open solver (blinderEnd x) h = absurd (omega arith)
-own-open blinder absent h = absurd (omega arith)
-own-open blinder (leftEnd t) h = absurd (omega arith)
-own-open blinder (rightEnd x) h = absurd (omega arith)
-own-open blinder (solverEnd x) h = absurd (omega arith)
-own-open blinder (blinderEnd x) h = refl
-
-pub own-is : (x : Session) → isBegun x ≡ true → ownEnd (roleIn x) x ≡ x
-own-is absent h = absurd (let z : _≡_ {A = ℕ} 0 1 = cc in omega arith)
-own-is (leftEnd t) h = refl
-own-is (rightEnd x) h = refl
-own-is (solverEnd x) h = refl
-own-is (blinderEnd x) h = refl
-
-moved-on : (turn : Turn) (takes next due : ℕ) → InTurn turn takes next due → (next ≡ 0) ⊎ (due < next)
-moved-on opens takes next due h = absurd h
-moved-on awaits takes next due h = elim (h .1) [ inl z ↦ inl z | inr z ↦ inr (omega (arith, z, h .0)) ]
-moved-on drops takes next due h = inl h
-
-pub went : {k : Later} (x : Session) {s : Slot} {e : Effect Session} → let y = ownEnd (roleLater k) x in let r = laterRow k in
-    leftBy e ≡ record { begun = true; role = roleIn y; terms = termsIn y; due = r .next; slot = leaveLater (r .next) (roleIn y) (termsIn y) s; scratch = wipeScratch (r .next) (roleIn y) (termsIn y) }
-    → OpenFits (roleLater k) (dueIn y) (termsIn y) s → InTurn (r .turn) (r .takes) (r .next) (dueIn y) → Hears r (termsIn y) (takenLater k) → Sends (kindLater k) e
-    → Continues k y s e
-went {k} x {s} {e} l f turn h m =
-    let y = ownEnd (roleLater k) x in
-    let due : dueIn (e .session) ≡ laterRow k .next = ap (λ (z : Left). z .due) l in
-    record {
-      was-begun = own-begun (roleLater k) x .0;
-      role-was = own-begun (roleLater k) x .1;
-      session-open = f;
-      is-begun = ap (λ (z : Left). z .begun) l;
-      role-is = ap (λ (z : Left). z .role) l;
-      terms-are = ap (λ (z : Left). z .terms) l;
-      due-is = due;
-      moved = subst (λ (d : ℕ). (d ≡ 0) ⊎ (dueIn y < d)) (sym due) (moved-on (laterRow k .turn) (laterRow k .takes) (laterRow k .next) (dueIn y) turn);
-      in-turn = turn;
-      heard = h;
-      wrote = ap (λ (z : Left). z .slot) l ∙ ap (λ (d : ℕ). leaveLater d (roleIn y) (termsIn y) s) (sym due);
-      cleared = ap (λ (z : Left). z .scratch) l ∙ ap (λ (d : ℕ). wipeScratch d (roleIn y) (termsIn y)) (sym due);
-      sends = m;
-    }
-
 -- t, or nothing where W + V is singular
-pub t-sends : (y : SolverSession) (s : Slot) (m : Message) → TermsFit system (y .terms) → (b : Bool) → regular (y .terms .q) (y .terms .m) (jointSum y s m) ≡ b
+t-sends : (y : SolverSession) (s : Slot) (m : Message) → TermsFit system (y .terms) → (b : Bool) → regular (y .terms .q) (y .terms .m) (jointSum y s m) ≡ b
     → (solverLastEffect y s m .sent ≡ noMessage) ⊎ MessageFits 5 (y .terms) (solverLastEffect y s m .sent)
 t-sends y s m t true e = inr (t-sent y s m t e)
 t-sends y s m t false e = inl (unfold solverLastEffect in rw e)
 
--- a step that takes a message waits for one of a kind from 1 up
-abbrev pub Waits : (takes : ℕ) → List Message → Type 0
-Waits takes [] = Unit
-Waits takes (_ ∷ _) = 0 < takes
-
-pub record LaterLaw (k : Later) (x : Session) (s : Slot) (u : List ℕ) : Type 1 where
+-- y: the session, as its own end's
+pub record LaterLaw (k : Later) (x : Session) (s : Slot) (u : List ℕ) (y : Session) : Type 1 where
   pub waits : Waits (laterRow k .takes) (takenLater k)
   pub Needs : Type 0
   pub effect : Effect Session
   pub decides : Decides (runLater k x s u) effect Needs
-  pub known : Needs → Continues k (ownEnd (roleLater k) x) s effect
+  pub known : Needs → Continues k y s effect
+  pub seen : (v : View) → SeenBy y v → matrices (roleLater k) (termsIn y) (slotWords s) ≡ v .half
+      → (roleLater k ≡ blinder → scratchParts (termsIn y) u ≡ scratchParts (termsIn y) (v .coins)) → Needs
+      → SeenBy (effect .session) (viewLater v k effect) × Gave (roleLater k) (termsIn y) (effect .result) (viewLater v k effect)
+  pub met : (v : View) (ls : List (List ℕ)) → SeenBy y v → Holding (roleLater k) IN-USE (termsIn y) ls s → (roleLater k ≡ blinder → Coins v u) → FairBy y k → Needs
 
-unfoldable pub later-law : (k : Later) (x : Session) (s : Slot) (u : List ℕ) → LaterLaw k x s u
-unfolding runLater rightLastEffect solverSecondEffect solverLastEffect blinderSecondEffect blinderLastEffect
-later-law (right-last m room) x s u = record {
-  waits = omega arith;
-  Needs = tests.RightLastFits (asRight x) s m room;
-  effect = asAny rightEnd (rightLastEffect (asRight x) s m);
-  decides = any-decides rightEnd (tests.right-last (asRight x) s m room);
-  known = λ n. went x refl (n .later .session-open) (n .later .due-is, inl refl) (n .message, λ p. refl) (inl refl);
-}
+pub later-law : (k : Later) (x : Session) (s : Slot) (u : List ℕ) → LaterLaw k x s u (ownEnd (roleLater k) x)
+unfolding runLater rightLastEffect solverSecondEffect solverLastEffect blinderSecondEffect blinderLastEffect messageParts
+later-law (right-last m room) x s u =
+    let t = asRight x .terms in
+    record {
+      waits = omega arith;
+      Needs = tests.RightLastFits (asRight x) s m room;
+      effect = asAny rightEnd (rightLastEffect (asRight x) s m);
+      decides = any-decides rightEnd (tests.right-last (asRight x) s m room);
+      known = λ n. went x refl (n .later .session-open) (n .later .due-is, inl refl) (n .message, λ p. refl) (inl refl);
+      seen = λ v sn e c n.
+          let w = n .later .session-open .is-open in
+          let got : v .received ++ (m .residues ∷ []) ≡ m .residues ∷ [] = ap (λ (z : List (List ℕ)). z ++ (m .residues ∷ [])) (sn .waits w) in (
+            record {
+              known = known-with (sn .known) (v .sent) (m .residues ∷ []) (quiet (v .sent)) got (sn .known .sent-is ∙ right-any _ _ _ _ _) (sn .known .sent-fit)
+                  (n .message .residues before no-more) (omega (arith, sn .one-sent));
+              one-sent = ap length (quiet (v .sent)) ∙ sn .one-sent;
+              waits = λ z. absurd (omega (arith, z));
+            },
+            λ z. (
+              m .residues,
+              got,
+              ap (λ (ls : List (List ℕ)). rightShare (t .q) (t .m) (t .k) (t .p) (part 0 (cut 2 t (m .residues))) (part 0 ls) (part 1 (cut 2 t (m .residues))) (part 1 ls)) e,
+            ),
+          );
+      met = λ v ls sn held b f. record { later = in-time 2 (asRight x .due) held (sn .known .terms-fit) (f .0) (omega arith); message = f .1; share-room = f .2 };
+    }
 later-law (solver-second m room) x s u = record {
   waits = omega arith;
   Needs = tests.SolverFits 2 (asSolver x) s m (messageSize 3 (asSolver x .terms)) room;
   effect = asAny solverEnd (solverSecondEffect (asSolver x) s m);
   decides = any-decides solverEnd (tests.solver-second (asSolver x) s m room);
   known = λ n.
-      went x refl (n .later .session-open) (n .later .due-is, inr (omega arith)) (n .message, λ p. in-system p) (inr (f-sent (asSolver x) s m (n .later .session-open .terms)));
+      went x refl (n .later .session-open) (n .later .due-is, inr (omega arith)) (n .message, λ p. in-system p)
+      (inr (f-sent (asSolver x) s m (n .later .session-open .terms)));
+  seen = λ v sn e c n. (f-stage (asSolver x) v s m room sn n e (sn .stage), tt);
+  met = λ v ls sn held b f. solver-needs v s ls 2 m _ room (asSolver x) sn held (omega arith) f;
 }
 later-law (solver-last m room) x s u = record {
   waits = omega arith;
@@ -345,6 +276,18 @@ later-law (solver-last m room) x s u = record {
   decides = any-decides solverEnd (tests.solver-last (asSolver x) s m room);
   known = λ n.
       went x refl (n .later .session-open) (n .later .due-is, inl refl) (n .message, λ p. in-system p) (t-sends (asSolver x) s m (n .later .session-open .terms) _ refl);
+  seen = λ v sn e c n. (
+    record {
+      known = t-stage (asSolver x) v s m room sn n e _ refl (sn .stage);
+      l = sn .l;
+      x = sn .x;
+      input-is = sn .input-is;
+      began = sn .began;
+      stage = s-over refl;
+    },
+    tt,
+  );
+  met = λ v ls sn held b f. solver-needs v s ls 4 m _ room (asSolver x) sn held (omega arith) f;
 }
 later-law (blinder-second m room) x s u = record {
   waits = omega arith;
@@ -352,21 +295,49 @@ later-law (blinder-second m room) x s u = record {
   effect = asAny blinderEnd (blinderSecondEffect (asBlinder x) s u m);
   decides = any-decides blinderEnd (tests.blinder-second (asBlinder x) s u m room);
   known = λ n.
-      went x refl (n .later .session-open) (n .later .due-is, inr (omega arith)) (n .message, λ p. in-system p) (inr (w-sent (asBlinder x) s u m (n .later .session-open .terms)));
+      went x refl (n .later .session-open) (n .later .due-is, inr (omega arith)) (n .message, λ p. in-system p)
+      (inr (w-sent (asBlinder x) s u m (n .later .session-open .terms)));
+  seen = λ v sn e c n.
+      let w = w-stage (asBlinder x) v s u m room sn n e (c refl) (sn .stage) in
+      (w, λ z. absurd (omega (arith, z, open-short _ (w .stage) (omega arith))));
+  met = λ v ls sn held b f. blinder-needs v u (b refl) s ls 3 m _ room (asBlinder x) sn held (omega arith) f;
 }
-later-law (blinder-last m room) x s u = record {
-  waits = omega arith;
-  Needs = tests.BlinderFits 5 (asBlinder x) s u m (sideSize (asBlinder x .terms)) room;
-  effect = asAny blinderEnd (blinderLastEffect (asBlinder x) s u m);
-  decides = any-decides blinderEnd (tests.blinder-last (asBlinder x) s u m room);
-  known = λ n. went x refl (n .later .session-open) (n .later .due-is, inl refl) (n .message, λ p. in-system p) (inl refl);
-}
+later-law (blinder-last m room) x s u =
+    let t = asBlinder x .terms in
+    record {
+      waits = omega arith;
+      Needs = tests.BlinderFits 5 (asBlinder x) s u m (sideSize (asBlinder x .terms)) room;
+      effect = asAny blinderEnd (blinderLastEffect (asBlinder x) s u m);
+      decides = any-decides blinderEnd (tests.blinder-last (asBlinder x) s u m room);
+      known = λ n. went x refl (n .later .session-open) (n .later .due-is, inl refl) (n .message, λ p. in-system p) (inl refl);
+      seen = λ v sn e c n.
+          let w = z-stage (asBlinder x) v m sn (n .later .due-is) (n .message) (sn .stage) in (
+            record {
+              known = known-still (w .3) (quiet (v .sent)) refl;
+              mm = sn .mm;
+              y = sn .y;
+              input-is = sn .input-is;
+              began = sn .began;
+              stage = b-over refl;
+            },
+            λ z. (
+              w .0,
+              w .1,
+              m .residues,
+              ap (λ (z : List (List ℕ)). z ++ (m .residues ∷ [])) (w .2),
+              ap (λ (ls : List (List ℕ)). matMul (t .q) (t .m) (t .m) (columns (t .m) (t .p)) (part 2 ls) (part 0 (cut 5 t (m .residues)))) e,
+            ),
+          );
+      met = λ v ls sn held b f. blinder-needs v u (b refl) s ls 5 m _ room (asBlinder x) sn held (omega arith) f;
+    }
 later-law right-drop x s u = record {
   waits = tt;
   Needs = OpenFits right (asRight x .due) (asRight x .terms) s;
   effect = asAny rightEnd (dropped (closedRight (asRight x)) (wordsSpent right (asRight x .terms) (slotWords s)) []);
   decides = any-decides rightEnd (tests.drop-right (asRight x) s);
   known = λ n. went x refl n refl tt (inl refl);
+  seen = λ v sn e c n. drop-view (rightEnd (asRight x)) v sn (n .is-open);
+  met = λ v ls sn held b f. drop-needs held (sn .known .terms-fit) f;
 }
 later-law solver-drop x s u = record {
   waits = tt;
@@ -374,17 +345,23 @@ later-law solver-drop x s u = record {
   effect = asAny solverEnd (dropped (closedSolver (asSolver x)) (wordsSpent solver (asSolver x .terms) (slotWords s)) []);
   decides = any-decides solverEnd (tests.drop-solver (asSolver x) s);
   known = λ n. went x refl n refl tt (inl refl);
+  seen = λ v sn e c n. drop-view (solverEnd (asSolver x)) v sn (n .is-open);
+  met = λ v ls sn held b f. drop-needs held (sn .known .terms-fit) f;
 }
-later-law blinder-drop x s u = record {
-  waits = tt;
-  Needs = tests.DropBlinderFits (asBlinder x) s u;
-  effect = asAny blinderEnd (dropped (closedBlinder (asBlinder x)) (wordsSpent blinder (asBlinder x .terms) (slotWords s)) (zeros (scratchSize (asBlinder x .terms))));
-  decides = any-decides blinderEnd (tests.drop-blinder (asBlinder x) s u);
-  known = λ n. went x refl (n .session-open) refl tt (inl refl);
-}
+later-law blinder-drop x s u =
+    let t = asBlinder x .terms in
+    record {
+      waits = tt;
+      Needs = tests.DropBlinderFits (asBlinder x) s u;
+      effect = asAny blinderEnd (dropped (closedBlinder (asBlinder x)) (wordsSpent blinder t (slotWords s)) (zeros (scratchSize t)));
+      decides = any-decides blinderEnd (tests.drop-blinder (asBlinder x) s u);
+      known = λ n. went x refl (n .session-open) refl tt (inl refl);
+      seen = λ v sn e c n. drop-view (blinderEnd (asBlinder x)) v sn (n .session-open .is-open);
+      met = λ v ls sn held b f. record { session-open = drop-needs held (sn .known .terms-fit) f; scratch-room = long-enough v u (b refl) (asBlinder x) sn };
+    }
 
--- an accepted later step: its needs were met, its effect is the definition's, and the session that it was called for is its own end's
-pub taken-up : (k : Later) (x : Session) (s : Slot) (u : List ℕ) {e : Effect Session} → runLater k x s u ≡ done e
+-- an accepted one: its needs were met, its effect is the definition's, and the session that it was called for is its own end's
+taken-up : (k : Later) (x : Session) (s : Slot) (u : List ℕ) {e : Effect Session} → runLater k x s u ≡ done e
     → later-law k x s u .Needs × (later-law k x s u .effect ≡ e) × (ownEnd (roleLater k) x ≡ x)
 taken-up k x s u h =
     let law = later-law k x s u in
@@ -395,6 +372,30 @@ pub continues-sound : (k : Later) (x : Session) (s : Slot) (u : List ℕ) (e : E
 continues-sound k x s u e h =
     let m = taken-up k x s u h in
     subst₂ (λ (x : Session) (e : Effect Session). Continues k x s e) (m .2) (m .1) (later-law k x s u .known (m .0))
+
+pub later-seen : (k : Later) (x : Session) (v : View) (s : Slot) (u : List ℕ) (f : Effect Session) → SeenBy x v → runLater k x s u ≡ done f
+    → matrices (roleIn x) (termsIn x) (slotWords s) ≡ v .half → (roleIn x ≡ blinder → scratchParts (termsIn x) u ≡ scratchParts (termsIn x) (v .coins))
+    → SeenBy (f .session) (viewLater v k f) × Gave (roleLater k) (termsIn x) (f .result) (viewLater v k f)
+later-seen k x v s u f sn h e c =
+    let m = taken-up k x s u h in
+    let r : roleIn x ≡ roleLater k = continues-sound k x s u f h .role-was in
+    let t : termsIn (ownEnd (roleLater k) x) ≡ termsIn x = ap termsIn (m .2) in
+    let both = later-law k x s u .seen v (subst (λ z. SeenBy z v) (sym (m .2)) sn)
+    (subst₂ (λ (r : Role) (t : Terms). matrices r t (slotWords s) ≡ v .half) r (sym t) e)
+    (λ b. subst (λ (t : Terms). scratchParts t u ≡ scratchParts t (v .coins)) (sym t) (c (r ∙ b))) (m .0)
+    in
+    subst₂ (λ (t : Terms) (f : Effect Session). SeenBy (f .session) (viewLater v k f) × Gave (roleLater k) t (f .result) (viewLater v k f)) t (m .1) both
+
+pub later-goes : (v : View) (s : Slot) (ls : List (List ℕ)) (u : List ℕ) (k : Later) (x : Session) → isBegun x ≡ true → roleIn x ≡ roleLater k → SeenBy x v
+    → Holding (roleLater k) IN-USE (termsIn x) ls s → (roleLater k ≡ blinder → Coins v u) → FairBy x k → (f : Effect Session) × (runLater k x s u ≡ done f)
+later-goes v s ls u k x b r seen held c f =
+    let law = later-law k x s u in
+    let own : ownEnd (roleLater k) x ≡ x = subst (λ (r : Role). ownEnd r x ≡ x) r (own-is x b) in
+    let needs : law .Needs =
+    subst (λ (y : Session). SeenBy y v → Holding (roleLater k) IN-USE (termsIn y) ls s → (roleLater k ≡ blinder → Coins v u) → FairBy y k → law .Needs) own (law .met v ls)
+    seen held c f
+    in
+    (law .effect, law .decides .accepts needs)
 
 -- ---- any of them
 

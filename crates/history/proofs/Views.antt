@@ -23,12 +23,11 @@ use Rattle.protocol.proofs.Residues.{parts-over}
 use Rattle.protocol.specs.Deal.{Dealt}
 use Rattle.protocol.specs.System.{scratchParts, scratchLayout}
 use Rattle.history.specs.Ends.{Session, absent, leftEnd, rightEnd, solverEnd, blinderEnd, dueIn, termsIn, roleIn, First, opening, Later, Step, begins, goes-on, roleFirst, roleLater, roleOf, runStep, runFirst, runLater}
-use Rattle.history.specs.Log.{choose, Party, State, Call, Dealing, Did, Entry, dealt, did, afterDealing, run, holds, here, place, lentTo, OwnScratchBy, Premises}
-use Rattle.history.specs.Log.{fresh as fresh-state}
+use Rattle.history.specs.Log.{choose, Party, State, Call, Dealing, Did, Entry, dealt, did, afterDealing, run, holds, here, place, lentTo, OwnScratchBy, Premises, fresh as fresh-state}
 use Rattle.history.specs.Contents.{half, tenantOf, tenantAfter, tenant, keptBy, coinsIn, termsBy, scratchWords}
 use Rattle.protocol.specs.View.{View}
 use Rattle.history.specs.Seen.{viewFirst, viewLater, halfAt, viewAfter, view}
-use Rattle.history.proofs.Steps.{Begins, Continues}
+use Rattle.history.proofs.Accepted.{Begins, Continues}
 use Rattle.history.proofs.Facts.{set-same, set-other, none≢, absent≢, same-server, same-dealing, same-name, place-known}
 use Rattle.history.proofs.Dealt.{Fine}
 use Rattle.history.proofs.Kept.{Agrees, Inv, slotBy, stateAfter, Way, fresh, onward, Move, ready-before, used-before, only, place-now, place-else}
@@ -36,8 +35,8 @@ use Rattle.history.specs.Claim.{Empty}
 use Rattle.history.proofs.Along.{along}
 use Rattle.history.proofs.Lent.{Lent, quiet, is-blinder?, move-lent, kept-open}
 use Rattle.history.proofs.Words.{tape-matrices}
-use Rattle.history.proofs.Known.{SeenBy, Gave, first-seen}
-use Rattle.history.proofs.KnownOn.{later-seen}
+use Rattle.history.proofs.Known.{SeenBy, Gave}
+use Rattle.history.proofs.Steps.{first-seen, later-seen}
 
 pub record Views (st : State) (l : List Entry) : Type 0 where
   -- a scratch's tenant keeps the coins of its view there
