@@ -14,6 +14,8 @@ use lib.ListN.{length}
 use Rattle.algebra.specs.Matrix.{Residues, zeros}
 use Rattle.algebra.specs.Count.{parts, total}
 use Rattle.protocol.specs.declared.Terms.{Terms}
+use Rattle.protocol.specs.declared.Answer.the-variants.{Refused}
+use Rattle.protocol.specs.declared.Refusal.the-variants.{Singular}
 use Rattle.protocol.specs.Judge.{refused, done}
 use Rattle.protocol.specs.Drawing.{residuesOf, drawn}
 use Rattle.protocol.specs.Bounds.{product, system}
@@ -31,7 +33,7 @@ use Rattle.history.specs.Contents.{coinsBy}
 use Rattle.history.specs.Seen.{inputOf, coinsDrawn, takenFirst, takenLater}
 
 -- an accepted outcome, as that of the end's own step
-pub of-any : {S : Type 0} (f : S → Session) (o : Outcome S) {e : Effect Session} → ofAny f o ≡ done e → (e₀ : Effect S) × (o ≡ done e₀) × (asAny f e₀ ≡ e)
+of-any : {S : Type 0} (f : S → Session) (o : Outcome S) {e : Effect Session} → ofAny f o ≡ done e → (e₀ : Effect S) × (o ≡ done e₀) × (asAny f e₀ ≡ e)
 of-any f (refused r) p = absurd (refused≢done p)
 of-any f (done e₀) p = (e₀, refl, cc)
 
@@ -71,13 +73,13 @@ leftBy e = record {
   scratch = e .scratch;
 }
 
--- a message of the row's kind, or none
+-- a message of the row's kind; none where the row has none, or it answered 10
 abbrev pub Sends : StepKind → Effect Session → Type 0
-Sends k e = (e .sent ≡ noMessage) ⊎ MessageFits (row k .sends) (termsIn (e .session)) (e .sent)
+Sends k e = ((e .sent ≡ noMessage) × ((row k .sends ≡ 0) ⊎ (e .answer ≡ Refused Singular))) ⊎ MessageFits (row k .sends) (termsIn (e .session)) (e .sent)
 
 -- the message that it took fits; in a product the facing end sends no other
 abbrev pub Hears : Row → Terms → List Message → Type 0
-Hears r t [] = Unit
+Hears r t [] = r .takes ≡ 0
 Hears r t (a ∷ _) = MessageFits (r .takes) t a × (sortOf (r .role) ≡ product → kindsSent (facing (r .role)) ≡ r .takes ∷ [])
 
 pub in-system : {A : Type 0} → system ≡ product → A
@@ -238,5 +240,5 @@ went {k} x {s} {e} l f turn h m =
 
 -- a step that takes a message waits for one of a kind from 1 up
 abbrev pub Waits : (takes : ℕ) → List Message → Type 0
-Waits takes [] = Unit
+Waits takes [] = takes ≡ 0
 Waits takes (_ ∷ _) = 0 < takes

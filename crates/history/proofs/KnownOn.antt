@@ -45,6 +45,14 @@ shut (rightEnd x) = rightEnd (closedRight x)
 shut (solverEnd x) = solverEnd (closedSolver x)
 shut (blinderEnd x) = blinderEnd (closedBlinder x)
 
+pub closed-solver : {y : SolverSession} {v : View} {sent got : List (List ℕ)} → SolverSeen y v → Known solver (y .terms) (viewWith v sent got)
+    → SolverSeen (closedSolver y) (viewWith v sent got)
+closed-solver seen k = record { known = k; l = seen .l; x = seen .x; input-is = seen .input-is; began = seen .began; stage = s-over refl }
+
+pub closed-blinder : {z : BlinderSession} {v : View} {sent got : List (List ℕ)} → BlinderSeen z v → Known blinder (z .terms) (viewWith v sent got)
+    → BlinderSeen (closedBlinder z) (viewWith v sent got)
+closed-blinder seen k = record { known = k; mm = seen .mm; y = seen .y; input-is = seen .input-is; began = seen .began; stage = b-over refl }
+
 -- an open blinder awaits a message
 pub open-short : {t : Terms} {half : List (List ℕ)} {mm y coins : List ℕ} (z : BlinderSession) {got : List (List ℕ)} → BlinderStage t half mm y coins z got → 0 < z .due → length got < 3
 open-short z (b-first a ra p q) o = omega (arith, ap length p)
@@ -59,12 +67,9 @@ shut-seen (rightEnd x) v seen o es eg = (
   record { known = known-still (seen .known) es eg; one-sent = ap length es ∙ seen .one-sent; waits = λ z. absurd (omega (arith, z)) },
   λ z. absurd (omega (arith, z, ap length (eg ∙ seen .waits o))),
 )
-shut-seen (solverEnd x) v seen o es eg = (
-  record { known = known-still (seen .known) es eg; l = seen .l; x = seen .x; input-is = seen .input-is; began = seen .began; stage = s-over refl },
-  tt,
-)
+shut-seen (solverEnd x) v seen o es eg = (closed-solver seen (known-still (seen .known) es eg), tt)
 shut-seen (blinderEnd x) v seen o es eg = (
-  record { known = known-still (seen .known) es eg; mm = seen .mm; y = seen .y; input-is = seen .input-is; began = seen .began; stage = b-over refl },
+  closed-blinder seen (known-still (seen .known) es eg),
   λ z. absurd (omega (arith, z, ap length eg, open-short x (seen .stage) o)),
 )
 

@@ -1,6 +1,5 @@
 -- Every view that stands for a session of the list is one of those that protocol's counts are for: as it was answered, and with another message sent, which
 -- the other end accepted.
---   seen-known                  what is known of a session's view
 --   taken-fit, heard            a message that a step of a product accepted fits its tape
 --   stands-secret
 -- Assumes nothing.
@@ -21,25 +20,18 @@ use Rattle.protocol.specs.Step.{Effect}
 use Rattle.protocol.specs.View.{View, facing, kindsSent}
 use Rattle.protocol.specs.Completion.{Secret}
 use Rattle.protocol.proofs.Completion.{Messages, no-more, _before_, ahead, Arises, secret}
-use Rattle.history.specs.Ends.{Session, absent, leftEnd, rightEnd, solverEnd, blinderEnd, isBegun, termsIn, roleIn, Row, Step, begins, goes-on, roleFirst, roleLater, roleOf, runStep}
+use Rattle.history.specs.Ends.{Session, isBegun, termsIn, roleIn, Row, Step, begins, goes-on, roleFirst, roleLater, roleOf, runStep}
 use Rattle.history.specs.Log.{Party, State, Call, Dealing, Did, Entry, did, run, WasDone, numberOf, Premises}
 use Rattle.history.specs.Seen.{view, takenFirst, takenLater, takenBy, withSent, AcceptedBy, Stands, as-answered, as-accepted}
 use Rattle.history.specs.Claim.{Empty}
-use Rattle.history.proofs.Facts.{absent≢, one-dealing}
+use Rattle.history.proofs.Facts.{one-dealing}
 use Rattle.history.proofs.Accepted.{firstRow, laterRow, Hears}
 use Rattle.history.proofs.Steps.{begins-sound, continues-sound}
 use Rattle.history.proofs.Kept.{stateAfter, Move}
 use Rattle.history.proofs.Along.{along}
 use Rattle.history.proofs.Served.{served}
-use Rattle.history.proofs.Known.{Known, arises, SeenBy}
+use Rattle.history.proofs.Known.{Known, arises, seen-known}
 use Rattle.history.proofs.Views.{views}
-
-pub seen-known : (x : Session) (v : View) → SeenBy x v → isBegun x ≡ true → Known (roleIn x) (termsIn x) v
-seen-known absent v s b = absent≢ refl b
-seen-known (leftEnd t) v s b = s
-seen-known (rightEnd x) v s b = s .known
-seen-known (solverEnd x) v s b = s .known
-seen-known (blinderEnd x) v s b = s .known
 
 -- ---- an accepted message
 

@@ -19,6 +19,8 @@ use Rattle.algebra.specs.Elimination.{regular}
 use Rattle.algebra.proofs.Lists.{residues-none}
 use Rattle.protocol.specs.declared.Terms.{Terms}
 use Rattle.protocol.specs.declared.SolverSession.{SolverSession}
+use Rattle.protocol.specs.declared.Answer.the-variants.{Refused}
+use Rattle.protocol.specs.declared.Refusal.the-variants.{Singular}
 use Rattle.protocol.specs.Judge.{done}
 use Rattle.protocol.specs.Bounds.{system, columns}
 use Rattle.protocol.specs.Tape.{Slot, slotWords, Role, left, right, blinder, solver, sortOf, wordsSpent, matrices, READY, IN-USE}
@@ -41,8 +43,8 @@ use Rattle.history.proofs.Replay.{y-sent, x-sent, y1-sent, x1-sent, f-s
 use Rattle.history.specs.Log.{World}
 use Rattle.history.specs.Right.{FairFirst}
 use Rattle.history.proofs.Accepted.{any-decides, firstRow, laterRow, Sends, in-system, Begins, began, coins-drawn, Continues, ownEnd, own-open, own-is, went, Waits}
-use Rattle.history.proofs.Known.{known-with, known-still, s-first, s-over, b-first, b-over, SeenBy, cut, Gave, half-now, first-known}
-use Rattle.history.proofs.KnownOn.{quiet, open-short, drop-view, right-any, f-stage, t-stage, w-stage, z-stage}
+use Rattle.history.proofs.Known.{known-with, known-still, s-first, b-first, SeenBy, cut, Gave, half-now, first-known}
+use Rattle.history.proofs.KnownOn.{quiet, closed-solver, closed-blinder, open-short, drop-view, right-any, f-stage, t-stage, w-stage, z-stage}
 use Rattle.history.proofs.Needs.{Handed, FairBy, in-time, drop-needs, solver-needs, Coins, long-enough, blinder-needs}
 use Rattle.algebra.specs.Product.{rightShare}
 use Rattle.protocol.proofs.Completion.{no-more, _before_}
@@ -69,7 +71,7 @@ first-law t (right-first y room) s u =
       effect = asAny rightEnd (rightFirstEffect t s y);
       decides = any-decides rightEnd d;
       known = λ n.
-          began refl refl (inr (omega arith)) (n .first) (taken-by-right t s y room (d .accepts n)) residues-none refl tt (inr (y-sent t s y (n .first .terms)));
+          began refl refl (inr (omega arith)) (n .first) (taken-by-right t s y room (d .accepts n)) residues-none refl refl (inr (y-sent t s y (n .first .terms)));
       seen = λ ls e rq n g.
           let m = y-sent t s y (n .first .terms) in (
             record {
@@ -116,7 +118,7 @@ first-law t (solver-first l x room) s u =
       effect = asAny solverEnd (solverFirstEffect t s l x);
       decides = any-decides solverEnd d;
       known = λ n.
-          began refl refl (inr (omega arith)) (n .first) (taken-by-solver t s l x room (d .accepts n)) residues-none refl tt
+          began refl refl (inr (omega arith)) (n .first) (taken-by-solver t s l x room (d .accepts n)) residues-none refl refl
           (inr (y1-sent t s l x (n .first .terms)));
       seen = λ ls e rq n g.
           let m = y1-sent t s l x (n .first .terms) in
@@ -215,9 +217,10 @@ first-goes o handed t k s u terms held f = let law = first-law t k s u in (law .
 
 -- t, or nothing where W + V is singular
 t-sends : (y : SolverSession) (s : Slot) (m : Message) → TermsFit system (y .terms) → (b : Bool) → regular (y .terms .q) (y .terms .m) (jointSum y s m) ≡ b
-    → (solverLastEffect y s m .sent ≡ noMessage) ⊎ MessageFits 5 (y .terms) (solverLastEffect y s m .sent)
+    → let e = solverLastEffect y s m in
+    ((e .sent ≡ noMessage) × ((_≡_ {A = ℕ} 5 0) ⊎ (e .answer ≡ Refused Singular))) ⊎ MessageFits 5 (y .terms) (e .sent)
 t-sends y s m t true e = inr (t-sent y s m t e)
-t-sends y s m t false e = inl (unfold solverLastEffect in rw e)
+t-sends y s m t false e = inl (unfold solverLastEffect in (rw e, inr (rw e)))
 
 -- y: the session, as its own end's
 pub record LaterLaw (k : Later) (x : Session) (s : Slot) (u : List ℕ) (y : Session) : Type 1 where
@@ -240,7 +243,7 @@ later-law (right-last m room) x s u =
       Needs = tests.RightLastFits (asRight x) s m room;
       effect = asAny rightEnd (rightLastEffect (asRight x) s m);
       decides = any-decides rightEnd (tests.right-last (asRight x) s m room);
-      known = λ n. went x refl (n .later .session-open) (n .later .due-is, inl refl) (n .message, λ p. refl) (inl refl);
+      known = λ n. went x refl (n .later .session-open) (n .later .due-is, inl refl) (n .message, λ p. refl) (inl (refl, inl refl));
       seen = λ v sn e c n.
           let w = n .later .session-open .is-open in
           let got : v .received ++ (m .residues ∷ []) ≡ m .residues ∷ [] = ap (λ (z : List (List ℕ)). z ++ (m .residues ∷ [])) (sn .waits w) in (
@@ -276,17 +279,7 @@ later-law (solver-last m room) x s u = record {
   decides = any-decides solverEnd (tests.solver-last (asSolver x) s m room);
   known = λ n.
       went x refl (n .later .session-open) (n .later .due-is, inl refl) (n .message, λ p. in-system p) (t-sends (asSolver x) s m (n .later .session-open .terms) _ refl);
-  seen = λ v sn e c n. (
-    record {
-      known = t-stage (asSolver x) v s m room sn n e _ refl (sn .stage);
-      l = sn .l;
-      x = sn .x;
-      input-is = sn .input-is;
-      began = sn .began;
-      stage = s-over refl;
-    },
-    tt,
-  );
+  seen = λ v sn e c n. (closed-solver sn (t-stage (asSolver x) v s m room sn n e _ refl (sn .stage)), tt);
   met = λ v ls sn held b f. solver-needs v s ls 4 m _ room (asSolver x) sn held (omega arith) f;
 }
 later-law (blinder-second m room) x s u = record {
@@ -309,17 +302,10 @@ later-law (blinder-last m room) x s u =
       Needs = tests.BlinderFits 5 (asBlinder x) s u m (sideSize (asBlinder x .terms)) room;
       effect = asAny blinderEnd (blinderLastEffect (asBlinder x) s u m);
       decides = any-decides blinderEnd (tests.blinder-last (asBlinder x) s u m room);
-      known = λ n. went x refl (n .later .session-open) (n .later .due-is, inl refl) (n .message, λ p. in-system p) (inl refl);
+      known = λ n. went x refl (n .later .session-open) (n .later .due-is, inl refl) (n .message, λ p. in-system p) (inl (refl, inl refl));
       seen = λ v sn e c n.
           let w = z-stage (asBlinder x) v m sn (n .later .due-is) (n .message) (sn .stage) in (
-            record {
-              known = known-still (w .3) (quiet (v .sent)) refl;
-              mm = sn .mm;
-              y = sn .y;
-              input-is = sn .input-is;
-              began = sn .began;
-              stage = b-over refl;
-            },
+            closed-blinder sn (known-still (w .3) (quiet (v .sent)) refl),
             λ z. (
               w .0,
               w .1,
@@ -331,31 +317,31 @@ later-law (blinder-last m room) x s u =
       met = λ v ls sn held b f. blinder-needs v u (b refl) s ls 5 m _ room (asBlinder x) sn held (omega arith) f;
     }
 later-law right-drop x s u = record {
-  waits = tt;
+  waits = refl;
   Needs = OpenFits right (asRight x .due) (asRight x .terms) s;
   effect = asAny rightEnd (dropped (closedRight (asRight x)) (wordsSpent right (asRight x .terms) (slotWords s)) []);
   decides = any-decides rightEnd (tests.drop-right (asRight x) s);
-  known = λ n. went x refl n refl tt (inl refl);
+  known = λ n. went x refl n refl refl (inl (refl, inl refl));
   seen = λ v sn e c n. drop-view (rightEnd (asRight x)) v sn (n .is-open);
   met = λ v ls sn held b f. drop-needs held (sn .known .terms-fit) f;
 }
 later-law solver-drop x s u = record {
-  waits = tt;
+  waits = refl;
   Needs = OpenFits solver (asSolver x .due) (asSolver x .terms) s;
   effect = asAny solverEnd (dropped (closedSolver (asSolver x)) (wordsSpent solver (asSolver x .terms) (slotWords s)) []);
   decides = any-decides solverEnd (tests.drop-solver (asSolver x) s);
-  known = λ n. went x refl n refl tt (inl refl);
+  known = λ n. went x refl n refl refl (inl (refl, inl refl));
   seen = λ v sn e c n. drop-view (solverEnd (asSolver x)) v sn (n .is-open);
   met = λ v ls sn held b f. drop-needs held (sn .known .terms-fit) f;
 }
 later-law blinder-drop x s u =
     let t = asBlinder x .terms in
     record {
-      waits = tt;
+      waits = refl;
       Needs = tests.DropBlinderFits (asBlinder x) s u;
       effect = asAny blinderEnd (dropped (closedBlinder (asBlinder x)) (wordsSpent blinder t (slotWords s)) (zeros (scratchSize t)));
       decides = any-decides blinderEnd (tests.drop-blinder (asBlinder x) s u);
-      known = λ n. went x refl (n .session-open) refl tt (inl refl);
+      known = λ n. went x refl (n .session-open) refl refl (inl (refl, inl refl));
       seen = λ v sn e c n. drop-view (blinderEnd (asBlinder x)) v sn (n .session-open .is-open);
       met = λ v ls sn held b f. record { session-open = drop-needs held (sn .known .terms-fit) f; scratch-room = long-enough v u (b refl) (asBlinder x) sn };
     }

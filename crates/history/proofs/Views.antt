@@ -22,10 +22,10 @@ use Rattle.algebra.specs.Matrix.{Residues}
 use Rattle.protocol.proofs.Residues.{parts-over}
 use Rattle.protocol.specs.Deal.{Dealt}
 use Rattle.protocol.specs.System.{scratchParts, scratchLayout}
-use Rattle.history.specs.Ends.{Session, absent, leftEnd, rightEnd, solverEnd, blinderEnd, dueIn, termsIn, roleIn, First, opening, Later, Step, begins, goes-on, roleFirst, roleLater, roleOf, runStep, runFirst, runLater}
+use Rattle.history.specs.Ends.{Session, absent, dueIn, termsIn, roleIn, First, opening, Later, Step, begins, goes-on, roleFirst, roleLater, roleOf, runStep, runFirst, runLater, isBegun}
 use Rattle.history.specs.Log.{choose, Party, State, Call, Dealing, Did, Entry, dealt, did, afterDealing, run, holds, here, place, lentTo, OwnScratchBy, Premises, fresh as fresh-state}
 use Rattle.history.specs.Contents.{half, tenantOf, tenantAfter, tenant, keptBy, coinsIn, termsBy, scratchWords}
-use Rattle.protocol.specs.View.{View}
+use Rattle.protocol.specs.View.{View, coinLayout}
 use Rattle.history.specs.Seen.{viewFirst, viewLater, halfAt, viewAfter, view}
 use Rattle.history.proofs.Accepted.{Begins, Continues}
 use Rattle.history.proofs.Facts.{set-same, set-other, none≢, absent≢, same-server, same-dealing, same-name, place-known}
@@ -35,7 +35,7 @@ use Rattle.history.specs.Claim.{Empty}
 use Rattle.history.proofs.Along.{along}
 use Rattle.history.proofs.Lent.{Lent, quiet, is-blinder?, move-lent, kept-open}
 use Rattle.history.proofs.Words.{tape-matrices}
-use Rattle.history.proofs.Known.{SeenBy, Gave}
+use Rattle.history.proofs.Known.{SeenBy, Gave, seen-known}
 use Rattle.history.proofs.Steps.{first-seen, later-seen}
 
 pub record Views (st : State) (l : List Entry) : Type 0 where
@@ -95,12 +95,8 @@ blinder-coins : (t : Terms) (f : First) (ls : List (List ℕ)) (g : Effect Sessi
 blinder-coins t f ls g r = ap (λ (r : Role). keptBy r (opening f .coins t)) (sym r)
 
 -- what a blinder drew
-blinder-coins-fit : (x : Session) (v : View) → SeenBy x v → roleIn x ≡ blinder → Residues (termsIn x .q) (total (scratchLayout (termsIn x))) (v .coins)
-blinder-coins-fit absent v s r = absurd (let z : _≡_ {A = ℕ} 0 1 = cc in omega arith)
-blinder-coins-fit (leftEnd t) v s r = absurd (let z : _≡_ {A = ℕ} 0 1 = cc in omega arith)
-blinder-coins-fit (rightEnd y) v s r = absurd (let z : _≡_ {A = ℕ} 0 1 = cc in omega arith)
-blinder-coins-fit (solverEnd y) v s r = absurd (let z : _≡_ {A = ℕ} 0 1 = cc in omega arith)
-blinder-coins-fit (blinderEnd y) v s r = s .known .coins-residues
+blinder-coins-fit : (x : Session) (v : View) → SeenBy x v → isBegun x ≡ true → roleIn x ≡ blinder → Residues (termsIn x .q) (total (scratchLayout (termsIn x))) (v .coins)
+blinder-coins-fit x v s b r = subst (λ (r : Role). Residues (termsIn x .q) (total (coinLayout r (termsIn x))) (v .coins)) r (seen-known x v s b .coins-residues)
 
 -- the half that a session agrees with fits its terms
 agrees-fits : {size : Party → ℕ} {start : Party → List ℕ} (x : Session) (w : Party) (d : Dealing) → Fine size start d → Agrees x w d
@@ -198,7 +194,7 @@ module _ (size : Party → ℕ) (start : Party → List ℕ) (lent : ℕ → Lis
           ∙ ap (λ (z : List ℕ). over z (x .0 .on .scratches (e .scratch))) (kept-open (dueIn (e .on .sessions (x .0 .name))) (termsBy (x .0 .step)) (coinsIn (x .0 .step)) due)
           in
           ap (scratchParts (termsIn x₀)) words
-          ∙ parts-over (scratchLayout (termsIn x₀)) (x .0 .on .scratches (e .scratch)) (subst (Residues (termsIn x₀ .q) (total (scratchLayout (termsIn x₀)))) coins (blinder-coins-fit x₀ (view l (e .name)) (vs .seen (e .name)) r))
+          ∙ parts-over (scratchLayout (termsIn x₀)) (x .0 .on .scratches (e .scratch)) (subst (Residues (termsIn x₀ .q) (total (scratchLayout (termsIn x₀)))) coins (blinder-coins-fit x₀ (view l (e .name)) (vs .seen (e .name)) (g .was-begun) r))
           ∙ ap (scratchParts (termsIn x₀)) (sym coins)
 
       pub later-acts : runLater k x₀ (slotBy size start e) (e .on .scratches (e .scratch)) ≡ done (e .effect)
