@@ -28,7 +28,8 @@ use Rattle.protocol.specs.Completion.{coinsFit, Taken}
 use Rattle.protocol.proofs.Judge.{refused≢done}
 use Rattle.protocol.proofs.Residues.{residues-drawn}
 use Rattle.protocol.proofs.Tests.{Decides, TermsFit, FirstFits, OpenFits, MessageFits, draw-tests}
-use Rattle.history.specs.Ends.{Session, absent, leftEnd, rightEnd, solverEnd, blinderEnd, isBegun, dueIn, termsIn, roleIn, asRight, asSolver, asBlinder, First, Later, StepKind, Turn, opens, awaits, drops, Row, row, kindFirst, kindLater, roleFirst, roleLater, asAny, ofAny}
+use Rattle.history.specs.Ends.{Session, absent, leftEnd, rightEnd, solverEnd, blinderEnd, isBegun, dueIn, termsIn, roleIn, asRight, asSolver, asBlinder}
+use Rattle.history.specs.Ends.{First, Later, StepKind, Turn, opens, awaits, drops, Row, row, kindFirst, kindLater, roleFirst, roleLater, asAny, ofAny}
 use Rattle.history.specs.Contents.{coinsBy}
 use Rattle.history.specs.Seen.{inputOf, coinsDrawn, takenFirst, takenLater}
 
@@ -109,11 +110,21 @@ pub record Begins (t : Terms) (k : First) (s : Slot) (e : Effect Session) : Type
   pub laid : e .scratch ≡ coinsBy t k
   pub sends : Sends (kindFirst k) e
 
+abbrev pub leftFirst : Terms → First → Slot → Left
+leftFirst t k s = record {
+  begun = true;
+  role = roleFirst k;
+  terms = t;
+  due = firstRow k .next;
+  slot = leaveFirst (firstRow k .next) (roleFirst k) t s;
+  scratch = coinsBy t k;
+}
+
 module _ {t : Terms} {k : First} {s : Slot} {e : Effect Session} where
-  pub began : leftBy e
-      ≡ record { begun = true; role = roleFirst k; terms = t; due = firstRow k .next; slot = leaveFirst (firstRow k .next) (roleFirst k) t s; scratch = coinsBy t k }
+  pub began : leftBy e ≡ leftFirst t k s
       → firstRow k .turn ≡ opens → (roleFirst k ≡ left) ⊎ (0 < firstRow k .next) → FirstFits (roleFirst k) t s → Taken (roleFirst k) t (inputOf k)
-      → Residues (t .q) (total (coinLayout (roleFirst k) t)) (coinsDrawn t k) → coinsFit (roleFirst k) t (parts (coinLayout (roleFirst k) t) (coinsDrawn t k)) ≡ true
+      → Residues (t .q) (total (coinLayout (roleFirst k) t)) (coinsDrawn t k)
+      → coinsFit (roleFirst k) t (parts (coinLayout (roleFirst k) t) (coinsDrawn t k)) ≡ true
       → Hears (firstRow k) t (takenFirst k) → Sends (kindFirst k) e → Begins t k s e
   began l turn stays f i c cf h m = record {
     is-begun = ap (λ (z : Left). z .begun) l;
@@ -132,7 +143,8 @@ module _ {t : Terms} {k : First} {s : Slot} {e : Effect Session} where
     sends = m;
   }
 
-pub coins-drawn : {sort : _} (t : Terms) (n : ℕ) (words : List ℕ) → TermsFit sort t → n ≤ length (residuesOf (t .q) words) → Residues (t .q) n (drawn (t .q) n words)
+pub coins-drawn : {sort : _} (t : Terms) (n : ℕ) (words : List ℕ) → TermsFit sort t → n ≤ length (residuesOf (t .q) words)
+    → Residues (t .q) n (drawn (t .q) n words)
 coins-drawn t n words f e = residues-drawn (t .q) n words (omega (arith, f .big)) (draw-tests _ _ _ .1 e .all)
 
 -- ---- later steps and drops
@@ -215,9 +227,20 @@ moved-on opens takes next due h = absurd h
 moved-on awaits takes next due h = elim (h .1) [ inl z ↦ inl z | inr z ↦ inr (omega (arith, z, h .0)) ]
 moved-on drops takes next due h = inl h
 
+abbrev pub leftLater : (next : ℕ) → Session → Slot → Left
+leftLater next x s = record {
+  begun = true;
+  role = roleIn x;
+  terms = termsIn x;
+  due = next;
+  slot = leaveLater next (roleIn x) (termsIn x) s;
+  scratch = wipeScratch next (roleIn x) (termsIn x);
+}
+
 pub went : {k : Later} (x : Session) {s : Slot} {e : Effect Session} → let y = ownEnd (roleLater k) x in let r = laterRow k in
-    leftBy e ≡ record { begun = true; role = roleIn y; terms = termsIn y; due = r .next; slot = leaveLater (r .next) (roleIn y) (termsIn y) s; scratch = wipeScratch (r .next) (roleIn y) (termsIn y) }
-    → OpenFits (roleLater k) (dueIn y) (termsIn y) s → InTurn (r .turn) (r .takes) (r .next) (dueIn y) → Hears r (termsIn y) (takenLater k) → Sends (kindLater k) e
+    leftBy e ≡ leftLater (r .next) y s
+    → OpenFits (roleLater k) (dueIn y) (termsIn y) s → InTurn (r .turn) (r .takes) (r .next) (dueIn y) → Hears r (termsIn y) (takenLater k)
+    → Sends (kindLater k) e
     → Continues k y s e
 went {k} x {s} {e} l f turn h m =
     let y = ownEnd (roleLater k) x in

@@ -46,7 +46,8 @@ module _ (size : Party → ℕ) (start : Party → List ℕ) (empty : Empty size
       agrees = record {
         is-begun = g .is-begun;
         role-is = g .role-is ∙ sym (p .own-half d none (found .1));
-        tape-is = ap (λ (t : Terms). t .tape .0) (g .terms-are) ∙ sym (g .first .half .tape-is) ∙ ap (λ (z : List ℕ). getD z tapeAt 0) words ∙ tape-number _ _ d _;
+        tape-is =
+            ap (λ (t : Terms). t .tape .0) (g .terms-are) ∙ sym (g .first .half .tape-is) ∙ ap (λ (z : List ℕ). getD z tapeAt 0) words ∙ tape-number _ _ d _;
         q-is = ap (λ (t : Terms). t .q) (g .terms-are) ∙ sym (g .first .half .q-is) ∙ ap (λ (z : List ℕ). getD z qAt 0) words ∙ tape-q _ _ d _;
         m-is = ap (λ (t : Terms). t .m) (g .terms-are) ∙ sym (g .first .half .m-is) ∙ ap (λ (z : List ℕ). getD z mAt 0) words ∙ tape-m _ _ d _;
         k-is = ap (λ (t : Terms). t .k) (g .terms-are) ∙ sym (g .first .half .k-is) ∙ ap (λ (z : List ℕ). getD z kAt 0) words ∙ tape-k _ _ d _;

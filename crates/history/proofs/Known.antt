@@ -174,7 +174,8 @@ module _ (t : Terms) (k : First) (s : Slot) (ls : List (List ℕ)) (e : matrices
   half-now g = subst (λ (ls : List (List ℕ)). Fits (t .q) (layout (roleFirst k) (t .m) (t .k) (t .p)) ls) e (g .first .matrices-fit)
 
   -- by the one message that it sent, and the one that it took if there is one
-  pub first-known : {f : Effect Session} {kind : ℕ} → Begins t k s f → (roleFirst k ≡ blinder → regular (t .q) (t .m) (part 2 ls) ≡ true) → MessageFits (suc kind) t (f .sent)
+  pub first-known : {f : Effect Session} {kind : ℕ} → Begins t k s f → (roleFirst k ≡ blinder → regular (t .q) (t .m) (part 2 ls) ≡ true)
+      → MessageFits (suc kind) t (f .sent)
       → f .sent .residues ∷ [] ≡ messagesOf (roleFirst k) t (halfSlot (roleFirst k) t ls) (coinsDrawn t k) (inputOf k) (heard (f .answer) (takenFirst k))
       → Messages t (kindsSent (roleFirst k)) (f .sent .residues ∷ []) → Messages t (kindsSent (facing (roleFirst k))) (heard (f .answer) (takenFirst k))
       → length (heard (f .answer) (takenFirst k)) ≤ 1 + ahead (roleFirst k) → Known (roleFirst k) t (viewFirst t k ls f)

@@ -20,7 +20,8 @@ use Rattle.protocol.specs.Bounds.{allBelow}
 use Rattle.protocol.specs.Tape.{Slot, slotWords, blinder, solver, matrices}
 use Rattle.protocol.specs.Message.{Message, noMessage, messageSize}
 use Rattle.protocol.specs.Product.{closedRight}
-use Rattle.protocol.specs.System.{closedSolver, closedBlinder, keptS, keptM, keptY, jointSum, scratchParts, solverFirstEffect, solverSecondEffect, solverLastEffect, blinderFirstEffect, blinderSecondEffect}
+use Rattle.protocol.specs.System.{closedSolver, closedBlinder, keptS, keptM, keptY, jointSum, scratchParts, solverFirstEffect, solverSecondEffect}
+use Rattle.protocol.specs.System.{solverLastEffect, blinderFirstEffect, blinderSecondEffect}
 use Rattle.protocol.specs.View.{View}
 use Rattle.protocol.specs.Completion.{said, rightMessages, solverMessages, blinderMessages}
 use Rattle.protocol.proofs.Tests.{MessageFits}
@@ -29,8 +30,10 @@ use Rattle.protocol.proofs.CompletionLaws.{halfSlot}
 use Rattle.protocol.proofs.Completion.{no-more, _before_}
 use Rattle.history.specs.Ends.{Session, absent, leftEnd, rightEnd, solverEnd, blinderEnd, dueIn, termsIn, roleIn}
 use Rattle.history.specs.Seen.{heard}
-use Rattle.history.proofs.Replay.{said-is, incoming-whole, f-sent, w-sent, t-sent, y1-sent, x1-sent, solverOne, solverTwo, solverThree, solver-none, solver-one, solver-two, f-is, t-is, blinderOne, blinderTwo, blinder-one, blinder-two, w-is}
-use Rattle.history.proofs.Known.{Known, viewWith, known-with, known-still, SolverStage, s-first, s-second, s-over, SolverSeen, BlinderStage, b-first, b-second, b-over, BlinderSeen, SeenBy, Gave}
+use Rattle.history.proofs.Replay.{said-is, incoming-whole, f-sent, w-sent, t-sent, y1-sent, x1-sent, solverOne, solverTwo, solverThree, solver-none}
+use Rattle.history.proofs.Replay.{solver-one, solver-two, f-is, t-is, blinderOne, blinderTwo, blinder-one, blinder-two, w-is}
+use Rattle.history.proofs.Known.{Known, viewWith, known-with, known-still, SolverStage, s-first, s-second, s-over, SolverSeen, BlinderStage, b-first}
+use Rattle.history.proofs.Known.{b-second, b-over, BlinderSeen, SeenBy, Gave}
 
 pub quiet : (l : List (List ℕ)) → l ++ said noMessage ≡ l
 unfolding said
@@ -54,7 +57,8 @@ pub closed-blinder : {z : BlinderSession} {v : View} {sent got : List (List ℕ)
 closed-blinder seen k = record { known = k; mm = seen .mm; y = seen .y; input-is = seen .input-is; began = seen .began; stage = b-over refl }
 
 -- an open blinder awaits a message
-pub open-short : {t : Terms} {half : List (List ℕ)} {mm y coins : List ℕ} (z : BlinderSession) {got : List (List ℕ)} → BlinderStage t half mm y coins z got → 0 < z .due → length got < 3
+pub open-short : {t : Terms} {half : List (List ℕ)} {mm y coins : List ℕ} (z : BlinderSession) {got : List (List ℕ)} → BlinderStage t half mm y coins z got
+    → 0 < z .due → length got < 3
 open-short z (b-first a ra p q) o = omega (arith, ap length p)
 open-short z (b-second a b b2 b4 ra rb p d kept two) o = omega (arith, ap length p)
 open-short z (b-over d) o = absurd (omega (arith, o, d))
@@ -91,7 +95,8 @@ module _ {v : View} {t : Terms} {l x : List ℕ} (k : Known solver t v) (is : v 
   solver-sent e = k .sent-is ∙ ap₂ (λ (i g : List (List ℕ)). solverMessages t (halfSlot solver t (v .half)) i g) is e
 
 -- after its second step, by the stage before it
-pub f-stage : (y : SolverSession) (v : View) (s : Slot) (m : Message) (room : ℕ) (seen : SolverSeen y v) → tests.SolverFits 2 y s m (messageSize 3 (y .terms)) room
+pub f-stage : (y : SolverSession) (v : View) (s : Slot) (m : Message) (room : ℕ) (seen : SolverSeen y v)
+    → tests.SolverFits 2 y s m (messageSize 3 (y .terms)) room
     → matrices solver (y .terms) (slotWords s) ≡ v .half → SolverStage (y .terms) (v .half) (seen .l) (seen .x) y (v .received)
     → SolverSeen (solverSecondEffect y s m .session) (viewWith v (v .sent ++ said (solverSecondEffect y s m .sent)) (v .received ++ (m .residues ∷ [])))
 unfolding solverSecondEffect
@@ -131,7 +136,8 @@ module _ (y : SolverSession) (s : Slot) (m : Message) where
   unfolding solverLastEffect
   refuses r = (rw r, rw r)
 
-pub t-stage : (y : SolverSession) (v : View) (s : Slot) (m : Message) (room : ℕ) (seen : SolverSeen y v) → tests.SolverFits 4 y s m (messageSize 5 (y .terms)) room
+pub t-stage : (y : SolverSession) (v : View) (s : Slot) (m : Message) (room : ℕ) (seen : SolverSeen y v)
+    → tests.SolverFits 4 y s m (messageSize 5 (y .terms)) room
     → matrices solver (y .terms) (slotWords s) ≡ v .half → (b : Bool) → regular (y .terms .q) (y .terms .m) (jointSum y s m) ≡ b
     → SolverStage (y .terms) (v .half) (seen .l) (seen .x) y (v .received)
     → Known solver (y .terms) (viewWith v (v .sent ++ said (solverLastEffect y s m .sent)) (v .received ++ heard (solverLastEffect y s m .answer) (m ∷ [])))
@@ -185,7 +191,8 @@ w-stage z v s u m room seen o e c (b-first a ra p q) =
     let mb = subst (λ (z : BlinderSession). allBelow (t .q) (keptM z) ≡ true) q (o .m-below) in
     let yb = subst (λ (z : BlinderSession). allBelow (t .q) (keptY z) ≡ true) q (o .y-below) in
     let now : blinderSecondEffect z s u m .sent ≡ blinderTwo t (v .half) mm y (v .coins) a (m .residues) .sent =
-    ap (λ (z : BlinderSession). blinderSecondEffect z s u m .sent) q ∙ w-is t (v .half) mm y (v .coins) g a ra (m .residues) rm mb yb s u m (incoming-whole (o .message)) e c
+    ap (λ (z : BlinderSession). blinderSecondEffect z s u m .sent) q ∙ w-is t (v .half) mm y (v .coins) g a ra (m .residues) rm mb yb s u m
+    (incoming-whole (o .message)) e c
     in
     let two = blinder-two t (v .half) mm y (v .coins) g a ra (m .residues) rm mb yb in
     let got : v .received ++ (m .residues ∷ []) ≡ a ∷ m .residues ∷ [] = ap (λ (z : List (List ℕ)). z ++ (m .residues ∷ [])) p in

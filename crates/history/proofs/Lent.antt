@@ -103,7 +103,8 @@ tenant-quiet {P} h e k o {t} {f} q n = subst (λ (k : Step). tenantAfter h e k o
     go (yes _) = quiet (roleFirst f) n e o
     go (no _) = refl
 
-tenant-new : {P : Type 0} (h : Dec P) (e : Did) (k : Step) (o : Option Did) {t : Terms} {f : First} → k ≡ begins t f → roleFirst f ≡ blinder → P → tenantAfter h e k o ≡ some e
+tenant-new : {P : Type 0} (h : Dec P) (e : Did) (k : Step) (o : Option Did) {t : Terms} {f : First} → k ≡ begins t f → roleFirst f ≡ blinder → P
+    → tenantAfter h e k o ≡ some e
 tenant-new {P} h e k o {t} {f} q r p = subst (λ (k : Step). tenantAfter h e k o ≡ some e) (sym q) (go h)
   where
     go : (h : Dec P) → tenantAfter h e (begins t f) o ≡ some e
@@ -224,7 +225,8 @@ module _ (size : Party → ℕ) (start : Party → List ℕ) (lent : ℕ → Lis
             this =
                 set-same (e .scratch) (over (e .effect .scratch) (e .on .scratches (e .scratch))) (e .on .scratches)
                 ∙ ap (λ (z : List ℕ). over z (e .on .scratches (e .scratch)))
-                (g .laid ∙ sym coins ∙ sym (kept-open (dueIn (st′ .sessions (e .name))) (termsBy (e .step)) (coinsIn (e .step)) (subst (λ (x : Session). 0 < dueIn x) (sym is-now) open-now)))
+                (g .laid ∙ sym coins
+                ∙ sym (kept-open (dueIn (st′ .sessions (e .name))) (termsBy (e .step)) (coinsIn (e .step)) (subst (λ (x : Session). 0 < dueIn x) (sym is-now) open-now)))
                 ∙ ap (scratchWords lent (st′ .sessions) (e .scratch)) (sym new-tenant)
 
             go : Dec (e .scratch ≡ b) → st′ .scratches b ≡ scratchWords lent (st′ .sessions) b (tenant (did e ∷ l) b)
@@ -244,7 +246,8 @@ module _ (size : Party → ℕ) (start : Party → List ℕ) (lent : ℕ → Lis
               is-begun = ap isBegun is-now ∙ g .is-begun;
               role-is = ap roleIn is-now ∙ g .role-is ∙ r;
               terms-are = ap termsIn is-now ∙ g .terms-are ∙ sym (ap termsBy s);
-              coins-are = ap length coins ∙ own-coins (roleFirst k) t (opening k .coins t) r (g .drew .size) ∙ ap (λ (k : Step). scratchSize (termsBy k)) (sym s);
+              coins-are =
+                  ap length coins ∙ own-coins (roleFirst k) t (opening k .coins t) r (g .drew .size) ∙ ap (λ (k : Step). scratchSize (termsBy k)) (sym s);
             }
 
             go : Dec (e .scratch ≡ b) → Tenant st′ (did e ∷ l) b x
@@ -399,7 +402,8 @@ module _ (size : Party → ℕ) (start : Party → List ℕ) (lent : ℕ → Lis
     pub move-lent : Lent lent st′ (did e ∷ l)
     move-lent = go (mv .way)
       where
-        by-role : (t : Terms) (k : First) (s : e .step ≡ begins t k) (a : e .on .sessions (e .name) ≡ absent) (g : Begins t k (slotBy size start e) (e .effect)) → Dec (roleFirst k ≡ blinder)
+        by-role : (t : Terms) (k : First) (s : e .step ≡ begins t k) (a : e .on .sessions (e .name) ≡ absent)
+            (g : Begins t k (slotBy size start e) (e .effect)) → Dec (roleFirst k ≡ blinder)
             → Lent lent st′ (did e ∷ l)
         by-role t k s a g (yes r) = new-blinder t k s a g r
         by-role t k s a g (no n) = quiet-first t k s a g n

@@ -80,11 +80,13 @@ pub fair-open : (t : Terms) (due : ℕ) (r : Row) (taken : List Message) (writes
 fair-open t due r [] writes room w f = f
 fair-open t due r (a ∷ _) writes room w f = omega (arith, w, f .0)
 
-pub in-time : {role : Role} {t : Terms} {ls : List (List ℕ)} {s : Slot} (kind due : ℕ) → Holding role IN-USE t ls s → TermsFit (sortOf role) t → due ≡ kind → 0 < kind
+pub in-time : {role : Role} {t : Terms} {ls : List (List ℕ)} {s : Slot} (kind due : ℕ) → Holding role IN-USE t ls s → TermsFit (sortOf role) t → due ≡ kind
+    → 0 < kind
     → LaterFits role kind due t s
 in-time {role} {t} {ls} {s} kind due held f e z = subst (λ (d : ℕ). LaterFits role kind d t s) (sym e) (later-fits held f z)
 
-pub drop-needs : {role : Role} {t : Terms} {ls : List (List ℕ)} {s : Slot} {due : ℕ} → Holding role IN-USE t ls s → TermsFit (sortOf role) t → 0 < due → OpenFits role due t s
+pub drop-needs : {role : Role} {t : Terms} {ls : List (List ℕ)} {s : Slot} {due : ℕ} → Holding role IN-USE t ls s → TermsFit (sortOf role) t → 0 < due
+    → OpenFits role due t s
 drop-needs held f o = record { is-open = o; terms = f; half = half-fits held }
 
 module _ (v : View) (s : Slot) (ls : List (List ℕ)) where
@@ -116,11 +118,14 @@ module _ (v : View) (u : List ℕ) (c : Coins v u) where
       ap (λ (z : List ℕ). allBelow (y .terms .q) (take (total (scratchLayout (y .terms))) z)) (c .1)
       ∙ ap (allBelow (y .terms .q)) (take-over (c .0) (seen .known .coins-residues)) ∙ residues-below (seen .known .coins-residues)
 
-  pub blinder-needs : (s : Slot) (ls : List (List ℕ)) (kind : ℕ) (a : Message) (size room : ℕ) (y : BlinderSession) → BlinderSeen y v → Holding blinder IN-USE (y .terms) ls s → 0 < kind
+  pub blinder-needs : (s : Slot) (ls : List (List ℕ)) (kind : ℕ) (a : Message) (size room : ℕ) (y : BlinderSession) → BlinderSeen y v
+      → Holding blinder IN-USE (y .terms) ls s → 0 < kind
       → (y .due ≡ kind) × MessageFits kind (y .terms) a × (size ≤ room) → tests.BlinderFits kind y s u a size room
   blinder-needs s ls kind a size room y seen held z f =
       let b = seen .began in
-      let kept = blinder-below (y .terms) (v .half) (seen .mm) (seen .y) (v .coins) y (v .received) (seen .stage) refl (b .m-fits) (b .y-fits) (omega (arith, z, f .0)) in
+      let kept =
+      blinder-below (y .terms) (v .half) (seen .mm) (seen .y) (v .coins) y (v .received) (seen .stage) refl (b .m-fits) (b .y-fits) (omega (arith, z, f .0))
+      in
       record {
         later = in-time kind (y .due) held (seen .known .terms-fit) (f .0) z;
         message = f .1;

@@ -143,8 +143,11 @@ module _ (size : Party → ℕ) (start : Party → List ℕ) where
       Goal k = Turned (turnOf (kindOf k)) (dueIn (e .on .sessions (e .name))) (dueIn (e .effect .session))
 
       go : Way size start e (mv .server) → Goal (e .step)
-      go (fresh t k s q a b) = subst Goal (sym s) (first-turned (firstRow k .turn) (firstRow k .takes) (due e) (dueIn (e .effect .session)) (b .turn-is) (ap dueIn a))
-      go (onward k s q g) = subst Goal (sym s) (later-turned (laterRow k .turn) (laterRow k .takes) (laterRow k .next) (due e) (dueIn (e .effect .session)) (g .in-turn) (g .due-is) (g .moved))
+      go (fresh t k s q a b) =
+          subst Goal (sym s) (first-turned (firstRow k .turn) (firstRow k .takes) (due e) (dueIn (e .effect .session)) (b .turn-is) (ap dueIn a))
+      go (onward k s q g) =
+          subst Goal (sym s)
+          (later-turned (laterRow k .turn) (laterRow k .takes) (laterRow k .next) (due e) (dueIn (e .effect .session)) (g .in-turn) (g .due-is) (g .moved))
 
   pub once : Empty size start → (lent : ℕ → List ℕ) (cs : List Call) → Premises size (run size start lent cs .log) → (n : ℕ) (k : StepKind) → timesOf n k (run size start lent cs .log) ≤ 1
   once = labelled kind-eq (λ e. kindOf (e .step)) turnOf step-turned

@@ -109,7 +109,8 @@ t-sent x s a f r =
 
 -- ---- steps on two slots with the same half
 
-pub y-same : (t : Terms) (s s′ : Slot) (y : List ℕ) → matrices right t (slotWords s) ≡ matrices right t (slotWords s′) → rightFirstEffect t s y .sent ≡ rightFirstEffect t s′ y .sent
+pub y-same : (t : Terms) (s s′ : Slot) (y : List ℕ) → matrices right t (slotWords s) ≡ matrices right t (slotWords s′)
+    → rightFirstEffect t s y .sent ≡ rightFirstEffect t s′ y .sent
 unfolding rightFirstEffect
 y-same t s s′ y e = rw e
 
@@ -138,7 +139,8 @@ pub x1-same : (t : Terms) (s s′ : Slot) (mm y words words′ : List ℕ) (a : 
 unfolding blinderFirstEffect
 x1-same t s s′ mm y words words′ a e c = rw (e, c)
 
-pub w-same : (x : BlinderSession) (s s′ : Slot) (u u′ : List ℕ) (a : Message) → matrices blinder (x .terms) (slotWords s) ≡ matrices blinder (x .terms) (slotWords s′)
+pub w-same : (x : BlinderSession) (s s′ : Slot) (u u′ : List ℕ) (a : Message)
+    → matrices blinder (x .terms) (slotWords s) ≡ matrices blinder (x .terms) (slotWords s′)
     → scratchParts (x .terms) u ≡ scratchParts (x .terms) u′ → blinderSecondEffect x s u a .sent ≡ blinderSecondEffect x s′ u′ a .sent
 unfolding blinderSecondEffect
 w-same x s s′ u u′ a e c = rw (e, c)
@@ -182,7 +184,8 @@ module _ (t : Terms) (half : List (List ℕ)) where
           enough = drawn-enough (fits .first .terms .small) coins;
         }))
         ∙ ap (λ (b : Message). said (leftEffect t (halfSlot left t half) x coined b .sent) ++ []) (sym (incoming-whole (fits .message)))
-        ∙ ap (λ (b : Message). said b ++ []) (x-same t _ s x coined words a (holding-matrices left READY t half _ left-alone ∙ sym held) (drawn-own (fits .first .terms .small) coins))
+        ∙ ap (λ (b : Message). said b ++ [])
+        (x-same t _ s x coined words a (holding-matrices left READY t half _ left-alone ∙ sym held) (drawn-own (fits .first .terms .small) coins))
         ∙ ap (λ (l : List (List ℕ)). l ++ []) (said-is (x-sent t s x words a (fits .first .terms)))
 
 -- ---- the solver

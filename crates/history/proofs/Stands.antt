@@ -45,7 +45,8 @@ no-product e = absurd (let z : _≡_ {A = ℕ} 0 1 = cc in omega arith)
 heard-fit : (r : Row) (t : Terms) (ms : List Message) (a : Message) → Hears r t ms → ms ≡ a ∷ [] → sortOf (r .role) ≡ product
     → Messages t (kindsSent (facing (r .role))) (a .residues ∷ [])
 heard-fit r t [] a h e p = absurd (let z : _≡_ {A = ℕ} 0 1 = cc in omega arith)
-heard-fit r t (m ∷ ms) a h e p = subst₂ (λ (ks : List ℕ) (m : Message). Messages t ks (m .residues ∷ [])) (sym (h .1 p)) (the-message e) (h .0 .residues before no-more)
+heard-fit r t (m ∷ ms) a h e p =
+    subst₂ (λ (ks : List ℕ) (m : Message). Messages t ks (m .residues ∷ [])) (sym (h .1 p)) (the-message e) (h .0 .residues before no-more)
   where
     the-message : m ∷ ms ≡ a ∷ [] → m ≡ a
     the-message e = cc
@@ -53,10 +54,12 @@ heard-fit r t (m ∷ ms) a h e p = subst₂ (λ (ks : List ℕ) (m : Message). M
 taken-fit : (k : Step) (x : Session) (s : Slot) (u : List ℕ) (f : Effect Session) (a : Message) → runStep k x s u ≡ done f → takenBy k ≡ a ∷ [] → sortOf (roleOf k) ≡ product → Fit k f a
 taken-fit (begins t k) x s u f a h e p =
     let g = begins-sound t k s u f h in
-    subst (λ (t : Terms). Messages t (kindsSent (facing (roleFirst k))) (a .residues ∷ [])) (sym (g .terms-are)) (heard-fit (firstRow k) t (takenFirst k) a (g .heard) e p)
+    subst (λ (t : Terms). Messages t (kindsSent (facing (roleFirst k))) (a .residues ∷ [])) (sym (g .terms-are))
+    (heard-fit (firstRow k) t (takenFirst k) a (g .heard) e p)
 taken-fit (goes-on k) x s u f a h e p =
     let g = continues-sound k x s u f h in
-    subst (λ (t : Terms). Messages t (kindsSent (facing (roleLater k))) (a .residues ∷ [])) (sym (g .terms-are)) (heard-fit (laterRow k) (termsIn x) (takenLater k) a (g .heard) e p)
+    subst (λ (t : Terms). Messages t (kindsSent (facing (roleLater k))) (a .residues ∷ [])) (sym (g .terms-are))
+    (heard-fit (laterRow k) (termsIn x) (takenLater k) a (g .heard) e p)
 
 -- the same message fits other terms with that tape
 resized : (t t′ : Terms) (kind : ℕ) (l : List ℕ) → t .q ≡ t′ .q → t .m ≡ t′ .m → t .k ≡ t′ .k → t .p ≡ t′ .p → Residues (t .q) (messageSize kind t) l

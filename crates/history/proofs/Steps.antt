@@ -1,7 +1,7 @@
 -- The laws of every step and drop, with a clause for each: the one module that looks into their definitions. All else goes by the table of steps (specs/Ends)
 -- and by these laws.
---   FirstLaw, first-law       a first step's needs and effect: accepted exactly where they are met, what is known of it then, what it makes of the view, and that
---                             an end that keeps to the rules meets them
+--   FirstLaw, first-law       a first step's needs and effect: it is accepted exactly where they are met, what is known of it then, what it makes of the view,
+--                             and that an end that keeps to the rules meets them
 --   LaterLaw, later-law       the same of a later step or a drop
 --   begins-sound, continues-sound, first-seen, later-seen, first-goes, later-goes   the laws, of any step
 --   step-sends, step-ends     what it sends, and whether it ends its session
@@ -27,7 +27,8 @@ use Rattle.protocol.specs.Tape.{Slot, slotWords, Role, left, right, blinder, so
 use Rattle.protocol.specs.Message.{Message, noMessage, messageSize, messageParts}
 use Rattle.protocol.specs.Step.{Effect}
 use Rattle.protocol.specs.Product.{closedRight, rightFirstEffect, leftEffect, rightLastEffect}
-use Rattle.protocol.specs.System.{closedSolver, closedBlinder, sideSize, scratchSize, scratchParts, coinsOf, jointSum, solverFirstEffect, blinderFirstEffect, solverSecondEffect, blinderSecondEffect, solverLastEffect, blinderLastEffect}
+use Rattle.protocol.specs.System.{closedSolver, closedBlinder, sideSize, scratchSize, scratchParts, coinsOf, jointSum, solverFirstEffect, blinderFirstEffect}
+use Rattle.protocol.specs.System.{solverSecondEffect, blinderSecondEffect, solverLastEffect, blinderLastEffect}
 use Rattle.protocol.specs.Drop.{dropped}
 use Rattle.protocol.specs.View.{View}
 use Rattle.protocol.specs.Completion.{takenTests}
@@ -36,13 +37,18 @@ use Rattle.protocol.proofs.Residues.{input-residues}
 use Rattle.protocol.proofs.Tests.{Decides, TermsFit, OpenFits, MessageFits}
 use Rattle.protocol.proofs.StepTests as tests
 use Rattle.protocol.proofs.CompletionInputs.{taken-by-right, taken-by-left, taken-by-solver, taken-by-blinder}
-use Rattle.history.specs.Ends.{Session, leftEnd, rightEnd, solverEnd, blinderEnd, isBegun, dueIn, termsIn, roleIn, asRight, asSolver, asBlinder, First, right-first, left-only, solver-first, blinder-first, Later, right-last, solver-second, solver-last, blinder-second, blinder-last, right-drop, solver-drop, blinder-drop, kindOf, roleFirst, roleLater, asAny, runFirst, runLater, Step, begins, goes-on, runStep}
+use Rattle.history.specs.Ends.{Session, leftEnd, rightEnd, solverEnd, blinderEnd, isBegun, dueIn, termsIn, roleIn, asRight, asSolver, asBlinder, First}
+use Rattle.history.specs.Ends.{right-first, left-only, solver-first, blinder-first, Later, right-last, solver-second, solver-last, blinder-second}
+use Rattle.history.specs.Ends.{blinder-last, right-drop, solver-drop, blinder-drop, kindOf, roleFirst, roleLater, asAny, runFirst, runLater, Step, begins}
+use Rattle.history.specs.Ends.{goes-on, runStep}
 use Rattle.history.specs.Seen.{takenLater, viewLater, viewFirst}
 use Rattle.history.specs.Claim.{Last, Ends}
-use Rattle.history.proofs.Replay.{y-sent, x-sent, y1-sent, x1-sent, f-sent, w-sent, t-sent, said-is, incoming-whole, solver-none, blinder-one, right-sends, left-sends, SolverBegan, y1-is, BlinderBegan, x1-is}
+use Rattle.history.proofs.Replay.{y-sent, x-sent, y1-sent, x1-sent, f-sent, w-sent, t-sent, said-is, incoming-whole, solver-none, blinder-one}
+use Rattle.history.proofs.Replay.{right-sends, left-sends, SolverBegan, y1-is, BlinderBegan, x1-is}
 use Rattle.history.specs.Log.{World}
 use Rattle.history.specs.Right.{FairFirst}
-use Rattle.history.proofs.Accepted.{any-decides, firstRow, laterRow, Sends, in-system, Begins, began, coins-drawn, Continues, ownEnd, own-open, own-is, went, Waits}
+use Rattle.history.proofs.Accepted.{any-decides, firstRow, laterRow, Sends, in-system, Begins, began, coins-drawn, Continues, ownEnd, own-open, own-is}
+use Rattle.history.proofs.Accepted.{went, Waits}
 use Rattle.history.proofs.Known.{known-with, known-still, s-first, b-first, SeenBy, cut, Gave, half-now, first-known}
 use Rattle.history.proofs.KnownOn.{quiet, closed-solver, closed-blinder, open-short, drop-view, right-any, f-stage, t-stage, w-stage, z-stage}
 use Rattle.history.proofs.Needs.{Handed, FairBy, in-time, drop-needs, solver-needs, Coins, long-enough, blinder-needs}
@@ -60,7 +66,8 @@ pub record FirstLaw (t : Terms) (k : First) (s : Slot) (u : List ℕ) : Type 1 w
   pub known : Needs → Begins t k s effect
   pub seen : (ls : List (List ℕ)) → matrices (roleFirst k) t (slotWords s) ≡ ls → (roleFirst k ≡ blinder → regular (t .q) (t .m) (part 2 ls) ≡ true) → Needs
       → Begins t k s effect → SeenBy (effect .session) (viewFirst t k ls effect) × Gave (roleFirst k) t (effect .result) (viewFirst t k ls effect)
-  pub met : (o : World) → Handed o → {ls : List (List ℕ)} → TermsFit (sortOf (roleFirst k)) t → Holding (roleFirst k) READY t ls s → FairFirst o t k (length u) → Needs
+  pub met : (o : World) → Handed o → {ls : List (List ℕ)} → TermsFit (sortOf (roleFirst k)) t → Holding (roleFirst k) READY t ls s
+      → FairFirst o t k (length u) → Needs
 
 pub first-law : (t : Terms) (k : First) (s : Slot) (u : List ℕ) → FirstLaw t k s u
 unfolding runFirst rightFirstEffect leftEffect solverFirstEffect blinderFirstEffect coinsOf scratchSize scratchParts
@@ -71,7 +78,8 @@ first-law t (right-first y room) s u =
       effect = asAny rightEnd (rightFirstEffect t s y);
       decides = any-decides rightEnd d;
       known = λ n.
-          began refl refl (inr (omega arith)) (n .first) (taken-by-right t s y room (d .accepts n)) residues-none refl refl (inr (y-sent t s y (n .first .terms)));
+          began refl refl (inr (omega arith)) (n .first) (taken-by-right t s y room (d .accepts n)) residues-none refl refl
+          (inr (y-sent t s y (n .first .terms)));
       seen = λ ls e rq n g.
           let m = y-sent t s y (n .first .terms) in (
             record {
@@ -232,7 +240,8 @@ pub record LaterLaw (k : Later) (x : Session) (s : Slot) (u : List ℕ) (y : Ses
   pub seen : (v : View) → SeenBy y v → matrices (roleLater k) (termsIn y) (slotWords s) ≡ v .half
       → (roleLater k ≡ blinder → scratchParts (termsIn y) u ≡ scratchParts (termsIn y) (v .coins)) → Needs
       → SeenBy (effect .session) (viewLater v k effect) × Gave (roleLater k) (termsIn y) (effect .result) (viewLater v k effect)
-  pub met : (v : View) (ls : List (List ℕ)) → SeenBy y v → Holding (roleLater k) IN-USE (termsIn y) ls s → (roleLater k ≡ blinder → Coins v u) → FairBy y k → Needs
+  pub met : (v : View) (ls : List (List ℕ)) → SeenBy y v → Holding (roleLater k) IN-USE (termsIn y) ls s → (roleLater k ≡ blinder → Coins v u) → FairBy y k
+      → Needs
 
 pub later-law : (k : Later) (x : Session) (s : Slot) (u : List ℕ) → LaterLaw k x s u (ownEnd (roleLater k) x)
 unfolding runLater rightLastEffect solverSecondEffect solverLastEffect blinderSecondEffect blinderLastEffect messageParts
@@ -256,10 +265,15 @@ later-law (right-last m room) x s u =
             λ z. (
               m .residues,
               got,
-              ap (λ (ls : List (List ℕ)). rightShare (t .q) (t .m) (t .k) (t .p) (part 0 (cut 2 t (m .residues))) (part 0 ls) (part 1 (cut 2 t (m .residues))) (part 1 ls)) e,
+              ap (λ (ls : List (List ℕ)). rightShare (t .q) (t .m) (t .k) (t .p) (part 0 (cut 2 t (m .residues))) (part 0 ls)
+                  (part 1 (cut 2 t (m .residues))) (part 1 ls)) e,
             ),
           );
-      met = λ v ls sn held b f. record { later = in-time 2 (asRight x .due) held (sn .known .terms-fit) (f .0) (omega arith); message = f .1; share-room = f .2 };
+      met = λ v ls sn held b f. record {
+        later = in-time 2 (asRight x .due) held (sn .known .terms-fit) (f .0) (omega arith);
+        message = f .1;
+        share-room = f .2;
+      };
     }
 later-law (solver-second m room) x s u = record {
   waits = omega arith;
@@ -278,7 +292,8 @@ later-law (solver-last m room) x s u = record {
   effect = asAny solverEnd (solverLastEffect (asSolver x) s m);
   decides = any-decides solverEnd (tests.solver-last (asSolver x) s m room);
   known = λ n.
-      went x refl (n .later .session-open) (n .later .due-is, inl refl) (n .message, λ p. in-system p) (t-sends (asSolver x) s m (n .later .session-open .terms) _ refl);
+      went x refl (n .later .session-open) (n .later .due-is, inl refl) (n .message, λ p. in-system p)
+      (t-sends (asSolver x) s m (n .later .session-open .terms) _ refl);
   seen = λ v sn e c n. (closed-solver sn (t-stage (asSolver x) v s m room sn n e _ refl (sn .stage)), tt);
   met = λ v ls sn held b f. solver-needs v s ls 4 m _ room (asSolver x) sn held (omega arith) f;
 }
@@ -378,7 +393,8 @@ later-goes v s ls u k x b r seen held c f =
     let law = later-law k x s u in
     let own : ownEnd (roleLater k) x ≡ x = subst (λ (r : Role). ownEnd r x ≡ x) r (own-is x b) in
     let needs : law .Needs =
-    subst (λ (y : Session). SeenBy y v → Holding (roleLater k) IN-USE (termsIn y) ls s → (roleLater k ≡ blinder → Coins v u) → FairBy y k → law .Needs) own (law .met v ls)
+    subst (λ (y : Session). SeenBy y v → Holding (roleLater k) IN-USE (termsIn y) ls s → (roleLater k ≡ blinder → Coins v u) → FairBy y k → law .Needs) own
+    (law .met v ls)
     seen held c f
     in
     (law .effect, law .decides .accepts needs)

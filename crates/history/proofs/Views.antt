@@ -22,8 +22,10 @@ use Rattle.algebra.specs.Matrix.{Residues}
 use Rattle.protocol.proofs.Residues.{parts-over}
 use Rattle.protocol.specs.Deal.{Dealt}
 use Rattle.protocol.specs.System.{scratchParts, scratchLayout}
-use Rattle.history.specs.Ends.{Session, absent, dueIn, termsIn, roleIn, First, opening, Later, Step, begins, goes-on, roleFirst, roleLater, roleOf, runStep, runFirst, runLater, isBegun}
-use Rattle.history.specs.Log.{choose, Party, State, Call, Dealing, Did, Entry, dealt, did, afterDealing, run, holds, here, place, lentTo, OwnScratchBy, Premises, fresh as fresh-state}
+use Rattle.history.specs.Ends.{Session, absent, dueIn, termsIn, roleIn, First, opening, Later, Step, begins, goes-on, roleFirst, roleLater, roleOf}
+use Rattle.history.specs.Ends.{runStep, runFirst, runLater, isBegun}
+use Rattle.history.specs.Log.{choose, Party, State, Call, Dealing, Did, Entry, dealt, did, afterDealing, run, holds, here, place, lentTo, OwnScratchBy}
+use Rattle.history.specs.Log.{Premises, fresh as fresh-state}
 use Rattle.history.specs.Contents.{half, tenantOf, tenantAfter, tenant, keptBy, coinsIn, termsBy, scratchWords}
 use Rattle.protocol.specs.View.{View, coinLayout}
 use Rattle.history.specs.Seen.{viewFirst, viewLater, halfAt, viewAfter, view}
@@ -82,7 +84,8 @@ data Came (e : Did) (o : Option Did) (x : Did) : Type 0 where
 same-did : {e x : Did} → some e ≡ some x → e ≡ x
 same-did h = cc
 
-came-first : (e : Did) (t : Terms) (f : First) (o : Option Did) (x : Did) → e .step ≡ begins t f → tenantOf (roleFirst f) e o ≡ some x → Dec (roleFirst f ≡ blinder) → Came e o x
+came-first : (e : Did) (t : Terms) (f : First) (o : Option Did) (x : Did) → e .step ≡ begins t f → tenantOf (roleFirst f) e o ≡ some x
+    → Dec (roleFirst f ≡ blinder) → Came e o x
 came-first e t f o x s h (yes r) = this (same-did (sym (ap (λ (r : Role). tenantOf r e o) r) ∙ h)) t f s r
 came-first e t f o x s h (no n) = before (sym (quiet (roleFirst f) n e o) ∙ h)
 
@@ -95,7 +98,8 @@ blinder-coins : (t : Terms) (f : First) (ls : List (List ℕ)) (g : Effect Sessi
 blinder-coins t f ls g r = ap (λ (r : Role). keptBy r (opening f .coins t)) (sym r)
 
 -- what a blinder drew
-blinder-coins-fit : (x : Session) (v : View) → SeenBy x v → isBegun x ≡ true → roleIn x ≡ blinder → Residues (termsIn x .q) (total (scratchLayout (termsIn x))) (v .coins)
+blinder-coins-fit : (x : Session) (v : View) → SeenBy x v → isBegun x ≡ true → roleIn x ≡ blinder
+    → Residues (termsIn x .q) (total (scratchLayout (termsIn x))) (v .coins)
 blinder-coins-fit x v s b r = subst (λ (r : Role). Residues (termsIn x .q) (total (coinLayout r (termsIn x))) (v .coins)) r (seen-known x v s b .coins-residues)
 
 -- the half that a session agrees with fits its terms
@@ -194,7 +198,9 @@ module _ (size : Party → ℕ) (start : Party → List ℕ) (lent : ℕ → Lis
           ∙ ap (λ (z : List ℕ). over z (x .0 .on .scratches (e .scratch))) (kept-open (dueIn (e .on .sessions (x .0 .name))) (termsBy (x .0 .step)) (coinsIn (x .0 .step)) due)
           in
           ap (scratchParts (termsIn x₀)) words
-          ∙ parts-over (scratchLayout (termsIn x₀)) (x .0 .on .scratches (e .scratch)) (subst (Residues (termsIn x₀ .q) (total (scratchLayout (termsIn x₀)))) coins (blinder-coins-fit x₀ (view l (e .name)) (vs .seen (e .name)) (g .was-begun) r))
+          ∙ parts-over (scratchLayout (termsIn x₀)) (x .0 .on .scratches (e .scratch))
+          (subst (Residues (termsIn x₀ .q) (total (scratchLayout (termsIn x₀)))) coins
+          (blinder-coins-fit x₀ (view l (e .name)) (vs .seen (e .name)) (g .was-begun) r))
           ∙ ap (scratchParts (termsIn x₀)) (sym coins)
 
       pub later-acts : runLater k x₀ (slotBy size start e) (e .on .scratches (e .scratch)) ≡ done (e .effect)
@@ -203,11 +209,13 @@ module _ (size : Party → ℕ) (start : Party → List ℕ) (lent : ℕ → Lis
       pub later-both : SeenBy (e .effect .session) (viewLater (view l (e .name)) k (e .effect))
           × Gave (roleLater k) (termsIn x₀) (e .effect .result) (viewLater (view l (e .name)) k (e .effect))
       later-both =
-          later-seen k x₀ (view l (e .name)) (slotBy size start e) (e .on .scratches (e .scratch)) (e .effect) (vs .seen (e .name)) later-acts mats-later coins-stand
+          later-seen k x₀ (view l (e .name)) (slotBy size start e) (e .on .scratches (e .scratch)) (e .effect)
+          (vs .seen (e .name)) later-acts mats-later coins-stand
 
       later-seen-here : SeenBy (stateAfter size start e .sessions (e .name)) here-view
       later-seen-here =
-          subst₂ SeenBy (sym (set-same (e .name) (e .effect .session) (e .on .sessions))) (sym (view-later decided l e (e .step) (view l (e .name)) s refl)) (later-both .0)
+          subst₂ SeenBy (sym (set-same (e .name) (e .effect .session) (e .on .sessions))) (sym (view-later decided l e (e .step) (view l (e .name)) s refl))
+          (later-both .0)
 
       later-tied : (b : ℕ) (x : Did) → tenant (did e ∷ l) b ≡ some x → view (did e ∷ l) (x .name) .coins ≡ coinsIn (x .step)
       later-tied b x h = go (came (ℕ-discrete (e .scratch) b) e (e .step) (tenant l b) x refl h)

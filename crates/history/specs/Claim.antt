@@ -18,7 +18,8 @@ use Rattle.protocol.specs.Deal.{Dealt, deal}
 use Rattle.protocol.specs.Tape.{isSlot, slotWords, statusOf, EMPTY, blinder}
 use Rattle.protocol.specs.View.{View}
 use Rattle.protocol.specs.Completion.{Secret}
-use Rattle.history.specs.Ends.{Session, absent, isBegun, dueIn, roleIn, First, Later, Step, begins, goes-on, StepKind, kind-eq, row, kindFirst, kindLater, kindOf, roleOf, runStep}
+use Rattle.history.specs.Ends.{Session, absent, isBegun, dueIn, roleIn, First, Later, Step, begins, goes-on, StepKind, kind-eq, row, kindFirst, kindLater}
+use Rattle.history.specs.Ends.{kindOf, roleOf, runStep}
 use Rattle.history.specs.Log.{choose, both?, Party, opposite, Call, dealing, beginning, continuing, Dealing, Did, Entry, dealt, did, World, begunIn, slotOf, run, halfRole, holds, here, place, WasDone, lentTo, Premises}
 use Rattle.history.specs.Contents.{halfWords, tenant, scratchWords}
 use Rattle.history.specs.Seen.{view, Stands}
@@ -56,7 +57,7 @@ current [] n = absent
 current (dealt d ∷ l) n = current l n
 current (did e ∷ l) n = choose (ℕ-discrete (e .name) n) (e .effect .session) (current l n)
 
--- the steps that end a session, after which none is due: each end's last, which for the solver may be refused by 10, and drops. Left's one step begins and ends it
+-- the steps that end a session, so that none is due: each end's last, which for the solver may be refused by 10, and drops. Left's one step begins and ends it
 abbrev pub Last : (next : ℕ) → Type 0
 Last zero = Unit
 Last (suc _) = ⊥

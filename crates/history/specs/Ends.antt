@@ -184,8 +184,13 @@ going (solver-second a room) =
     record { kind = second-solver; taken = a ∷ []; writes = messageSize 3; room = room; runs = λ x s u. ofAny solverEnd (solverSecond (asSolver x) s a room) }
 going (solver-last a room) =
     record { kind = last-solver; taken = a ∷ []; writes = messageSize 5; room = room; runs = λ x s u. ofAny solverEnd (solverLast (asSolver x) s a room) }
-going (blinder-second a room) =
-    record { kind = second-blinder; taken = a ∷ []; writes = messageSize 4; room = room; runs = λ x s u. ofAny blinderEnd (blinderSecond (asBlinder x) s u a room) }
+going (blinder-second a room) = record {
+  kind = second-blinder;
+  taken = a ∷ [];
+  writes = messageSize 4;
+  room = room;
+  runs = λ x s u. ofAny blinderEnd (blinderSecond (asBlinder x) s u a room);
+}
 going (blinder-last a room) =
     record { kind = last-blinder; taken = a ∷ []; writes = sideSize; room = room; runs = λ x s u. ofAny blinderEnd (blinderLast (asBlinder x) s u a room) }
 going right-drop = record { kind = drop-right; taken = []; writes = λ t. 0; room = 0; runs = λ x s u. ofAny rightEnd (dropRight (asRight x) s) }
