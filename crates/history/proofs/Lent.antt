@@ -226,7 +226,8 @@ module _ (size : Party → ℕ) (start : Party → List ℕ) (lent : ℕ → Lis
                 set-same (e .scratch) (over (e .effect .scratch) (e .on .scratches (e .scratch))) (e .on .scratches)
                 ∙ ap (λ (z : List ℕ). over z (e .on .scratches (e .scratch)))
                 (g .laid ∙ sym coins
-                ∙ sym (kept-open (dueIn (st′ .sessions (e .name))) (termsBy (e .step)) (coinsIn (e .step)) (subst (λ (x : Session). 0 < dueIn x) (sym is-now) open-now)))
+                ∙ sym (kept-open (dueIn (st′ .sessions (e .name))) (termsBy (e .step)) (coinsIn (e .step))
+                (subst (λ (x : Session). 0 < dueIn x) (sym is-now) open-now)))
                 ∙ ap (scratchWords lent (st′ .sessions) (e .scratch)) (sym new-tenant)
 
             go : Dec (e .scratch ≡ b) → st′ .scratches b ≡ scratchWords lent (st′ .sessions) b (tenant (did e ∷ l) b)

@@ -42,7 +42,7 @@ use Rattle.history.specs.Ends.{right-first, left-only, solver-first, bli
 use Rattle.history.specs.Ends.{blinder-last, right-drop, solver-drop, blinder-drop, kindOf, roleFirst, roleLater, asAny, runFirst, runLater, Step, begins}
 use Rattle.history.specs.Ends.{goes-on, runStep}
 use Rattle.history.specs.Seen.{takenLater, viewLater, viewFirst}
-use Rattle.history.specs.Claim.{Last, Ends}
+use Rattle.history.specs.Claim.{Closes, Ends}
 use Rattle.history.proofs.Replay.{y-sent, x-sent, y1-sent, x1-sent, f-sent, w-sent, t-sent, said-is, incoming-whole, solver-none, blinder-one}
 use Rattle.history.proofs.Replay.{right-sends, left-sends, SolverBegan, y1-is, BlinderBegan, x1-is}
 use Rattle.history.specs.Log.{World}
@@ -405,11 +405,11 @@ pub step-sends : (k : Step) (x : Session) (s : Slot) (u : List ℕ) (e : Effect 
 step-sends (begins t k) x s u e h = begins-sound t k s u e h .sends
 step-sends (goes-on k) x s u e h = continues-sound k x s u e h .sends
 
-last-is : (d next : ℕ) → d ≡ next → (d ≡ 0) ↔ Last next
-last-is d zero e = (λ z. tt, λ z. e)
-last-is d (suc n) e = (λ z. omega (arith, z, e), λ z. absurd z)
+closes-by : (d next : ℕ) → d ≡ next → (d ≡ 0) ↔ Closes next
+closes-by d zero e = (λ z. tt, λ z. e)
+closes-by d (suc n) e = (λ z. omega (arith, z, e), λ z. absurd z)
 
 -- it leaves 0 due exactly where it is one of those that end a session
 pub step-ends : (k : Step) (x : Session) (s : Slot) (u : List ℕ) (e : Effect Session) → runStep k x s u ≡ done e → (dueIn (e .session) ≡ 0) ↔ Ends k
-step-ends (begins t k) x s u e h = last-is (dueIn (e .session)) (firstRow k .next) (begins-sound t k s u e h .due-is)
-step-ends (goes-on k) x s u e h = last-is (dueIn (e .session)) (laterRow k .next) (continues-sound k x s u e h .due-is)
+step-ends (begins t k) x s u e h = closes-by (dueIn (e .session)) (firstRow k .next) (begins-sound t k s u e h .due-is)
+step-ends (goes-on k) x s u e h = closes-by (dueIn (e .session)) (laterRow k .next) (continues-sound k x s u e h .due-is)

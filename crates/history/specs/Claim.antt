@@ -57,16 +57,17 @@ current [] n = absent
 current (dealt d ∷ l) n = current l n
 current (did e ∷ l) n = choose (ℕ-discrete (e .name) n) (e .effect .session) (current l n)
 
--- the steps that end a session, so that none is due: each end's last, which for the solver may be refused by 10, and drops. Left's one step begins and ends it
-abbrev pub Last : (next : ℕ) → Type 0
-Last zero = Unit
-Last (suc _) = ⊥
+-- no message is due next
+abbrev pub Closes : (next : ℕ) → Type 0
+Closes zero = Unit
+Closes (suc _) = ⊥
 
+-- the steps that end a session: each end's last, which for the solver may be refused by 10, and drops. Left's one step begins and ends it
 abbrev pub EndsFirst : First → Type 0
-EndsFirst k = Last (row (kindFirst k) .next)
+EndsFirst k = Closes (row (kindFirst k) .next)
 
 abbrev pub EndsLater : Later → Type 0
-EndsLater k = Last (row (kindLater k) .next)
+EndsLater k = Closes (row (kindLater k) .next)
 
 abbrev pub Ends : Step → Type 0
 Ends (begins t k) = EndsFirst k
