@@ -121,8 +121,7 @@ leftFirst t k s = record {
 }
 
 module _ {t : Terms} {k : First} {s : Slot} {e : Effect Session} where
-  pub began : leftBy e ≡ leftFirst t k s
-      → firstRow k .turn ≡ opens → (roleFirst k ≡ left) ⊎ (0 < firstRow k .next) → FirstFits (roleFirst k) t s → Taken (roleFirst k) t (inputOf k)
+  pub began : leftBy e ≡ leftFirst t k s → firstRow k .turn ≡ opens → (roleFirst k ≡ left) ⊎ (0 < firstRow k .next) → FirstFits (roleFirst k) t s → Taken (roleFirst k) t (inputOf k)
       → Residues (t .q) (total (coinLayout (roleFirst k) t)) (coinsDrawn t k)
       → coinsFit (roleFirst k) t (parts (coinLayout (roleFirst k) t) (coinsDrawn t k)) ≡ true
       → Hears (firstRow k) t (takenFirst k) → Sends (kindFirst k) e → Begins t k s e
@@ -238,10 +237,8 @@ leftLater next x s = record {
 }
 
 pub went : {k : Later} (x : Session) {s : Slot} {e : Effect Session} → let y = ownEnd (roleLater k) x in let r = laterRow k in
-    leftBy e ≡ leftLater (r .next) y s
-    → OpenFits (roleLater k) (dueIn y) (termsIn y) s → InTurn (r .turn) (r .takes) (r .next) (dueIn y) → Hears r (termsIn y) (takenLater k)
-    → Sends (kindLater k) e
-    → Continues k y s e
+    leftBy e ≡ leftLater (r .next) y s → OpenFits (roleLater k) (dueIn y) (termsIn y) s → InTurn (r .turn) (r .takes) (r .next) (dueIn y)
+    → Hears r (termsIn y) (takenLater k) → Sends (kindLater k) e → Continues k y s e
 went {k} x {s} {e} l f turn h m =
     let y = ownEnd (roleLater k) x in
     let due : dueIn (e .session) ≡ laterRow k .next = ap (λ (z : Left). z .due) l in

@@ -1,7 +1,8 @@
--- What is known of a session's view at each stage, and that its first step makes it so. These look at one step, and at nothing of the log.
+-- What is known of a session's view at each stage. This looks at one session, and at nothing of the log.
 --   Known, arises               of every view; so it is one of those that protocol's counts are for
---   SeenBy                      the same with what the session itself keeps, while it is open
---   first-seen                  after a first step
+--   SeenBy, seen-known          the same with what the session itself keeps, while it is open
+--   Gave                        the result that the session gave last, by its view
+--   first-known                 a view after a first step
 -- Assumes nothing.
 use mathlib.Core.Path.{_≡_, refl, sym, _∙_, subst, subst₂}
 use mathlib.Core.Bool.{true}

@@ -1,5 +1,6 @@
--- What is known of a session's view after a later step or a drop.
---   later-seen
+-- What is known of a session's view after a later step or a drop, by what its own end's definition leaves.
+--   shut, drop-view                      a drop: the view stays
+--   f-stage, t-stage, w-stage, z-stage   the later steps of a system, by what each is to give: F, t, W, z
 -- Assumes nothing.
 use mathlib.Core.Path.{_≡_, refl, sym, ap, ap₂, _∙_, subst}
 use mathlib.Core.Bool.{Bool, true, false}

@@ -1,7 +1,7 @@
 -- What an end's own steps send depends on its half, its input, its coins and the messages received, and on nothing else of the pool that they run on.
 --   said-is                     a step's message, as it stands in a view
 --   y-sent .. t-sent            what each step sends fits its kind
---   y-same .. last-same     steps on two slots with the same half leave the same
+--   y-same .. w-same            steps on two slots with the same half leave the same
 --   solver-none, solver-one, solver-two, blinder-one, blinder-two   an end's messages, as its own steps give them one after the other
 -- Assumes nothing.
 use mathlib.Core.Path.{_≡_, refl, sym, ap, _∙_, subst}
