@@ -121,8 +121,8 @@ leftFirst t k s = record {
 }
 
 module _ {t : Terms} {k : First} {s : Slot} {e : Effect Session} where
-  pub began : leftBy e ≡ leftFirst t k s → firstRow k .turn ≡ opens → (roleFirst k ≡ left) ⊎ (0 < firstRow k .next) → FirstFits (roleFirst k) t s → Taken (roleFirst k) t (inputOf k)
-      → Residues (t .q) (total (coinLayout (roleFirst k) t)) (coinsDrawn t k)
+  pub began : leftBy e ≡ leftFirst t k s → firstRow k .turn ≡ opens → (roleFirst k ≡ left) ⊎ (0 < firstRow k .next) → FirstFits (roleFirst k) t s
+      → Taken (roleFirst k) t (inputOf k) → Residues (t .q) (total (coinLayout (roleFirst k) t)) (coinsDrawn t k)
       → coinsFit (roleFirst k) t (parts (coinLayout (roleFirst k) t) (coinsDrawn t k)) ≡ true
       → Hears (firstRow k) t (takenFirst k) → Sends (kindFirst k) e → Begins t k s e
   began l turn stays f i c cf h m = record {

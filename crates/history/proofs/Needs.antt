@@ -30,7 +30,6 @@ use Rattle.protocol.proofs.StepTests as tests
 use Rattle.protocol.proofs.Halves.{Holding, half-fits, later-fits}
 use Rattle.history.specs.Ends.{Session, termsIn, dueIn, Later, Row, going}
 use Rattle.history.specs.Log.{World}
-use Rattle.history.specs.Contents.{half}
 use Rattle.history.specs.Seen.{takenLater}
 use Rattle.history.specs.Right.{SentTo}
 use Rattle.history.proofs.Accepted.{laterRow, Waits}
@@ -42,18 +41,22 @@ Handed o = (role : Role) (t : Terms) (kind : ℕ) (a : Message) → 0 < kind →
 
 -- ---- what sessions keep
 
-solver-below : (t : Terms) (ls : List (List ℕ)) (l x : List ℕ) (y : SolverSession) (got : List (List ℕ)) → SolverStage t ls l x y got → 0 < t .q → 0 < y .due → allBelow (t .q) (keptS y) ≡ true
+solver-below : (t : Terms) (ls : List (List ℕ)) (l x : List ℕ) (y : SolverSession) (got : List (List ℕ)) → SolverStage t ls l x y got → 0 < t .q → 0 < y .due
+    → allBelow (t .q) (keptS y) ≡ true
 unfolding keptS solverFirstEffect solverSecondEffect padded solverShare rightShare sideSize
 solver-below t ls l x y got (s-first p e) q o = subst (λ (y : SolverSession). allBelow (t .q) (keptS y) ≡ true) (sym e) (zeros-below (t .q) 16 (sideSize t) q)
 solver-below t ls l x y got (s-second a ra p e) q o =
     subst (λ (y : SolverSession). allBelow (t .q) (keptS y) ≡ true) (sym e)
-    (let r = cols-residues (t .m) (t .m + columns (t .m) (t .p)) (t .m) (columns (t .m) (t .p)) (omega arith) (sub-residues q (t .m * (t .m + columns (t .m) (t .p))) _ _) in
+    (let r = cols-residues (t .m) (t .m + columns (t .m) (t .p)) (t .m) (columns (t .m) (t .p)) (omega arith)
+    (sub-residues q (t .m * (t .m + columns (t .m) (t .p))) _ _) in
     ap (allBelow (t .q)) (take-over (zeros 16) r) ∙ residues-below r)
 solver-below t ls l x y got (s-over d) q o = absurd (omega (arith, o, d))
 
-blinder-below : (t : Terms) (ls : List (List ℕ)) (mm y coins : List ℕ) (z : BlinderSession) (got : List (List ℕ)) → BlinderStage t ls mm y coins z got → z .terms ≡ t
+blinder-below : (t : Terms) (ls : List (List ℕ)) (mm y coins : List ℕ) (z : BlinderSession) (got : List (List ℕ)) → BlinderStage t ls mm y coins z got
+    → z .terms ≡ t
     → Residues (t .q) (t .m * t .m) mm → Residues (t .q) (sideSize t) y → 0 < z .due → (allBelow (t .q) (keptM z) ≡ true) × (allBelow (t .q) (keptY z) ≡ true)
-blinder-below t ls mm y coins z got st e rm ry o = (ap (allBelow (t .q)) (m-is ∙ take-over (zeros 256) rm) ∙ residues-below rm, ap (allBelow (t .q)) (y-is ∙ take-over (zeros 16) ry) ∙ residues-below ry)
+blinder-below t ls mm y coins z got st e rm ry o =
+    (ap (allBelow (t .q)) (m-is ∙ take-over (zeros 256) rm) ∙ residues-below rm, ap (allBelow (t .q)) (y-is ∙ take-over (zeros 16) ry) ∙ residues-below ry)
   where
     kept : (z : BlinderSession) → BlinderStage t ls mm y coins z got → 0 < z .due → (z .mm ≡ padded 256 mm) × (z .y ≡ padded 16 y)
     kept z (b-first a ra p q) o = unfold blinderFirstEffect in (ap (λ (z : BlinderSession). z .mm) q, ap (λ (z : BlinderSession). z .y) q)
@@ -81,8 +84,7 @@ fair-open t due r [] writes room w f = f
 fair-open t due r (a ∷ _) writes room w f = omega (arith, w, f .0)
 
 pub in-time : {role : Role} {t : Terms} {ls : List (List ℕ)} {s : Slot} (kind due : ℕ) → Holding role IN-USE t ls s → TermsFit (sortOf role) t → due ≡ kind
-    → 0 < kind
-    → LaterFits role kind due t s
+    → 0 < kind → LaterFits role kind due t s
 in-time {role} {t} {ls} {s} kind due held f e z = subst (λ (d : ℕ). LaterFits role kind d t s) (sym e) (later-fits held f z)
 
 pub drop-needs : {role : Role} {t : Terms} {ls : List (List ℕ)} {s : Slot} {due : ℕ} → Holding role IN-USE t ls s → TermsFit (sortOf role) t → 0 < due
