@@ -21,7 +21,7 @@ use Rattle.history.specs.Contents.{servedWords, halfWords, placeWords}
 use Rattle.history.proofs.Words.{tape-number, tape-q, tape-m, tape-k, tape-p}
 use Rattle.history.proofs.Accepted.{Begins, Continues}
 use Rattle.history.proofs.Steps.{begins-sound, continues-sound}
-use Rattle.history.proofs.Facts.{untouched≢, same-server, same-name, one-half}
+use Rattle.history.proofs.Facts.{untouched≢, same-server, same-some, one-half}
 use Rattle.history.proofs.Named.{unbegun}
 use Rattle.history.proofs.Kept.{Agrees, agrees-on, Home, Inv, ready-place, used-place, inside-start, stateAfter, Way, Move, move-keeps, deal-keeps}
 
@@ -117,7 +117,7 @@ module _ (size : Party → ℕ) (start : Party → List ℕ) (empty : Empty size
             (p .own-half (found .0) (some (found .1)) (found .2) ∙ sym (g .role-was) ∙ at-home .role-is)
             in
             let both-are : place l w i ≡ place l (hm .party) (hm .index) = ap₂ (place l) (same .0) (same .1) in
-            found .2 ∙ ap (λ (n : ℕ). holds (found .0) (some n)) (same-name (same-server (sym (found .2) ∙ both-are ∙ hm .stands)))
+            found .2 ∙ ap (λ (n : ℕ). holds (found .0) (some n)) (same-some (same-server (sym (found .2) ∙ both-are ∙ hm .stands)))
 
   -- The principle: what holds at the start and is kept by every dealing and by every move holds after every list of calls, with the invariant
   module _ (lent : ℕ → List ℕ) (P : State → List Entry → Type 0) (base : P (fresh start lent) [])

@@ -24,7 +24,7 @@ use Rattle.history.specs.Log.{choose, Party, State, Call, Did, Entry, di
 use Rattle.history.specs.Contents.{tenantOf, tenantAfter, tenant, keptBy, coinsBy, coinsIn, keptWords, termsBy, scratchWords}
 use Rattle.history.proofs.Words.{over-over, over-nothing}
 use Rattle.history.proofs.Accepted.{firstRow, Begins, Continues, wipeScratch}
-use Rattle.history.proofs.Facts.{set-same, set-other, none≢, absent≢}
+use Rattle.history.proofs.Facts.{set-same, set-other, none≢, absent≢, same-some}
 use Rattle.history.proofs.Kept.{slotBy, stateAfter, Way, fresh, onward, Move}
 use Rattle.history.specs.Claim.{Empty}
 use Rattle.history.proofs.Along.{along}
@@ -44,9 +44,6 @@ pub record Lent (lent : ℕ → List ℕ) (st : State) (l : List Entry) : Type 0
   pub keeps-it : (n : ℕ) → 0 < dueIn (st .sessions n) → roleIn (st .sessions n) ≡ blinder → (e : Did) × (tenant l (lentTo l n) ≡ some e) × (e .name ≡ n)
 
 -- ---- one scratch
-
-same-some : {e e′ : Did} → some e ≡ some e′ → e ≡ e′
-same-some h = cc
 
 -- only whether the tenant's session is open counts
 kept-same : (d d′ : ℕ) (t : Terms) (coins : List ℕ) → (d ≡ d′) ⊎ ((0 < d) × (0 < d′)) → keptWords d t coins ≡ keptWords d′ t coins

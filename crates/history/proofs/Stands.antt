@@ -13,7 +13,7 @@ use lib.ListN.{length}
 use Rattle.algebra.specs.Matrix.{Residues}
 use Rattle.protocol.specs.declared.Terms.{Terms}
 use Rattle.protocol.specs.Judge.{done}
-use Rattle.protocol.specs.Bounds.{product, system}
+use Rattle.protocol.specs.Bounds.{product}
 use Rattle.protocol.specs.Tape.{Slot, Role, left, right, blinder, solver, sortOf}
 use Rattle.protocol.specs.Message.{Message, messageSize}
 use Rattle.protocol.specs.Step.{Effect}
@@ -25,7 +25,7 @@ use Rattle.history.specs.Log.{Party, State, Call, Dealing, Did, Entry, d
 use Rattle.history.specs.Seen.{view, takenFirst, takenLater, takenBy, withSent, AcceptedBy, Stands, as-answered, as-accepted}
 use Rattle.history.specs.Claim.{Empty}
 use Rattle.history.proofs.Facts.{one-dealing}
-use Rattle.history.proofs.Accepted.{firstRow, laterRow, Hears}
+use Rattle.history.proofs.Accepted.{firstRow, laterRow, Hears, in-system}
 use Rattle.history.proofs.Steps.{begins-sound, continues-sound}
 use Rattle.history.proofs.Kept.{stateAfter, Move}
 use Rattle.history.proofs.Along.{along}
@@ -38,9 +38,6 @@ use Rattle.history.proofs.Views.{views}
 -- it fits the terms of the session that took it
 abbrev Fit : Step → Effect Session → Message → Type 0
 Fit k f a = Messages (termsIn (f .session)) (kindsSent (facing (roleOf k))) (a .residues ∷ [])
-
-no-product : {A : Type 0} → system ≡ product → A
-no-product e = absurd (let z : _≡_ {A = ℕ} 0 1 = cc in omega arith)
 
 heard-fit : (r : Row) (t : Terms) (ms : List Message) (a : Message) → Hears r t ms → ms ≡ a ∷ [] → sortOf (r .role) ≡ product
     → Messages t (kindsSent (facing (r .role))) (a .residues ∷ [])
@@ -88,8 +85,8 @@ one-received left e no-more = omega arith
 one-received left e (r before no-more) = omega arith
 one-received right e no-more = omega arith
 one-received right e (r before no-more) = omega arith
-one-received blinder e m = no-product e
-one-received solver e m = no-product e
+one-received blinder e m = in-system e
+one-received solver e m = in-system e
 
 -- ---- after every list
 
@@ -146,7 +143,7 @@ module _ (size : Party → ℕ) (start : Party → List ℕ) (empty : Empty size
         sent-fit = subst (λ (t : Terms). Messages t (kindsSent role) (a .residues ∷ [])) (sym (known n b .terms-are)) (same-tape (c .step .name) n (o .0) b (c .same-tape) f);
         received-fit = k .received-fit;
         in-turn = one-received role (c .in-product) (k .received-fit);
-        kept = λ y. no-product (sym y ∙ c .in-product);
+        kept = λ y. in-system (sym y ∙ c .in-product);
       }
 
   pub stands-secret : (n : ℕ) → isBegun (st .sessions n) ≡ true → (v : View) → Stands l (view l n) v → Secret v

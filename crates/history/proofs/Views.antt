@@ -30,7 +30,7 @@ use Rattle.history.specs.Contents.{half, tenantOf, tenantAfter, tenant, 
 use Rattle.protocol.specs.View.{View, coinLayout}
 use Rattle.history.specs.Seen.{viewFirst, viewLater, halfAt, viewAfter, view}
 use Rattle.history.proofs.Accepted.{Begins, Continues}
-use Rattle.history.proofs.Facts.{set-same, set-other, none≢, absent≢, same-server, same-dealing, same-name, place-known}
+use Rattle.history.proofs.Facts.{set-same, set-other, none≢, absent≢, same-server, same-dealing, same-some, place-known}
 use Rattle.history.proofs.Dealt.{Fine}
 use Rattle.history.proofs.Kept.{Agrees, Inv, slotBy, stateAfter, Way, fresh, onward, Move, ready-before, used-before, only, place-now, place-else}
 use Rattle.history.specs.Claim.{Empty}
@@ -81,12 +81,9 @@ data Came (e : Did) (o : Option Did) (x : Did) : Type 0 where
   this : e ≡ x → (t : Terms) (f : First) → e .step ≡ begins t f → roleFirst f ≡ blinder → Came e o x
   before : o ≡ some x → Came e o x
 
-same-did : {e x : Did} → some e ≡ some x → e ≡ x
-same-did h = cc
-
 came-first : (e : Did) (t : Terms) (f : First) (o : Option Did) (x : Did) → e .step ≡ begins t f → tenantOf (roleFirst f) e o ≡ some x
     → Dec (roleFirst f ≡ blinder) → Came e o x
-came-first e t f o x s h (yes r) = this (same-did (sym (ap (λ (r : Role). tenantOf r e o) r) ∙ h)) t f s r
+came-first e t f o x s h (yes r) = this (same-some (sym (ap (λ (r : Role). tenantOf r e o) r) ∙ h)) t f s r
 came-first e t f o x s h (no n) = before (sym (quiet (roleFirst f) n e o) ∙ h)
 
 came : {P : Type 0} (h : Dec P) (e : Did) (k : Step) (o : Option Did) (x : Did) → e .step ≡ k → tenantAfter h e k o ≡ some x → Came e o x
@@ -252,7 +249,7 @@ module _ (size : Party → ℕ) (start : Party → List ℕ) (lent : ℕ → Lis
                 let same : holds (mv .dealing) (some (e .name)) ≡ holds d (some n) =
                 sym (place-now size start l e v (p .0) mv) ∙ subst₂ (λ (w : Party) (i : ℕ). place (did e ∷ l) (e .party) (e .index) ≡ place (did e ∷ l) w i) (q .0) (q .1) refl ∙ f
                 in
-                ap (λ (n : ℕ). view (did e ∷ l) n .half) (sym (same-name (same-server same))) ∙ half-by (mv .way) ∙ ap₂ half (q .0) (same-dealing same)
+                ap (λ (n : ℕ). view (did e ∷ l) n .half) (sym (same-some (same-server same))) ∙ half-by (mv .way) ∙ ap₂ half (q .0) (same-dealing same)
             go (no h) =
                 let was : place l w i ≡ holds d (some n) = sym (place-else size start l e v (p .0) mv w i h) ∙ f in
                 let apart : n ≢ e .name = λ q. h (only size start l e v (p .0) mv w i d (was ∙ ap (λ (n : ℕ). holds d (some n)) q)) in
