@@ -1,5 +1,5 @@
--- The laws of every step and drop, with a clause for each: the one module that looks into their definitions. All else goes by the table of steps (specs/Ends)
--- and by these laws.
+-- The laws of every step and drop, with a clause for each, here alone. All else goes by the table of steps (specs/Ends) and by these laws; only what the solver's
+-- last step answers is read off its definition once more (Results).
 --   FirstLaw, first-law       a first step's needs and effect: it is accepted exactly where they are met, what is known of it then, what it makes of the view,
 --                             and that an end that keeps to the rules meets them
 --   LaterLaw, later-law       the same of a later step or a drop
