@@ -1,7 +1,7 @@
 -- What is known of a session's view at each stage. This looks at one session, and at nothing of the log.
 --   Known, arises               of every view; so it is one of those that protocol's counts are for
 --   SeenBy, seen-known          the same with what the session itself keeps, while it is open
---   Gave                        the result that the session gave last, by its view
+--   Gave                        the result of a step, by the view after it
 --   first-known                 a view after a first step
 -- Assumes nothing.
 use mathlib.Core.Path.{_≡_, refl, sym, _∙_, subst, subst₂}
@@ -29,7 +29,7 @@ use Rattle.protocol.specs.Completion.{messagesOf, blinderMessages, coinsFit, Ta
 use Rattle.protocol.proofs.Tests.{TermsFit, MessageFits}
 use Rattle.protocol.proofs.CompletionLaws.{halfSlot, viewOf}
 use Rattle.protocol.proofs.Completion.{Messages, ahead, ownMask, Arises}
-use Rattle.history.specs.Ends.{Session, absent, leftEnd, rightEnd, solverEnd, blinderEnd, First, roleFirst, isBegun, termsIn, roleIn}
+use Rattle.history.specs.Ends.{Session, absent, leftEnd, rightEnd, solverEnd, blinderEnd, First, roleFirst, isBegun, termsIn, roleIn, Row, Result, no-result, left-share, right-share, solution}
 use Rattle.history.specs.Seen.{inputOf, coinsDrawn, takenFirst, heard, viewFirst}
 use Rattle.history.proofs.Accepted.{Begins}
 use Rattle.history.proofs.Replay.{said-is, solverOne, solverTwo, SolverBegan, blinderOne, BlinderBegan}
@@ -155,12 +155,23 @@ ShareOf v z t a = z ≡ rightShare (t .q) (t .m) (t .k) (t .p) (part 0 (cut 2 t 
 abbrev pub AnswerOf : View → List ℕ → Terms → List ℕ → Type 0
 AnswerOf v z t a = z ≡ matMul (t .q) (t .m) (t .m) (columns (t .m) (t .p)) (part 2 (v .half)) (part 0 (cut 5 t a))
 
--- left's result is U; right's and the blinder's, once all its messages arrived, is made of the last of them
-abbrev pub Gave : Role → Terms → (result : List ℕ) → View → Type 0
-Gave left t z v = z ≡ v .coins
-Gave right t z v = length (v .received) ≡ 1 → (a : List ℕ) × (v .received ≡ a ∷ []) × ShareOf v z t a
-Gave blinder t z v = length (v .received) ≡ 3 → (m1 : List ℕ) × (m3 : List ℕ) × (m5 : List ℕ) × (v .received ≡ m1 ∷ m3 ∷ m5 ∷ []) × AnswerOf v z t m5
-Gave solver t z v = Unit
+-- an end that is to give a result awaits a message
+abbrev pub Short : Role → View → Type 0
+Short left v = length (v .received) < 1
+Short right v = length (v .received) < 1
+Short blinder v = length (v .received) < 3
+Short solver v = Unit
+
+-- left's share is U; right's, and the blinder's solution, are made of the last message
+abbrev pub GaveBy : Result → Role → Terms → (result : List ℕ) → View → Type 0
+GaveBy no-result r t z v = (z ≡ []) × Short r v
+GaveBy left-share r t z v = (r ≡ left) × (z ≡ v .coins)
+GaveBy right-share r t z v = (r ≡ right) × (a : List ℕ) × (v .received ≡ a ∷ []) × ShareOf v z t a
+GaveBy solution r t z v = (r ≡ blinder) × (m1 : List ℕ) × (m3 : List ℕ) × (m5 : List ℕ) × (v .received ≡ m1 ∷ m3 ∷ m5 ∷ []) × AnswerOf v z t m5
+
+-- the step of this row gave it
+abbrev pub Gave : Row → Terms → (result : List ℕ) → View → Type 0
+Gave w t z v = GaveBy (w .gives) (w .role) t z v
 
 -- ---- first steps
 

@@ -21,20 +21,17 @@ use Rattle.protocol.specs.Bounds.{allBelow}
 use Rattle.protocol.specs.Tape.{Slot, slotWords, blinder, solver, matrices}
 use Rattle.protocol.specs.Message.{Message, noMessage, messageSize}
 use Rattle.protocol.specs.Product.{closedRight}
-use Rattle.protocol.specs.System.{closedSolver, closedBlinder, keptS, keptM, keptY, jointSum, scratchParts, solverFirstEffect, solverSecondEffect}
-use Rattle.protocol.specs.System.{solverLastEffect, blinderFirstEffect, blinderSecondEffect}
+use Rattle.protocol.specs.System.{closedSolver, closedBlinder, keptS, keptM, keptY, jointSum, scratchParts, solverFirstEffect, solverSecondEffect, solverLastEffect, blinderFirstEffect, blinderSecondEffect}
 use Rattle.protocol.specs.View.{View}
 use Rattle.protocol.specs.Completion.{said, rightMessages, solverMessages, blinderMessages}
 use Rattle.protocol.proofs.Tests.{MessageFits}
 use Rattle.protocol.proofs.StepTests as tests
 use Rattle.protocol.proofs.CompletionLaws.{halfSlot}
 use Rattle.protocol.proofs.Completion.{no-more, _before_}
-use Rattle.history.specs.Ends.{Session, absent, leftEnd, rightEnd, solverEnd, blinderEnd, dueIn, termsIn, roleIn}
+use Rattle.history.specs.Ends.{Session, absent, leftEnd, rightEnd, solverEnd, blinderEnd, dueIn, termsIn, roleIn, no-result}
 use Rattle.history.specs.Seen.{heard}
-use Rattle.history.proofs.Replay.{said-is, incoming-whole, f-sent, w-sent, t-sent, y1-sent, x1-sent, solverOne, solverTwo, solverThree, solver-none}
-use Rattle.history.proofs.Replay.{solver-one, solver-two, f-is, t-is, blinderOne, blinderTwo, blinder-one, blinder-two, w-is}
-use Rattle.history.proofs.Known.{Known, viewWith, known-with, known-still, SolverStage, s-first, s-second, s-over, SolverSeen, BlinderStage, b-first}
-use Rattle.history.proofs.Known.{b-second, b-over, BlinderSeen, SeenBy, Gave}
+use Rattle.history.proofs.Replay.{said-is, incoming-whole, f-sent, w-sent, t-sent, y1-sent, x1-sent, solverOne, solverTwo, solverThree, solver-none, solver-one, solver-two, f-is, t-is, blinderOne, blinderTwo, blinder-one, blinder-two, w-is}
+use Rattle.history.proofs.Known.{Known, viewWith, known-with, known-still, SolverStage, s-first, s-second, s-over, SolverSeen, BlinderStage, b-first, b-second, b-over, BlinderSeen, SeenBy, Short, GaveBy}
 
 pub quiet : (l : List (List ℕ)) → l ++ said noMessage ≡ l
 unfolding said
@@ -65,22 +62,22 @@ open-short z (b-second a b b2 b4 ra rb p d kept two) o = omega (arith, ap length
 open-short z (b-over d) o = absurd (omega (arith, o, d))
 
 shut-seen : (x : Session) (v : View) {sent got : List (List ℕ)} → SeenBy x v → 0 < dueIn x → sent ≡ v .sent → got ≡ v .received
-    → SeenBy (shut x) (viewWith v sent got) × Gave (roleIn x) (termsIn x) [] (viewWith v sent got)
+    → SeenBy (shut x) (viewWith v sent got) × Short (roleIn x) (viewWith v sent got)
 shut-seen absent v seen o es eg = absurd (omega (arith, o))
 shut-seen (leftEnd t) v seen o es eg = absurd (omega (arith, o))
 shut-seen (rightEnd x) v seen o es eg = (
   record { known = known-still (seen .known) es eg; one-sent = ap length es ∙ seen .one-sent; waits = λ z. absurd (omega (arith, z)) },
-  λ z. absurd (omega (arith, z, ap length (eg ∙ seen .waits o))),
+  omega (arith, ap length (eg ∙ seen .waits o)),
 )
 shut-seen (solverEnd x) v seen o es eg = (closed-solver seen (known-still (seen .known) es eg), tt)
 shut-seen (blinderEnd x) v seen o es eg = (
   closed-blinder seen (known-still (seen .known) es eg),
-  λ z. absurd (omega (arith, z, ap length eg, open-short x (seen .stage) o)),
+  omega (arith, ap length eg, open-short x (seen .stage) o),
 )
 
 pub drop-view : (x : Session) (v : View) → SeenBy x v → 0 < dueIn x
-    → let w = viewWith v (v .sent ++ said noMessage) (v .received ++ []) in SeenBy (shut x) w × Gave (roleIn x) (termsIn x) [] w
-drop-view x v seen o = shut-seen x v seen o (quiet (v .sent)) (append-nil (v .received))
+    → let w = viewWith v (v .sent ++ said noMessage) (v .received ++ []) in SeenBy (shut x) w × GaveBy no-result (roleIn x) (termsIn x) [] w
+drop-view x v seen o = let d = shut-seen x v seen o (quiet (v .sent)) (append-nil (v .received)) in (d .0, (refl, d .1))
 
 -- ---- right
 

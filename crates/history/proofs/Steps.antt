@@ -1,5 +1,5 @@
--- The laws of every step and drop, with a clause for each, here alone. All else goes by the table of steps (specs/Ends) and by these laws; only what the solver's
--- last step answers is read off its definition once more (Results).
+-- The laws of every step and drop, with a clause for each, here alone. All else goes by the table of steps (specs/Ends) and by these laws; only what the
+-- solver's last step answers is read off its definition once more (Results).
 --   FirstLaw, first-law       a first step's needs and effect: it is accepted exactly where they are met, what is known of it then, what it makes of the view,
 --                             and that an end that keeps to the rules meets them
 --   LaterLaw, later-law       the same of a later step or a drop
@@ -27,8 +27,7 @@ use Rattle.protocol.specs.Tape.{Slot, slotWords, Role, left, right, blinder, so
 use Rattle.protocol.specs.Message.{Message, noMessage, messageSize, messageParts}
 use Rattle.protocol.specs.Step.{Effect}
 use Rattle.protocol.specs.Product.{closedRight, rightFirstEffect, leftEffect, rightLastEffect}
-use Rattle.protocol.specs.System.{closedSolver, closedBlinder, sideSize, scratchSize, scratchParts, coinsOf, jointSum, solverFirstEffect, blinderFirstEffect}
-use Rattle.protocol.specs.System.{solverSecondEffect, blinderSecondEffect, solverLastEffect, blinderLastEffect}
+use Rattle.protocol.specs.System.{closedSolver, closedBlinder, sideSize, scratchSize, scratchParts, coinsOf, jointSum, solverFirstEffect, blinderFirstEffect, solverSecondEffect, blinderSecondEffect, solverLastEffect, blinderLastEffect}
 use Rattle.protocol.specs.Drop.{dropped}
 use Rattle.protocol.specs.View.{View}
 use Rattle.protocol.specs.Completion.{takenTests}
@@ -37,18 +36,13 @@ use Rattle.protocol.proofs.Residues.{input-residues}
 use Rattle.protocol.proofs.Tests.{Decides, TermsFit, OpenFits, MessageFits}
 use Rattle.protocol.proofs.StepTests as tests
 use Rattle.protocol.proofs.CompletionInputs.{taken-by-right, taken-by-left, taken-by-solver, taken-by-blinder}
-use Rattle.history.specs.Ends.{Session, leftEnd, rightEnd, solverEnd, blinderEnd, isBegun, dueIn, termsIn, roleIn, asRight, asSolver, asBlinder, First}
-use Rattle.history.specs.Ends.{right-first, left-only, solver-first, blinder-first, Later, right-last, solver-second, solver-last, blinder-second}
-use Rattle.history.specs.Ends.{blinder-last, right-drop, solver-drop, blinder-drop, kindOf, roleFirst, roleLater, asAny, runFirst, runLater, Step, begins}
-use Rattle.history.specs.Ends.{goes-on, runStep}
+use Rattle.history.specs.Ends.{Session, leftEnd, rightEnd, solverEnd, blinderEnd, isBegun, dueIn, termsIn, roleIn, asRight, asSolver, asBlinder, First, right-first, left-only, solver-first, blinder-first, Later, right-last, solver-second, solver-last, blinder-second, blinder-last, right-drop, solver-drop, blinder-drop, kindOf, roleFirst, roleLater, asAny, runFirst, runLater, Step, begins, goes-on, runStep}
 use Rattle.history.specs.Seen.{takenLater, viewLater, viewFirst}
 use Rattle.history.specs.Claim.{Closes, Ends}
-use Rattle.history.proofs.Replay.{y-sent, x-sent, y1-sent, x1-sent, f-sent, w-sent, t-sent, said-is, incoming-whole, solver-none, blinder-one}
-use Rattle.history.proofs.Replay.{right-sends, left-sends, SolverBegan, y1-is, BlinderBegan, x1-is}
+use Rattle.history.proofs.Replay.{y-sent, x-sent, y1-sent, x1-sent, f-sent, w-sent, t-sent, said-is, incoming-whole, solver-none, blinder-one, right-sends, left-sends, SolverBegan, y1-is, BlinderBegan, x1-is}
 use Rattle.history.specs.Log.{World}
 use Rattle.history.specs.Right.{FairFirst}
-use Rattle.history.proofs.Accepted.{any-decides, firstRow, laterRow, Sends, in-system, Begins, began, coins-drawn, Continues, ownEnd, own-open, own-is}
-use Rattle.history.proofs.Accepted.{went, Waits}
+use Rattle.history.proofs.Accepted.{any-decides, firstRow, laterRow, Sends, in-system, Begins, began, coins-drawn, Continues, ownEnd, own-open, own-is, went, Waits}
 use Rattle.history.proofs.Known.{known-with, known-still, s-first, b-first, SeenBy, cut, Gave, half-now, first-known}
 use Rattle.history.proofs.KnownOn.{quiet, closed-solver, closed-blinder, open-short, drop-view, right-any, f-stage, t-stage, w-stage, z-stage}
 use Rattle.history.proofs.Needs.{Handed, FairBy, in-time, drop-needs, solver-needs, Coins, long-enough, blinder-needs}
@@ -65,7 +59,7 @@ pub record FirstLaw (t : Terms) (k : First) (s : Slot) (u : List ℕ) : Type 1 w
   pub decides : Decides (runFirst t k s u) effect Needs
   pub known : Needs → Begins t k s effect
   pub seen : (ls : List (List ℕ)) → matrices (roleFirst k) t (slotWords s) ≡ ls → (roleFirst k ≡ blinder → regular (t .q) (t .m) (part 2 ls) ≡ true) → Needs
-      → Begins t k s effect → SeenBy (effect .session) (viewFirst t k ls effect) × Gave (roleFirst k) t (effect .result) (viewFirst t k ls effect)
+      → Begins t k s effect → SeenBy (effect .session) (viewFirst t k ls effect) × Gave (firstRow k) t (effect .result) (viewFirst t k ls effect)
   pub met : (o : World) → Handed o → {ls : List (List ℕ)} → TermsFit (sortOf (roleFirst k)) t → Holding (roleFirst k) READY t ls s
       → FairFirst o t k (length u) → Needs
 
@@ -87,7 +81,7 @@ first-law t (right-first y room) s u =
               one-sent = ap length (said-is m);
               waits = λ z. refl;
             },
-            λ z. absurd (omega (arith, z)),
+            (refl, omega arith),
           );
       met = λ o handed terms held f. record {
         first = first-fits held terms;
@@ -108,7 +102,7 @@ first-law t (left-only x words a room shareRoom) s u =
           let m = x-sent t s x words a (n .first .terms) in (
             first-known t _ s ls e g rq m (sym (left-sends t ls s x words a room shareRoom n e (g .drew))) (m .residues before no-more)
                 (n .message .residues before no-more) (omega arith),
-            refl,
+            (refl, refl),
           );
       met = λ o handed terms held f. record {
         first = first-fits held terms;
@@ -146,7 +140,7 @@ first-law t (solver-first l x room) s u =
               began = b;
               stage = s-first refl refl;
             },
-            tt,
+            (refl, tt),
           );
       met = λ o handed terms held f.
           let i = taken-pair t (l ∷ x ∷ []) (f .0) in
@@ -185,7 +179,7 @@ first-law t (blinder-first mm y words a room) s u =
               began = b;
               stage = b-first (a .residues) rm refl refl;
             },
-            λ z. absurd (omega (arith, z)),
+            (refl, omega arith),
           );
       met = λ o handed terms held f.
           let i = taken-pair t (mm ∷ y ∷ []) (f .0) in
@@ -210,11 +204,11 @@ begins-sound t k s u e h =
 
 pub first-seen : (t : Terms) (k : First) (s : Slot) (u : List ℕ) (f : Effect Session) (ls : List (List ℕ)) → runFirst t k s u ≡ done f
     → matrices (roleFirst k) t (slotWords s) ≡ ls → (roleFirst k ≡ blinder → regular (t .q) (t .m) (part 2 ls) ≡ true)
-    → SeenBy (f .session) (viewFirst t k ls f) × Gave (roleFirst k) t (f .result) (viewFirst t k ls f)
+    → SeenBy (f .session) (viewFirst t k ls f) × Gave (firstRow k) t (f .result) (viewFirst t k ls f)
 first-seen t k s u f ls h e rq =
     let law = first-law t k s u in
     let m = law .decides .means h in
-    subst (λ (f : Effect Session). SeenBy (f .session) (viewFirst t k ls f) × Gave (roleFirst k) t (f .result) (viewFirst t k ls f)) (m .1)
+    subst (λ (f : Effect Session). SeenBy (f .session) (viewFirst t k ls f) × Gave (firstRow k) t (f .result) (viewFirst t k ls f)) (m .1)
     (law .seen ls e rq (m .0) (law .known (m .0)))
 
 pub first-goes : (o : World) → Handed o → (t : Terms) (k : First) (s : Slot) (u : List ℕ) {ls : List (List ℕ)} → TermsFit (sortOf (roleFirst k)) t
@@ -239,7 +233,7 @@ pub record LaterLaw (k : Later) (x : Session) (s : Slot) (u : List ℕ) (y : Ses
   pub known : Needs → Continues k y s effect
   pub seen : (v : View) → SeenBy y v → matrices (roleLater k) (termsIn y) (slotWords s) ≡ v .half
       → (roleLater k ≡ blinder → scratchParts (termsIn y) u ≡ scratchParts (termsIn y) (v .coins)) → Needs
-      → SeenBy (effect .session) (viewLater v k effect) × Gave (roleLater k) (termsIn y) (effect .result) (viewLater v k effect)
+      → SeenBy (effect .session) (viewLater v k effect) × Gave (laterRow k) (termsIn y) (effect .result) (viewLater v k effect)
   pub met : (v : View) (ls : List (List ℕ)) → SeenBy y v → Holding (roleLater k) IN-USE (termsIn y) ls s → (roleLater k ≡ blinder → Coins v u) → FairBy y k
       → Needs
 
@@ -262,7 +256,8 @@ later-law (right-last m room) x s u =
               one-sent = ap length (quiet (v .sent)) ∙ sn .one-sent;
               waits = λ z. absurd (omega (arith, z));
             },
-            λ z. (
+            (
+              refl,
               m .residues,
               got,
               ap (λ (ls : List (List ℕ)). rightShare (t .q) (t .m) (t .k) (t .p) (part 0 (cut 2 t (m .residues))) (part 0 ls)
@@ -283,7 +278,7 @@ later-law (solver-second m room) x s u = record {
   known = λ n.
       went x refl (n .later .session-open) (n .later .due-is, inr (omega arith)) (n .message, λ p. in-system p)
       (inr (f-sent (asSolver x) s m (n .later .session-open .terms)));
-  seen = λ v sn e c n. (f-stage (asSolver x) v s m room sn n e (sn .stage), tt);
+  seen = λ v sn e c n. (f-stage (asSolver x) v s m room sn n e (sn .stage), (refl, tt));
   met = λ v ls sn held b f. solver-needs v s ls 2 m _ room (asSolver x) sn held (omega arith) f;
 }
 later-law (solver-last m room) x s u = record {
@@ -294,7 +289,7 @@ later-law (solver-last m room) x s u = record {
   known = λ n.
       went x refl (n .later .session-open) (n .later .due-is, inl refl) (n .message, λ p. in-system p)
       (t-sends (asSolver x) s m (n .later .session-open .terms) _ refl);
-  seen = λ v sn e c n. (closed-solver sn (t-stage (asSolver x) v s m room sn n e _ refl (sn .stage)), tt);
+  seen = λ v sn e c n. (closed-solver sn (t-stage (asSolver x) v s m room sn n e _ refl (sn .stage)), (refl, tt));
   met = λ v ls sn held b f. solver-needs v s ls 4 m _ room (asSolver x) sn held (omega arith) f;
 }
 later-law (blinder-second m room) x s u = record {
@@ -307,7 +302,7 @@ later-law (blinder-second m room) x s u = record {
       (inr (w-sent (asBlinder x) s u m (n .later .session-open .terms)));
   seen = λ v sn e c n.
       let w = w-stage (asBlinder x) v s u m room sn n e (c refl) (sn .stage) in
-      (w, λ z. absurd (omega (arith, z, open-short _ (w .stage) (omega arith))));
+      (w, (refl, open-short _ (w .stage) (omega arith)));
   met = λ v ls sn held b f. blinder-needs v u (b refl) s ls 3 m _ room (asBlinder x) sn held (omega arith) f;
 }
 later-law (blinder-last m room) x s u =
@@ -321,7 +316,8 @@ later-law (blinder-last m room) x s u =
       seen = λ v sn e c n.
           let w = z-stage (asBlinder x) v m sn (n .later .due-is) (n .message) (sn .stage) in (
             closed-blinder sn (known-still (w .3) (quiet (v .sent)) refl),
-            λ z. (
+            (
+              refl,
               w .0,
               w .1,
               m .residues,
@@ -376,7 +372,7 @@ continues-sound k x s u e h =
 
 pub later-seen : (k : Later) (x : Session) (v : View) (s : Slot) (u : List ℕ) (f : Effect Session) → SeenBy x v → runLater k x s u ≡ done f
     → matrices (roleIn x) (termsIn x) (slotWords s) ≡ v .half → (roleIn x ≡ blinder → scratchParts (termsIn x) u ≡ scratchParts (termsIn x) (v .coins))
-    → SeenBy (f .session) (viewLater v k f) × Gave (roleLater k) (termsIn x) (f .result) (viewLater v k f)
+    → SeenBy (f .session) (viewLater v k f) × Gave (laterRow k) (termsIn x) (f .result) (viewLater v k f)
 later-seen k x v s u f sn h e c =
     let m = taken-up k x s u h in
     let r : roleIn x ≡ roleLater k = continues-sound k x s u f h .role-was in
@@ -385,7 +381,7 @@ later-seen k x v s u f sn h e c =
     (subst₂ (λ (r : Role) (t : Terms). matrices r t (slotWords s) ≡ v .half) r (sym t) e)
     (λ b. subst (λ (t : Terms). scratchParts t u ≡ scratchParts t (v .coins)) (sym t) (c (r ∙ b))) (m .0)
     in
-    subst₂ (λ (t : Terms) (f : Effect Session). SeenBy (f .session) (viewLater v k f) × Gave (roleLater k) t (f .result) (viewLater v k f)) t (m .1) both
+    subst₂ (λ (t : Terms) (f : Effect Session). SeenBy (f .session) (viewLater v k f) × Gave (laterRow k) t (f .result) (viewLater v k f)) t (m .1) both
 
 pub later-goes : (v : View) (s : Slot) (ls : List (List ℕ)) (u : List ℕ) (k : Later) (x : Session) → isBegun x ≡ true → roleIn x ≡ roleLater k → SeenBy x v
     → Holding (roleLater k) IN-USE (termsIn x) ls s → (roleLater k ≡ blinder → Coins v u) → FairBy x k → (f : Effect Session) × (runLater k x s u ≡ done f)

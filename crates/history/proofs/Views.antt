@@ -22,14 +22,12 @@ use Rattle.algebra.specs.Matrix.{Residues}
 use Rattle.protocol.proofs.Residues.{parts-over}
 use Rattle.protocol.specs.Deal.{Dealt}
 use Rattle.protocol.specs.System.{scratchParts, scratchLayout}
-use Rattle.history.specs.Ends.{Session, absent, dueIn, termsIn, roleIn, First, opening, Later, Step, begins, goes-on, roleFirst, roleLater, roleOf}
-use Rattle.history.specs.Ends.{runStep, runFirst, runLater, isBegun}
-use Rattle.history.specs.Log.{choose, Party, State, Call, Dealing, Did, Entry, dealt, did, afterDealing, run, holds, here, place, lentTo, OwnScratchBy}
-use Rattle.history.specs.Log.{Premises, fresh as fresh-state}
+use Rattle.history.specs.Ends.{Session, absent, dueIn, termsIn, roleIn, First, opening, Later, Step, begins, goes-on, roleFirst, roleOf, runStep, runFirst, runLater, isBegun}
+use Rattle.history.specs.Log.{choose, Party, State, Call, Dealing, Did, Entry, dealt, did, afterDealing, run, holds, here, place, lentTo, OwnScratchBy, Premises, fresh as fresh-state}
 use Rattle.history.specs.Contents.{half, tenantOf, tenantAfter, tenant, keptBy, coinsIn, termsBy, scratchWords}
 use Rattle.protocol.specs.View.{View, coinLayout}
 use Rattle.history.specs.Seen.{viewFirst, viewLater, halfAt, viewAfter, view}
-use Rattle.history.proofs.Accepted.{Begins, Continues}
+use Rattle.history.proofs.Accepted.{Begins, Continues, firstRow, laterRow}
 use Rattle.history.proofs.Facts.{set-same, set-other, none≢, absent≢, same-server, same-dealing, same-some, place-known}
 use Rattle.history.proofs.Dealt.{Fine}
 use Rattle.history.proofs.Kept.{Agrees, Inv, slotBy, stateAfter, Way, fresh, onward, Move, ready-before, used-before, only, place-now, place-else}
@@ -154,7 +152,7 @@ module _ (size : Party → ℕ) (start : Party → List ℕ) (lent : ℕ → Lis
               ap (λ (z : View). z .coins) (view-other (x .name) n) ∙ vs .tied b x q
 
       pub first-both : SeenBy (e .effect .session) (viewFirst t k (half (e .party) (mv .dealing)) (e .effect))
-          × Gave (roleFirst k) t (e .effect .result) (viewFirst t k (half (e .party) (mv .dealing)) (e .effect))
+          × Gave (firstRow k) t (e .effect .result) (viewFirst t k (half (e .party) (mv .dealing)) (e .effect))
       first-both = first-seen t k (slotBy size start e) (e .on .scratches (e .scratch)) (e .effect) (half (e .party) (mv .dealing)) acts mats mask
 
       first-seen-here : SeenBy (stateAfter size start e .sessions (e .name)) here-view
@@ -204,7 +202,7 @@ module _ (size : Party → ℕ) (start : Party → List ℕ) (lent : ℕ → Lis
       later-acts = subst (λ (k : Step). runStep k x₀ (slotBy size start e) (e .on .scratches (e .scratch)) ≡ done (e .effect)) s (mv .acted)
 
       pub later-both : SeenBy (e .effect .session) (viewLater (view l (e .name)) k (e .effect))
-          × Gave (roleLater k) (termsIn x₀) (e .effect .result) (viewLater (view l (e .name)) k (e .effect))
+          × Gave (laterRow k) (termsIn x₀) (e .effect .result) (viewLater (view l (e .name)) k (e .effect))
       later-both =
           later-seen k x₀ (view l (e .name)) (slotBy size start e) (e .on .scratches (e .scratch)) (e .effect)
           (vs .seen (e .name)) later-acts mats-later coins-stand

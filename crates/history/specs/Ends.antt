@@ -118,27 +118,32 @@ pub data StepKind : Type 0 where
 pub data Turn : Type 0 where
   opens awaits drops : Turn
 
+-- what a step gives its caller: a share is left's or right's, and the solution is the blinder's
+pub data Result : Type 0 where
+  no-result left-share right-share solution : Result
+
 -- what each of them is. Messages by their kinds: the one that it takes, the one that it sends, and the one that is due after it, 0 where it ends its session
 pub record Row : Type 0 where
   pub role : Role
   pub turn : Turn
   pub takes : ℕ
   pub sends : ℕ
+  pub gives : Result
   pub next : ℕ
 
 abbrev pub row : StepKind → Row
-row first-right = record { role = right; turn = opens; takes = 0; sends = 1; next = 2 }
-row only-left = record { role = left; turn = opens; takes = 1; sends = 2; next = 0 }
-row first-solver = record { role = solver; turn = opens; takes = 0; sends = 1; next = 2 }
-row first-blinder = record { role = blinder; turn = opens; takes = 1; sends = 2; next = 3 }
-row last-right = record { role = right; turn = awaits; takes = 2; sends = 0; next = 0 }
-row second-solver = record { role = solver; turn = awaits; takes = 2; sends = 3; next = 4 }
-row last-solver = record { role = solver; turn = awaits; takes = 4; sends = 5; next = 0 }
-row second-blinder = record { role = blinder; turn = awaits; takes = 3; sends = 4; next = 5 }
-row last-blinder = record { role = blinder; turn = awaits; takes = 5; sends = 0; next = 0 }
-row drop-right = record { role = right; turn = drops; takes = 0; sends = 0; next = 0 }
-row drop-solver = record { role = solver; turn = drops; takes = 0; sends = 0; next = 0 }
-row drop-blinder = record { role = blinder; turn = drops; takes = 0; sends = 0; next = 0 }
+row first-right = record { role = right; turn = opens; takes = 0; sends = 1; gives = no-result; next = 2 }
+row only-left = record { role = left; turn = opens; takes = 1; sends = 2; gives = left-share; next = 0 }
+row first-solver = record { role = solver; turn = opens; takes = 0; sends = 1; gives = no-result; next = 2 }
+row first-blinder = record { role = blinder; turn = opens; takes = 1; sends = 2; gives = no-result; next = 3 }
+row last-right = record { role = right; turn = awaits; takes = 2; sends = 0; gives = right-share; next = 0 }
+row second-solver = record { role = solver; turn = awaits; takes = 2; sends = 3; gives = no-result; next = 4 }
+row last-solver = record { role = solver; turn = awaits; takes = 4; sends = 5; gives = no-result; next = 0 }
+row second-blinder = record { role = blinder; turn = awaits; takes = 3; sends = 4; gives = no-result; next = 5 }
+row last-blinder = record { role = blinder; turn = awaits; takes = 5; sends = 0; gives = solution; next = 0 }
+row drop-right = record { role = right; turn = drops; takes = 0; sends = 0; gives = no-result; next = 0 }
+row drop-solver = record { role = solver; turn = drops; takes = 0; sends = 0; gives = no-result; next = 0 }
+row drop-blinder = record { role = blinder; turn = drops; takes = 0; sends = 0; gives = no-result; next = 0 }
 
 -- a first step with what it is handed: its input, the coins that it draws, its message if it takes one, and the definition that it runs.
 -- `scratch`: what the caller lends; of no account but to a blinder
