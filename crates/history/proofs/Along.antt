@@ -19,8 +19,9 @@ use Rattle.history.specs.Log.{Party, opposite, State, Call, dealing, beg
 use Rattle.history.specs.Claim.{Empty}
 use Rattle.history.specs.Contents.{servedWords, halfWords, placeWords}
 use Rattle.history.proofs.Words.{tape-number, tape-q, tape-m, tape-k, tape-p}
-use Rattle.history.proofs.Steps.{Begins, Continues, begins-sound, continues-sound}
-use Rattle.history.proofs.Facts.{untouched≢, same-server, same-name, one-half}
+use Rattle.history.proofs.Accepted.{Begins, Continues}
+use Rattle.history.proofs.Steps.{begins-sound, continues-sound}
+use Rattle.history.proofs.Facts.{untouched≢, same-server, same-some, one-half}
 use Rattle.history.proofs.Named.{unbegun}
 use Rattle.history.proofs.Kept.{Agrees, agrees-on, Home, Inv, ready-place, used-place, inside-start, stateAfter, Way, Move, move-keeps, deal-keeps}
 
@@ -45,11 +46,12 @@ module _ (size : Party → ℕ) (start : Party → List ℕ) (empty : Empty size
       agrees = record {
         is-begun = g .is-begun;
         role-is = g .role-is ∙ sym (p .own-half d none (found .1));
-        tape-is = ap (λ (t : Terms). t .tape .0) (g .terms-are) ∙ sym (g .half .tape-is) ∙ ap (λ (z : List ℕ). getD z tapeAt 0) words ∙ tape-number _ _ d _;
-        q-is = ap (λ (t : Terms). t .q) (g .terms-are) ∙ sym (g .half .q-is) ∙ ap (λ (z : List ℕ). getD z qAt 0) words ∙ tape-q _ _ d _;
-        m-is = ap (λ (t : Terms). t .m) (g .terms-are) ∙ sym (g .half .m-is) ∙ ap (λ (z : List ℕ). getD z mAt 0) words ∙ tape-m _ _ d _;
-        k-is = ap (λ (t : Terms). t .k) (g .terms-are) ∙ sym (g .half .k-is) ∙ ap (λ (z : List ℕ). getD z kAt 0) words ∙ tape-k _ _ d _;
-        p-is = ap (λ (t : Terms). t .p) (g .terms-are) ∙ sym (g .half .p-is) ∙ ap (λ (z : List ℕ). getD z pAt 0) words ∙ tape-p _ _ d _;
+        tape-is =
+            ap (λ (t : Terms). t .tape .0) (g .terms-are) ∙ sym (g .first .half .tape-is) ∙ ap (λ (z : List ℕ). getD z tapeAt 0) words ∙ tape-number _ _ d _;
+        q-is = ap (λ (t : Terms). t .q) (g .terms-are) ∙ sym (g .first .half .q-is) ∙ ap (λ (z : List ℕ). getD z qAt 0) words ∙ tape-q _ _ d _;
+        m-is = ap (λ (t : Terms). t .m) (g .terms-are) ∙ sym (g .first .half .m-is) ∙ ap (λ (z : List ℕ). getD z mAt 0) words ∙ tape-m _ _ d _;
+        k-is = ap (λ (t : Terms). t .k) (g .terms-are) ∙ sym (g .first .half .k-is) ∙ ap (λ (z : List ℕ). getD z kAt 0) words ∙ tape-k _ _ d _;
+        p-is = ap (λ (t : Terms). t .p) (g .terms-are) ∙ sym (g .first .half .p-is) ∙ ap (λ (z : List ℕ). getD z pAt 0) words ∙ tape-p _ _ d _;
       };
       way = Way.fresh t k refl refl new g;
       acted = acts;
@@ -59,10 +61,10 @@ module _ (size : Party → ℕ) (start : Party → List ℕ) (empty : Empty size
         g = begins-sound t k (slotOf size (st .pools) w i) (st .scratches b) f acts
 
         inside : isSlot (slotOf size start w i) ≡ true
-        inside = inside-start size start v w i (g .half .inside)
+        inside = inside-start size start v w i (g .first .half .inside)
 
         found : (d : Dealing) × (place l w i ≡ holds d none)
-        found = ready-place size start (st .sessions) w i (empty w i inside) (place l w i) (sym (ap statusOf (v .shown w i inside)) ∙ g .half .status-is)
+        found = ready-place size start (st .sessions) w i (empty w i inside) (place l w i) (sym (ap statusOf (v .shown w i inside)) ∙ g .first .half .status-is)
 
         d : Dealing
         d = found .0
@@ -115,7 +117,7 @@ module _ (size : Party → ℕ) (start : Party → List ℕ) (empty : Empty size
             (p .own-half (found .0) (some (found .1)) (found .2) ∙ sym (g .role-was) ∙ at-home .role-is)
             in
             let both-are : place l w i ≡ place l (hm .party) (hm .index) = ap₂ (place l) (same .0) (same .1) in
-            found .2 ∙ ap (λ (n : ℕ). holds (found .0) (some n)) (same-name (same-server (sym (found .2) ∙ both-are ∙ hm .stands)))
+            found .2 ∙ ap (λ (n : ℕ). holds (found .0) (some n)) (same-some (same-server (sym (found .2) ∙ both-are ∙ hm .stands)))
 
   -- The principle: what holds at the start and is kept by every dealing and by every move holds after every list of calls, with the invariant
   module _ (lent : ℕ → List ℕ) (P : State → List Entry → Type 0) (base : P (fresh start lent) [])

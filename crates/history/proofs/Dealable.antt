@@ -7,12 +7,11 @@ use mathlib.Core.Bool.{true}
 use mathlib.Core.List.{List}
 use mathlib.Core.Option.{some, none}
 use Prim.Native.Nat.{ℕ}
-use native.Mathlib.Omega.{arith}
 use Rattle.protocol.specs.Tape.{Slot, slotAt, isSlot, slotWords, statusOf, EMPTY, SPENT}
 use Rattle.protocol.specs.Deal.{Request, isFree}
 use Rattle.protocol.proofs.Dealing.{deal-step}
 use Rattle.history.specs.Ends.{Session}
-use Rattle.history.specs.Log.{Party, opposite, State, Call, World, slotOf, run, Place, untouched, holds, place, Premises}
+use Rattle.history.specs.Log.{Party, opposite, Call, World, slotOf, run, Place, untouched, holds, place, Premises}
 use Rattle.history.specs.Contents.{servedWords, placeWords}
 use Rattle.history.specs.Claim.{Empty}
 use Rattle.history.specs.Right.{DealtNow, HasServed, FairDealing}

@@ -1,7 +1,6 @@
 -- DEMAND 3, proved.
 --   place-never, place-last   places by the log alone
 --   made-by                   an entry of the log is a call of the list
---   step-ends                 which steps end a session
 --   demand-3                  the claim
 -- Assumes nothing.
 use mathlib.Core.Path.{_≡_, refl, sym, ap, _∙_, subst}
@@ -9,25 +8,21 @@ use mathlib.Core.Logic.{inl, inr, _↔_}
 use mathlib.Core.Bool.{true}
 use mathlib.Core.List.{List, [], _∷_, _++_}
 use mathlib.Core.Option.{none}
-use Prim.Native.Nat.{ℕ, _<_}
+use Prim.Native.Nat.{ℕ}
 use native.Mathlib.Omega.{arith}
 use native.Mathlib.Decide.{ℕ-discrete}
-use Rattle.protocol.specs.Judge.{Test, Judged, refused, done, judge}
+use Rattle.protocol.specs.Judge.{Judged, refused, done}
 use Rattle.protocol.specs.declared.Terms.{Terms}
-use Rattle.protocol.specs.Tape.{Slot, isSlot}
-use Rattle.protocol.specs.Product.{rightFirst, rightFirstEffect, leftStep, leftEffect, rightLast, rightLastEffect}
-use Rattle.protocol.specs.System.{solverFirst, solverFirstEffect, blinderFirst, blinderFirstEffect, solverSecond, solverSecondEffect, blinderSecond, blinderSecondEffect, solverLast, solverLastEffect, blinderLast, blinderLastEffect}
-use Rattle.protocol.specs.Drop.{dropRight, dropSolver, dropBlinder}
-use Rattle.protocol.proofs.Judge.{passed}
+use Rattle.protocol.specs.Tape.{isSlot}
 use Rattle.protocol.specs.Deal.{Dealt, deal}
 use Rattle.protocol.specs.Step.{Effect, Outcome}
-use Rattle.history.specs.Ends.{Session, leftEnd, rightEnd, solverEnd, blinderEnd, isBegun, dueIn, termsIn, roleIn, First, right-first, left-only, solver-first, blinder-first, Later, right-last, solver-second, solver-last, blinder-second, blinder-last, right-drop, solver-drop, blinder-drop, Step, begins, goes-on, ofAny, runFirst, runLater, runStep}
+use Rattle.history.specs.Ends.{Session, isBegun, dueIn, termsIn, roleIn, Step, begins, goes-on, runStep}
 use Rattle.history.specs.Log.{choose, Party, opposite, Call, dealing, beginning, continuing, Dealing, Did, Entry, dealt, did, World, begunIn, slotOf, advanceDealing, advanceStep, tryStep, advance, run, untouched, holds, serving, here, placeAfter, place, WasDealt, WasDone, Premises}
 use Rattle.history.specs.Contents.{placeWords}
 use Rattle.history.specs.Seen.{view}
-use Rattle.history.specs.Claim.{ServedBy, OnHalf, AllOnHalves, Never, serverAfter, server, current, EndsFirst, EndsLater, Ends, CallOf, EntryOf, DEMAND-3}
+use Rattle.history.specs.Claim.{ServedBy, OnHalf, AllOnHalves, Never, serverAfter, server, current, Ends, CallOf, EntryOf, DEMAND-3}
 use Rattle.history.proofs.Facts.{chosen-yes, chosen-no}
-use Rattle.history.proofs.Steps.{of-any}
+use Rattle.history.proofs.Steps.{step-ends}
 use Rattle.history.proofs.Kept.{Inv, inside-then, slotBy, Way, fresh, onward, Move}
 use Rattle.history.proofs.Along.{along, keeps}
 use Rattle.history.proofs.Named.{begun-named, begun-below}
@@ -142,40 +137,6 @@ module _ (size : Party → ℕ) (start : Party → List ℕ) (lent : ℕ → Lis
       go (onward k s u g) = subst (λ (k : Step). ServedBy e k (mv .server)) (sym s) u
 
 -- ---- ends
-
--- an accepted step leaves 0 due exactly where it is one of those that end a session
-ended : (d d′ : ℕ) → 0 < d → d ≡ d′ → _↔_ {0, 0} (d′ ≡ 0) ⊥
-ended d d′ h e = (λ z. omega (arith, z, e, h), λ z. absurd z)
-
-closed : (d′ : ℕ) → 0 ≡ d′ → _↔_ {0, 0} (d′ ≡ 0) Unit
-closed d′ e = (λ z. tt, λ z. sym e)
-
-due-after : {S : Type 0} (g : S → Session) (ts : List Test) (e₀ : Effect S) (f : Effect Session) → ofAny g (judge ts e₀) ≡ done f → dueIn (g (e₀ .session)) ≡ dueIn (f .session)
-due-after {S} g ts e₀ f h =
-    let a = of-any g _ h in
-    ap (λ (z : Effect S). dueIn (g (z .session))) (passed ts (a .1) .1) ∙ ap (λ (z : Effect Session). dueIn (z .session)) (a .2)
-
-first-ends : (t : Terms) (k : First) (s : Slot) (u : List ℕ) (f : Effect Session) → runFirst t k s u ≡ done f → (dueIn (f .session) ≡ 0) ↔ EndsFirst k
-unfolding runFirst rightFirst rightFirstEffect leftStep leftEffect solverFirst solverFirstEffect blinderFirst blinderFirstEffect
-first-ends t (right-first y room) s u f h = ended 2 (dueIn (f .session)) (omega arith) (due-after rightEnd _ _ f h)
-first-ends t (left-only x words m room shareRoom) s u f h = closed (dueIn (f .session)) (due-after (λ (z : Unit). leftEnd t) _ _ f h)
-first-ends t (solver-first l x room) s u f h = ended 2 (dueIn (f .session)) (omega arith) (due-after solverEnd _ _ f h)
-first-ends t (blinder-first mm y words m room) s u f h = ended 3 (dueIn (f .session)) (omega arith) (due-after blinderEnd _ _ f h)
-
-later-ends : (k : Later) (x : Session) (s : Slot) (u : List ℕ) (f : Effect Session) → runLater k x s u ≡ done f → (dueIn (f .session) ≡ 0) ↔ EndsLater k
-unfolding runLater rightLast rightLastEffect solverSecond solverSecondEffect solverLast solverLastEffect blinderSecond blinderSecondEffect blinderLast blinderLastEffect dropRight dropSolver dropBlinder
-later-ends (right-last m room) x s u f h = closed (dueIn (f .session)) (due-after rightEnd _ _ f h)
-later-ends (solver-second m room) x s u f h = ended 4 (dueIn (f .session)) (omega arith) (due-after solverEnd _ _ f h)
-later-ends (solver-last m room) x s u f h = closed (dueIn (f .session)) (due-after solverEnd _ _ f h)
-later-ends (blinder-second m room) x s u f h = ended 5 (dueIn (f .session)) (omega arith) (due-after blinderEnd _ _ f h)
-later-ends (blinder-last m room) x s u f h = closed (dueIn (f .session)) (due-after blinderEnd _ _ f h)
-later-ends right-drop x s u f h = closed (dueIn (f .session)) (due-after rightEnd _ _ f h)
-later-ends solver-drop x s u f h = closed (dueIn (f .session)) (due-after solverEnd _ _ f h)
-later-ends blinder-drop x s u f h = closed (dueIn (f .session)) (due-after blinderEnd _ _ f h)
-
-step-ends : (k : Step) (x : Session) (s : Slot) (u : List ℕ) (f : Effect Session) → runStep k x s u ≡ done f → (dueIn (f .session) ≡ 0) ↔ Ends k
-step-ends (begins t k) x s u f h = first-ends t k s u f h
-step-ends (goes-on k) x s u f h = later-ends k x s u f h
 
 -- of the newest step, and of those before it
 ends-more : (l : List Entry) (e : Did) → (dueIn (e .effect .session) ≡ 0) ↔ Ends (e .step) → ((x : Did) → WasDone x l → (dueIn (x .effect .session) ≡ 0) ↔ Ends (x .step))

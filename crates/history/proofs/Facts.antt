@@ -47,8 +47,8 @@ same-dealing e = cc
 pub same-server : {d d′ : Dealing} {o o′ : Option ℕ} → holds d o ≡ holds d′ o′ → o ≡ o′
 same-server e = cc
 
-pub same-name : {n n′ : ℕ} → some n ≡ some n′ → n ≡ n′
-same-name e = cc
+pub same-some : {A : Type 0} {a a′ : A} → some a ≡ some a′ → a ≡ a′
+same-some e = cc
 
 -- two parties with one role in one tape are one party
 first≢second : {A : Type 0} (sort : Sort) → firstRole sort ≡ secondRole sort → A

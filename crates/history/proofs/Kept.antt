@@ -26,8 +26,8 @@ use Rattle.history.specs.Ends.{Session, absent, isBegun, dueIn, termsIn,
 use Rattle.history.specs.Log.{choose, setAt, Party, party-eq, opposite, State, Dealing, Did, Entry, dealt, did, slotOf, afterDealing, afterStep, halfRole, Place, untouched, holds, serving, here, placeAfter, place, WasDealt, numberOf, Distinct, Stated}
 use Rattle.history.specs.Contents.{half, tapeOn, servedWords, halfWords, placeWords}
 use Rattle.history.proofs.Words.{length-pool, same-slot, other-slot, tail-stays, tape-status, length-tape, tape-marked, tape-spent}
-use Rattle.history.proofs.Steps.{leaveFirst, leaveLater, Begins, Continues}
-use Rattle.history.proofs.Facts.{chosen-yes, chosen-no, set-same, set-other, none≢, absent≢, same-dealing, same-server, same-name, elsewhere, begun-here, gone-on, place-known, one-half}
+use Rattle.history.proofs.Accepted.{leaveFirst, leaveLater, Begins, Continues}
+use Rattle.history.proofs.Facts.{chosen-yes, chosen-no, set-same, set-other, none≢, absent≢, same-dealing, same-server, same-some, elsewhere, begun-here, gone-on, place-known, one-half}
 use Rattle.history.proofs.Dealt.{Fine, dealt-fine, dealt-pools}
 
 -- ---- a session and its half
@@ -274,7 +274,7 @@ module _ (size : Party → ℕ) (start : Party → List ℕ) where
       where
         go : Way e (mv .server) → n ≡ e .name
         go (fresh t k s o a x) = none≢ (sym o ∙ h)
-        go (onward k s o c) = same-name (sym h ∙ o)
+        go (onward k s o c) = same-some (sym h ∙ o)
 
     -- the places after it
     pub place-now : place (did e ∷ l) (e .party) (e .index) ≡ holds d₀ (some (e .name))
@@ -352,7 +352,7 @@ module _ (size : Party → ℕ) (start : Party → List ℕ) where
             sym place-now ∙ subst₂ (λ (w : Party) (i : ℕ). place (did e ∷ l) (e .party) (e .index) ≡ place (did e ∷ l) w i) (p .0) (p .1) refl ∙ f
             in
             let x : e .effect .session ≡ stateAfter e .sessions n =
-            sym (set-same (e .name) (e .effect .session) (e .on .sessions)) ∙ ap (stateAfter e .sessions) (same-name (same-server same))
+            sym (set-same (e .name) (e .effect .session) (e .on .sessions)) ∙ ap (stateAfter e .sessions) (same-some (same-server same))
             in
             subst₃ (λ (x : Session) (w : Party) (d : Dealing). Agrees x w d) x (p .0) (same-dealing same) (mv .agrees)
         go (no h) =

@@ -1,42 +1,39 @@
--- What is known of a session's view at each stage, and that its first step makes it so. These look at one step, and at nothing of the log.
+-- What is known of a session's view at each stage. This looks at one session, and at nothing of the log.
 --   Known, arises               of every view; so it is one of those that protocol's counts are for
---   SeenBy                      the same with what the session itself keeps, while it is open
---   first-seen                  after a first step
+--   SeenBy, seen-known          the same with what the session itself keeps, while it is open
+--   Gave                        the result of a step, by the view after it
+--   first-known                 a view after a first step
 -- Assumes nothing.
-use mathlib.Core.Path.{_≡_, refl, sym, ap, _∙_, subst, subst₂}
+use mathlib.Core.Path.{_≡_, refl, sym, _∙_, subst, subst₂}
 use mathlib.Core.Bool.{true}
 use mathlib.Core.List.{List, [], _∷_}
-use Prim.Native.Nat.{ℕ, _+_, _*_, _≤_, _<_}
-use native.Mathlib.Omega.{arith}
+use Prim.Native.Nat.{ℕ, suc, _+_, _≤_, _<_}
 use lib.ListN.{length}
-use Rattle.algebra.specs.Matrix.{Residues}
+use Rattle.algebra.specs.Matrix.{Residues, matMul}
 use Rattle.algebra.specs.Count.{part, parts, total}
 use Rattle.algebra.specs.Elimination.{regular}
-use Rattle.algebra.proofs.Lists.{residues-none}
+use Rattle.algebra.specs.Product.{rightShare}
 use Rattle.algebra.proofs.Parts.{Fits}
 use Rattle.protocol.specs.declared.Terms.{Terms}
 use Rattle.protocol.specs.declared.RightSession.{RightSession}
 use Rattle.protocol.specs.declared.SolverSession.{SolverSession}
 use Rattle.protocol.specs.declared.BlinderSession.{BlinderSession}
-use Rattle.protocol.specs.Judge.{done}
-use Rattle.protocol.specs.Drawing.{residuesOf, drawn, wordsFor}
+use Rattle.protocol.specs.Drawing.{wordsFor}
+use Rattle.protocol.specs.Bounds.{columns}
 use Rattle.protocol.specs.Tape.{Slot, slotWords, Role, left, right, blinder, solver, sortOf, layout, matrices}
-use Rattle.protocol.specs.Message.{Message, messageSize}
+use Rattle.protocol.specs.Message.{messageLayout, messageSize}
 use Rattle.protocol.specs.Step.{Effect}
-use Rattle.protocol.specs.Product.{rightFirstEffect, leftEffect}
-use Rattle.protocol.specs.System.{padded, coinsOf, scratchSize, scratchParts, solverFirstEffect, blinderFirstEffect}
+use Rattle.protocol.specs.System.{padded}
 use Rattle.protocol.specs.View.{View, facing, coinLayout, kindsSent}
 use Rattle.protocol.specs.Completion.{messagesOf, blinderMessages, coinsFit, Taken}
-use Rattle.protocol.proofs.Residues.{residues-drawn}
-use Rattle.protocol.proofs.Tests.{TermsFit, draw-tests}
-use Rattle.protocol.proofs.StepTests as tests
+use Rattle.protocol.proofs.Tests.{TermsFit, MessageFits}
 use Rattle.protocol.proofs.CompletionLaws.{halfSlot, viewOf}
-use Rattle.protocol.proofs.CompletionInputs.{taken-by-right, taken-by-left, taken-by-solver, taken-by-blinder}
-use Rattle.protocol.proofs.Completion.{Messages, no-more, _before_, ahead, ownMask, Arises}
-use Rattle.history.specs.Ends.{Session, absent, leftEnd, rightEnd, solverEnd, blinderEnd, First, right-first, left-only, solver-first, blinder-first, roleFirst, asAny, runFirst}
-use Rattle.history.specs.Seen.{viewFirst}
-use Rattle.history.proofs.Steps.{of-any}
-use Rattle.history.proofs.Replay.{said-is, incoming-whole, y-sent, x-sent, y1-sent, x1-sent, right-sends, left-sends, solverOne, solverTwo, SolverBegan, solver-none, solver-first-is, blinderOne, BlinderBegan, blinder-one, blinder-first-is}
+use Rattle.protocol.proofs.Completion.{Messages, ahead, ownMask, Arises}
+use Rattle.history.specs.Ends.{Session, absent, leftEnd, rightEnd, solverEnd, blinderEnd, First, roleFirst, isBegun, termsIn, roleIn, Row, Result, no-result, left-share, right-share, solution}
+use Rattle.history.specs.Seen.{inputOf, coinsDrawn, takenFirst, heard, viewFirst}
+use Rattle.history.proofs.Accepted.{Begins}
+use Rattle.history.proofs.Replay.{said-is, solverOne, solverTwo, SolverBegan, blinderOne, BlinderBegan}
+use native.Mathlib.Omega.{arith}
 
 -- ---- every view
 
@@ -139,151 +136,72 @@ SeenBy (rightEnd x) v = RightSeen x v
 SeenBy (solverEnd x) v = SolverSeen x v
 SeenBy (blinderEnd x) v = BlinderSeen x v
 
+pub seen-known : (x : Session) (v : View) → SeenBy x v → isBegun x ≡ true → Known (roleIn x) (termsIn x) v
+seen-known absent v s b = absurd (let z : _≡_ {A = ℕ} 0 1 = cc in omega arith)
+seen-known (leftEnd t) v s b = s
+seen-known (rightEnd x) v s b = s .known
+seen-known (solverEnd x) v s b = s .known
+seen-known (blinderEnd x) v s b = s .known
+
+-- ---- what the session's last accepted step gave, in terms of its view
+
+-- the parts of a message's residues
+abbrev pub cut : ℕ → Terms → List ℕ → List (List ℕ)
+cut kind t a = parts (messageLayout kind (t .m) (t .k) (t .p)) a
+
+abbrev pub ShareOf : View → List ℕ → Terms → List ℕ → Type 0
+ShareOf v z t a = z ≡ rightShare (t .q) (t .m) (t .k) (t .p) (part 0 (cut 2 t a)) (part 0 (v .half)) (part 1 (cut 2 t a)) (part 1 (v .half))
+
+abbrev pub AnswerOf : View → List ℕ → Terms → List ℕ → Type 0
+AnswerOf v z t a = z ≡ matMul (t .q) (t .m) (t .m) (columns (t .m) (t .p)) (part 2 (v .half)) (part 0 (cut 5 t a))
+
+-- an end that is to give a result awaits a message
+abbrev pub Short : Role → View → Type 0
+Short left v = length (v .received) < 1
+Short right v = length (v .received) < 1
+Short blinder v = length (v .received) < 3
+Short solver v = Unit
+
+-- left's share is U; right's, and the blinder's solution, are made of the last message
+abbrev pub GaveBy : Result → Role → Terms → (result : List ℕ) → View → Type 0
+GaveBy no-result r t z v = (z ≡ []) × Short r v
+GaveBy left-share r t z v = (r ≡ left) × (z ≡ v .coins)
+GaveBy right-share r t z v = (r ≡ right) × (a : List ℕ) × (v .received ≡ a ∷ []) × ShareOf v z t a
+GaveBy solution r t z v = (r ≡ blinder) × (m1 : List ℕ) × (m3 : List ℕ) × (m5 : List ℕ) × (v .received ≡ m1 ∷ m3 ∷ m5 ∷ []) × AnswerOf v z t m5
+
+-- the step of this row gave it
+abbrev pub Gave : Row → Terms → (result : List ℕ) → View → Type 0
+Gave w t z v = GaveBy (w .gives) (w .role) t z v
+
 -- ---- first steps
 
-fits-now : (role : Role) (t : Terms) {ls ls′ : List (List ℕ)} → ls ≡ ls′ → Fits (t .q) (layout role (t .m) (t .k) (t .p)) ls → Fits (t .q) (layout role (t .m) (t .k) (t .p)) ls′
-fits-now role t e f = subst (λ (ls : List (List ℕ)). Fits (t .q) (layout role (t .m) (t .k) (t .p)) ls) e f
+own-mask : (r : Role) (t : Terms) (ls : List (List ℕ)) → (r ≡ blinder → regular (t .q) (t .m) (part 2 ls) ≡ true) → ownMask r t ls ≡ true
+own-mask left t ls h = refl
+own-mask right t ls h = refl
+own-mask solver t ls h = refl
+own-mask blinder t ls h = h refl
 
-coins-drawn : (t : Terms) (words : List ℕ) → 0 < t .q → scratchSize t ≤ length (residuesOf (t .q) words) → Residues (t .q) (scratchSize t) (coinsOf t words)
-unfolding coinsOf
-coins-drawn t words h e = residues-drawn (t .q) (scratchSize t) words h (draw-tests _ _ _ .1 e .all)
+module _ (t : Terms) (k : First) (s : Slot) (ls : List (List ℕ)) (e : matrices (roleFirst k) t (slotWords s) ≡ ls) where
+  pub half-now : {f : Effect Session} → Begins t k s f → Fits (t .q) (layout (roleFirst k) (t .m) (t .k) (t .p)) ls
+  half-now g = subst (λ (ls : List (List ℕ)). Fits (t .q) (layout (roleFirst k) (t .m) (t .k) (t .p)) ls) e (g .first .matrices-fit)
 
-right-first-seen : (t : Terms) (s : Slot) (y : List ℕ) (room : ℕ) (u : List ℕ) (f : Effect Session) (ls : List (List ℕ))
-    → runFirst t (right-first y room) s u ≡ done f → matrices right t (slotWords s) ≡ ls → SeenBy (f .session) (viewFirst t (right-first y room) ls f)
-unfolding runFirst rightFirstEffect
-right-first-seen t s y room u f ls h e =
-    let a = of-any rightEnd _ h in
-    let o = tests.right-first t s y room .means (a .1) in
-    let p = said-is (y-sent t s y (o .0 .first .terms)) in
-    subst (λ z. SeenBy (z .session) (viewFirst t (right-first y room) ls z)) (ap (asAny rightEnd) (o .1) ∙ a .2)
-    (record {
-      known = record {
-        role-is = refl;
-        terms-are = refl;
-        terms-fit = o .0 .first .terms;
-        half-fits = fits-now right t e (o .0 .first .matrices-fit);
-        mask-fits = refl;
-        input-taken = taken-by-right t s y room (a .1);
-        coins-residues = residues-none;
-        coins-fit = refl;
-        sent-is = p ∙ sym (right-sends t ls s y room (o .0) e []);
-        sent-fit = subst (Messages t (1 ∷ [])) (sym p) (y-sent t s y (o .0 .first .terms) .residues before no-more);
-        received-fit = no-more;
-        in-turn = omega arith;
-      };
-      one-sent = ap length p;
-      waits = λ z. refl;
-    })
-
-left-seen : (t : Terms) (s : Slot) (x words : List ℕ) (m : Message) (room shareRoom : ℕ) (u : List ℕ) (f : Effect Session) (ls : List (List ℕ))
-    → runFirst t (left-only x words m room shareRoom) s u ≡ done f → matrices left t (slotWords s) ≡ ls
-    → SeenBy (f .session) (viewFirst t (left-only x words m room shareRoom) ls f)
-unfolding runFirst leftEffect
-left-seen t s x words m room shareRoom u f ls h e =
-    let a = of-any (λ (z : Unit). leftEnd t) _ h in
-    let o = tests.left-step t s x words m room shareRoom .means (a .1) in
-    let p = said-is (x-sent t s x words m (o .0 .first .terms)) in
-    let coins : Residues (t .q) (t .m * t .p) (drawn (t .q) (t .m * t .p) words) =
-    residues-drawn (t .q) (t .m * t .p) words (omega (arith, o .0 .first .terms .big)) (draw-tests _ _ _ .1 (o .0 .enough) .all)
-    in
-    subst (λ z. SeenBy (z .session) (viewFirst t (left-only x words m room shareRoom) ls z)) (ap (asAny (λ (z : Unit). leftEnd t)) (o .1) ∙ a .2)
-    (record {
-      role-is = refl;
-      terms-are = refl;
-      terms-fit = o .0 .first .terms;
-      half-fits = fits-now left t e (o .0 .first .matrices-fit);
-      mask-fits = refl;
-      input-taken = taken-by-left t s x words m room shareRoom (a .1);
-      coins-residues = coins;
-      coins-fit = refl;
-      sent-is = p ∙ sym (left-sends t ls s x words m room shareRoom (o .0) e coins);
-      sent-fit = subst (Messages t (2 ∷ [])) (sym p) (x-sent t s x words m (o .0 .first .terms) .residues before no-more);
-      received-fit = o .0 .message .residues before no-more;
-      in-turn = omega arith;
-    })
-
-solver-first-seen : (t : Terms) (s : Slot) (l x : List ℕ) (room : ℕ) (u : List ℕ) (f : Effect Session) (ls : List (List ℕ))
-    → runFirst t (solver-first l x room) s u ≡ done f → matrices solver t (slotWords s) ≡ ls → SeenBy (f .session) (viewFirst t (solver-first l x room) ls f)
-unfolding runFirst solverFirstEffect
-solver-first-seen t s l x room u f ls h e =
-    let a = of-any solverEnd _ h in
-    let o = tests.solver-first t s l x room .means (a .1) in
-    let p = said-is (y1-sent t s l x (o .0 .first .terms)) in
-    let g : SolverBegan t ls l x = record {
-      terms = o .0 .first .terms;
-      fits = fits-now solver t e (o .0 .first .matrices-fit);
-      l-fits = o .0 .l-fits;
-      x-fits = o .0 .x-fits;
-      l-regular = o .0 .l-regular;
-    } in
-    subst (λ z. SeenBy (z .session) (viewFirst t (solver-first l x room) ls z)) (ap (asAny solverEnd) (o .1) ∙ a .2)
-    (record {
-      known = record {
-        role-is = refl;
-        terms-are = refl;
-        terms-fit = g .terms;
-        half-fits = g .fits;
-        mask-fits = refl;
-        input-taken = taken-by-solver t s l x room (a .1);
-        coins-residues = residues-none;
-        coins-fit = refl;
-        sent-is = p ∙ ap (λ (m : Message). m .residues ∷ []) (solver-first-is t ls l x g s e) ∙ sym (solver-none t ls l x g);
-        sent-fit = subst (Messages t (1 ∷ 3 ∷ 5 ∷ [])) (sym p) (y1-sent t s l x (g .terms) .residues before no-more);
-        received-fit = no-more;
-        in-turn = omega arith;
-      };
-      l = l;
-      x = x;
-      input-is = refl;
-      began = g;
-      stage = s-first refl refl;
-    })
-
-blinder-first-seen : (t : Terms) (s : Slot) (mm y words : List ℕ) (m : Message) (room : ℕ) (u : List ℕ) (f : Effect Session) (ls : List (List ℕ))
-    → runFirst t (blinder-first mm y words m room) s u ≡ done f → matrices blinder t (slotWords s) ≡ ls → regular (t .q) (t .m) (part 2 ls) ≡ true
-    → SeenBy (f .session) (viewFirst t (blinder-first mm y words m room) ls f)
-unfolding runFirst blinderFirstEffect scratchSize scratchParts
-blinder-first-seen t s mm y words m room u f ls h e rq =
-    let a = of-any blinderEnd _ h in
-    let o = tests.blinder-first t s (length u) mm y words m room .means (a .1) in
-    let p = said-is (x1-sent t s mm y words m (o .0 .first .terms)) in
-    let g : BlinderBegan t ls mm y (coinsOf t words) = record {
-      terms = o .0 .first .terms;
-      fits = fits-now blinder t e (o .0 .first .matrices-fit);
-      m-fits = o .0 .m-fits;
-      y-fits = o .0 .y-fits;
-      m-regular = o .0 .m-regular;
-      coins-fit = coins-drawn t words (omega (arith, o .0 .first .terms .big)) (o .0 .enough);
-      p-regular = o .0 .p-regular;
-    } in
-    let rm = o .0 .message .residues in
-    subst (λ z. SeenBy (z .session) (viewFirst t (blinder-first mm y words m room) ls z)) (ap (asAny blinderEnd) (o .1) ∙ a .2)
-    (record {
-      known = record {
-        role-is = refl;
-        terms-are = refl;
-        terms-fit = g .terms;
-        half-fits = g .fits;
-        mask-fits = rq;
-        input-taken = taken-by-blinder t s (length u) mm y words m room (a .1);
-        coins-residues = g .coins-fit;
-        coins-fit = g .p-regular;
-        sent-is = p ∙ ap (λ (b : Message). b .residues ∷ []) (blinder-first-is t ls mm y (coinsOf t words) g (m .residues) rm s words m (incoming-whole (o .0 .message)) e refl)
-            ∙ sym (blinder-one t ls mm y (coinsOf t words) g (m .residues) rm);
-        sent-fit = subst (Messages t (2 ∷ 4 ∷ [])) (sym p) (x1-sent t s mm y words m (g .terms) .residues before no-more);
-        received-fit = rm before no-more;
-        in-turn = omega arith;
-      };
-      mm = mm;
-      y = y;
-      input-is = refl;
-      began = g;
-      stage = b-first (m .residues) rm refl refl;
-    })
-
-pub first-seen : (t : Terms) (k : First) (s : Slot) (u : List ℕ) (f : Effect Session) (ls : List (List ℕ)) → runFirst t k s u ≡ done f → matrices (roleFirst k) t (slotWords s) ≡ ls
-    → (roleFirst k ≡ blinder → regular (t .q) (t .m) (part 2 ls) ≡ true) → SeenBy (f .session) (viewFirst t k ls f)
-first-seen t (right-first y room) s u f ls h e rq = right-first-seen t s y room u f ls h e
-first-seen t (left-only x words m room shareRoom) s u f ls h e rq = left-seen t s x words m room shareRoom u f ls h e
-first-seen t (solver-first l x room) s u f ls h e rq = solver-first-seen t s l x room u f ls h e
-first-seen t (blinder-first mm y words m room) s u f ls h e rq = blinder-first-seen t s mm y words m room u f ls h e (rq refl)
+  -- by the one message that it sent, and the one that it took if there is one
+  pub first-known : {f : Effect Session} {kind : ℕ} → Begins t k s f → (roleFirst k ≡ blinder → regular (t .q) (t .m) (part 2 ls) ≡ true)
+      → MessageFits (suc kind) t (f .sent)
+      → f .sent .residues ∷ [] ≡ messagesOf (roleFirst k) t (halfSlot (roleFirst k) t ls) (coinsDrawn t k) (inputOf k) (heard (f .answer) (takenFirst k))
+      → Messages t (kindsSent (roleFirst k)) (f .sent .residues ∷ []) → Messages t (kindsSent (facing (roleFirst k))) (heard (f .answer) (takenFirst k))
+      → length (heard (f .answer) (takenFirst k)) ≤ 1 + ahead (roleFirst k) → Known (roleFirst k) t (viewFirst t k ls f)
+  first-known {f} g rq m is ms mg l = record {
+    role-is = refl;
+    terms-are = refl;
+    terms-fit = g .first .terms;
+    half-fits = half-now g;
+    mask-fits = own-mask (roleFirst k) t ls rq;
+    input-taken = g .input-taken;
+    coins-residues = g .drew;
+    coins-fit = g .coins-fit;
+    sent-is = said-is m ∙ is;
+    sent-fit = subst (Messages t (kindsSent (roleFirst k))) (sym (said-is m)) ms;
+    received-fit = mg;
+    in-turn = subst (λ (z : List (List ℕ)). length (heard (f .answer) (takenFirst k)) ≤ length z + ahead (roleFirst k)) (sym (said-is m)) l;
+  }

@@ -1,10 +1,11 @@
--- What is known of a session's view after a later step or a drop.
---   later-seen
+-- What is known of a session's view after a later step or a drop, by what its own end's definition leaves.
+--   shut, drop-view                      a drop: the view stays
+--   f-stage, t-stage, w-stage, z-stage   the later steps of a system, by what each is to give: F, t, W, z
 -- Assumes nothing.
 use mathlib.Core.Path.{_≡_, refl, sym, ap, ap₂, _∙_, subst}
 use mathlib.Core.Bool.{Bool, true, false}
 use mathlib.Core.List.{List, [], _∷_, _++_, append-nil}
-use Prim.Native.Nat.{ℕ}
+use Prim.Native.Nat.{ℕ, _<_}
 use native.Mathlib.Omega.{arith}
 use lib.ListN.{length}
 use Rattle.algebra.specs.Matrix.{Residues}
@@ -15,52 +16,74 @@ use Rattle.protocol.specs.declared.BlinderSession.{BlinderSession}
 use Rattle.protocol.specs.declared.Answer.{Answer}
 use Rattle.protocol.specs.declared.Answer.the-variants.{Accepted, Refused}
 use Rattle.protocol.specs.declared.Refusal.the-variants.{Singular}
-use Rattle.protocol.specs.Judge.{done}
 use Rattle.protocol.specs.Drawing.{wordsFor}
 use Rattle.protocol.specs.Bounds.{allBelow}
 use Rattle.protocol.specs.Tape.{Slot, slotWords, blinder, solver, matrices}
 use Rattle.protocol.specs.Message.{Message, noMessage, messageSize}
-use Rattle.protocol.specs.Step.{Effect}
-use Rattle.protocol.specs.Product.{rightLastEffect}
-use Rattle.protocol.specs.System.{keptS, keptM, keptY, jointSum, scratchParts, solverFirstEffect, solverSecondEffect, solverLastEffect, blinderFirstEffect, blinderSecondEffect, blinderLastEffect}
+use Rattle.protocol.specs.Product.{closedRight}
+use Rattle.protocol.specs.System.{closedSolver, closedBlinder, keptS, keptM, keptY, jointSum, scratchParts, solverFirstEffect, solverSecondEffect, solverLastEffect, blinderFirstEffect, blinderSecondEffect}
 use Rattle.protocol.specs.View.{View}
 use Rattle.protocol.specs.Completion.{said, rightMessages, solverMessages, blinderMessages}
 use Rattle.protocol.proofs.Tests.{MessageFits}
 use Rattle.protocol.proofs.StepTests as tests
 use Rattle.protocol.proofs.CompletionLaws.{halfSlot}
 use Rattle.protocol.proofs.Completion.{no-more, _before_}
-use Rattle.history.specs.Ends.{Session, rightEnd, solverEnd, blinderEnd, termsIn, roleIn, asRight, asSolver, asBlinder, Later, right-last, solver-second, solver-last, blinder-second, blinder-last, right-drop, solver-drop, blinder-drop, asAny, runLater}
-use Rattle.history.specs.Seen.{heard, viewLater}
-use Rattle.history.proofs.Steps.{of-any, is-right, is-solver, is-blinder}
-use Rattle.history.proofs.Replay.{said-is, incoming-whole, f-sent, w-sent, t-sent, y1-sent, x1-sent, solverOne, solverTwo, solverThree, solver-none, solver-one, solver-two, solver-second-is, solver-last-is, blinderOne, blinderTwo, blinder-one, blinder-two, blinder-second-is}
-use Rattle.history.proofs.Known.{Known, viewWith, known-with, known-still, RightSeen, SolverStage, s-first, s-second, s-over, SolverSeen, BlinderStage, b-first, b-second, b-over, BlinderSeen, SeenBy}
+use Rattle.history.specs.Ends.{Session, absent, leftEnd, rightEnd, solverEnd, blinderEnd, dueIn, termsIn, roleIn, no-result}
+use Rattle.history.specs.Seen.{heard}
+use Rattle.history.proofs.Replay.{said-is, incoming-whole, f-sent, w-sent, t-sent, y1-sent, x1-sent, solverOne, solverTwo, solverThree, solver-none, solver-one, solver-two, f-is, t-is, blinderOne, blinderTwo, blinder-one, blinder-two, w-is}
+use Rattle.history.proofs.Known.{Known, viewWith, known-with, known-still, SolverStage, s-first, s-second, s-over, SolverSeen, BlinderStage, b-first, b-second, b-over, BlinderSeen, SeenBy, Short, GaveBy}
 
-quiet : (l : List (List ℕ)) → l ++ said noMessage ≡ l
+pub quiet : (l : List (List ℕ)) → l ++ said noMessage ≡ l
 unfolding said
 quiet l = append-nil l
 
+-- ---- drops: the view stays, and the session closes
+
+abbrev pub shut : Session → Session
+shut absent = absent
+shut (leftEnd t) = leftEnd t
+shut (rightEnd x) = rightEnd (closedRight x)
+shut (solverEnd x) = solverEnd (closedSolver x)
+shut (blinderEnd x) = blinderEnd (closedBlinder x)
+
+pub closed-solver : {y : SolverSession} {v : View} {sent got : List (List ℕ)} → SolverSeen y v → Known solver (y .terms) (viewWith v sent got)
+    → SolverSeen (closedSolver y) (viewWith v sent got)
+closed-solver seen k = record { known = k; l = seen .l; x = seen .x; input-is = seen .input-is; began = seen .began; stage = s-over refl }
+
+pub closed-blinder : {z : BlinderSession} {v : View} {sent got : List (List ℕ)} → BlinderSeen z v → Known blinder (z .terms) (viewWith v sent got)
+    → BlinderSeen (closedBlinder z) (viewWith v sent got)
+closed-blinder seen k = record { known = k; mm = seen .mm; y = seen .y; input-is = seen .input-is; began = seen .began; stage = b-over refl }
+
+-- an open blinder awaits a message
+pub open-short : {t : Terms} {half : List (List ℕ)} {mm y coins : List ℕ} (z : BlinderSession) {got : List (List ℕ)} → BlinderStage t half mm y coins z got
+    → 0 < z .due → length got < 3
+open-short z (b-first a ra p q) o = omega (arith, ap length p)
+open-short z (b-second a b b2 b4 ra rb p d kept two) o = omega (arith, ap length p)
+open-short z (b-over d) o = absurd (omega (arith, o, d))
+
+shut-seen : (x : Session) (v : View) {sent got : List (List ℕ)} → SeenBy x v → 0 < dueIn x → sent ≡ v .sent → got ≡ v .received
+    → SeenBy (shut x) (viewWith v sent got) × Short (roleIn x) (viewWith v sent got)
+shut-seen absent v seen o es eg = absurd (omega (arith, o))
+shut-seen (leftEnd t) v seen o es eg = absurd (omega (arith, o))
+shut-seen (rightEnd x) v seen o es eg = (
+  record { known = known-still (seen .known) es eg; one-sent = ap length es ∙ seen .one-sent; waits = λ z. absurd (omega (arith, z)) },
+  omega (arith, ap length (eg ∙ seen .waits o)),
+)
+shut-seen (solverEnd x) v seen o es eg = (closed-solver seen (known-still (seen .known) es eg), tt)
+shut-seen (blinderEnd x) v seen o es eg = (
+  closed-blinder seen (known-still (seen .known) es eg),
+  omega (arith, ap length eg, open-short x (seen .stage) o),
+)
+
+pub drop-view : (x : Session) (v : View) → SeenBy x v → 0 < dueIn x
+    → let w = viewWith v (v .sent ++ said noMessage) (v .received ++ []) in SeenBy (shut x) w × GaveBy no-result (roleIn x) (termsIn x) [] w
+drop-view x v seen o = let d = shut-seen x v seen o (quiet (v .sent)) (append-nil (v .received)) in (d .0, (refl, d .1))
+
 -- ---- right
 
-right-any : (t : Terms) (s : Slot) (i got got′ : List (List ℕ)) → rightMessages t s i got ≡ rightMessages t s i got′
+pub right-any : (t : Terms) (s : Slot) (i got got′ : List (List ℕ)) → rightMessages t s i got ≡ rightMessages t s i got′
 unfolding rightMessages
 right-any t s i got got′ = refl
-
-right-last-seen : (m : Message) (room : ℕ) (x : Session) (v : View) (s : Slot) (u : List ℕ) (f : Effect Session) → SeenBy x v → runLater (right-last m room) x s u ≡ done f
-    → SeenBy (f .session) (viewLater v (right-last m room) f)
-unfolding runLater rightLastEffect
-right-last-seen m room x v s u f sn h =
-    let a = of-any rightEnd _ h in
-    let y = asRight x in
-    let o = tests.right-last y s m room .means (a .1) in
-    let w = o .0 .later .session-open .is-open in
-    let seen : RightSeen y v = subst (λ z. SeenBy z v) (sym (is-right x w)) sn in
-    subst (λ z. SeenBy (z .session) (viewLater v (right-last m room) z)) (ap (asAny rightEnd) (o .1) ∙ a .2)
-    (record {
-      known = known-with (seen .known) (v .sent) (m .residues ∷ []) (quiet (v .sent)) (ap (λ (z : List (List ℕ)). z ++ (m .residues ∷ [])) (seen .waits w))
-          (seen .known .sent-is ∙ right-any _ _ _ _ _) (seen .known .sent-fit) (o .0 .message .residues before no-more) (omega (arith, seen .one-sent));
-      one-sent = ap length (quiet (v .sent)) ∙ seen .one-sent;
-      waits = λ z. absurd (omega (arith, z));
-    })
 
 -- ---- the solver
 
@@ -70,18 +93,19 @@ module _ {v : View} {t : Terms} {l x : List ℕ} (k : Known solver t v) (is : v 
   solver-sent e = k .sent-is ∙ ap₂ (λ (i g : List (List ℕ)). solverMessages t (halfSlot solver t (v .half)) i g) is e
 
 -- after its second step, by the stage before it
-solver-second-stage : (y : SolverSession) (v : View) (s : Slot) (m : Message) (room : ℕ) (seen : SolverSeen y v) → tests.SolverFits 2 y s m (messageSize 3 (y .terms)) room
+pub f-stage : (y : SolverSession) (v : View) (s : Slot) (m : Message) (room : ℕ) (seen : SolverSeen y v)
+    → tests.SolverFits 2 y s m (messageSize 3 (y .terms)) room
     → matrices solver (y .terms) (slotWords s) ≡ v .half → SolverStage (y .terms) (v .half) (seen .l) (seen .x) y (v .received)
-    → SolverSeen (solverSecondEffect y s m .session) (viewLater v (solver-second m room) (asAny solverEnd (solverSecondEffect y s m)))
+    → SolverSeen (solverSecondEffect y s m .session) (viewWith v (v .sent ++ said (solverSecondEffect y s m .sent)) (v .received ++ (m .residues ∷ [])))
 unfolding solverSecondEffect
-solver-second-stage y v s m room seen o e (s-first p q) =
+f-stage y v s m room seen o e (s-first p q) =
     let t = y .terms in
     let l = seen .l in
     let x = seen .x in
     let g = seen .began in
     let rm = o .message .residues in
     let own = f-sent y s m (g .terms) in
-    let is = solver-second-is t (v .half) l x g (m .residues) rm s m (incoming-whole (o .message)) e in
+    let is = f-is t (v .half) l x g (m .residues) rm s m (incoming-whole (o .message)) e in
     let now : solverSecondEffect y s m .sent ≡ solverTwo t (v .half) l x (m .residues) .sent = ap (λ (z : SolverSession). solverSecondEffect z s m .sent) q ∙ is .0 in
     let got : v .received ++ (m .residues ∷ []) ≡ m .residues ∷ [] = ap (λ (z : List (List ℕ)). z ++ (m .residues ∷ [])) p in
     record {
@@ -97,20 +121,8 @@ solver-second-stage y v s m room seen o e (s-first p q) =
       began = g;
       stage = s-second (m .residues) rm got (ap (λ (z : SolverSession). solverSecondEffect z s m .session) q ∙ is .1);
     }
-solver-second-stage y v s m room seen o e (s-second a ra p q) = absurd (omega (arith, o .later .due-is, ap (λ (z : SolverSession). z .due) q))
-solver-second-stage y v s m room seen o e (s-over d) = absurd (omega (arith, o .later .due-is, d))
-
-solver-second-seen : (m : Message) (room : ℕ) (x : Session) (v : View) (s : Slot) (u : List ℕ) (f : Effect Session) → SeenBy x v → runLater (solver-second m room) x s u ≡ done f
-    → matrices (roleIn x) (termsIn x) (slotWords s) ≡ v .half → SeenBy (f .session) (viewLater v (solver-second m room) f)
-unfolding runLater
-solver-second-seen m room x v s u f sn h hm =
-    let a = of-any solverEnd _ h in
-    let y = asSolver x in
-    let o = tests.solver-second y s m room .means (a .1) in
-    let w = o .0 .later .session-open .is-open in
-    let seen : SolverSeen y v = subst (λ z. SeenBy z v) (sym (is-solver x w)) sn in
-    let e : matrices solver (y .terms) (slotWords s) ≡ v .half = subst (λ z. matrices (roleIn z) (termsIn z) (slotWords s) ≡ v .half) (sym (is-solver x w)) hm in
-    subst (λ z. SeenBy (z .session) (viewLater v (solver-second m room) z)) (ap (asAny solverEnd) (o .1) ∙ a .2) (solver-second-stage y v s m room seen (o .0) e (seen .stage))
+f-stage y v s m room seen o e (s-second a ra p q) = absurd (omega (arith, o .later .due-is, ap (λ (z : SolverSession). z .due) q))
+f-stage y v s m room seen o e (s-over d) = absurd (omega (arith, o .later .due-is, d))
 
 -- its last step accepts message 4, or refuses it by 10 and closes the session
 module _ (y : SolverSession) (s : Slot) (m : Message) where
@@ -122,13 +134,14 @@ module _ (y : SolverSession) (s : Slot) (m : Message) where
   unfolding solverLastEffect
   refuses r = (rw r, rw r)
 
-solver-last-stage : (y : SolverSession) (v : View) (s : Slot) (m : Message) (room : ℕ) (seen : SolverSeen y v) → tests.SolverFits 4 y s m (messageSize 5 (y .terms)) room
+pub t-stage : (y : SolverSession) (v : View) (s : Slot) (m : Message) (room : ℕ) (seen : SolverSeen y v)
+    → tests.SolverFits 4 y s m (messageSize 5 (y .terms)) room
     → matrices solver (y .terms) (slotWords s) ≡ v .half → (b : Bool) → regular (y .terms .q) (y .terms .m) (jointSum y s m) ≡ b
     → SolverStage (y .terms) (v .half) (seen .l) (seen .x) y (v .received)
-    → Known solver (y .terms) (viewLater v (solver-last m room) (asAny solverEnd (solverLastEffect y s m)))
+    → Known solver (y .terms) (viewWith v (v .sent ++ said (solverLastEffect y s m .sent)) (v .received ++ heard (solverLastEffect y s m .answer) (m ∷ [])))
 unfolding solverFirstEffect solverSecondEffect
-solver-last-stage y v s m room seen o e b r (s-first p q) = absurd (omega (arith, o .later .due-is, ap (λ (z : SolverSession). z .due) q))
-solver-last-stage y v s m room seen o e true r (s-second a ra p q) =
+t-stage y v s m room seen o e b r (s-first p q) = absurd (omega (arith, o .later .due-is, ap (λ (z : SolverSession). z .due) q))
+t-stage y v s m room seen o e true r (s-second a ra p q) =
     let t = y .terms in
     let l = seen .l in
     let x = seen .x in
@@ -136,7 +149,7 @@ solver-last-stage y v s m room seen o e true r (s-second a ra p q) =
     let rm = o .message .residues in
     let own = t-sent y s m (g .terms) r in
     let below = subst (λ (z : SolverSession). allBelow (t .q) (keptS z) ≡ true) q (o .s-below) in
-    let is = solver-last-is t (v .half) l x g a ra (m .residues) rm below s m (incoming-whole (o .message)) e in
+    let is = t-is t (v .half) l x g a ra (m .residues) rm below s m (incoming-whole (o .message)) e in
     let now : solverLastEffect y s m .sent ≡ solverThree t (v .half) l x a (m .residues) .sent = ap (λ (z : SolverSession). solverLastEffect z s m .sent) q ∙ is .0 in
     let own′ : MessageFits 5 t (solverThree t (v .half) l x a (m .residues) .sent) = subst (MessageFits 5 t) now own in
     known-with (seen .known)
@@ -146,30 +159,10 @@ solver-last-stage y v s m room seen o e true r (s-second a ra p q) =
     (sym (solver-two t (v .half) l x g a ra (m .residues) rm below own′) ∙ ap (λ (i : List (List ℕ)). solverMessages t (halfSlot solver t (v .half)) i (a ∷ m .residues ∷ [])) (sym (seen .input-is)))
     (y1-sent t _ l x (g .terms) .residues before f-sent (solverOne t (v .half) l x .session) _ _ (g .terms) .residues before own′ .residues before no-more)
     (ra before rm before no-more) (omega arith)
-solver-last-stage y v s m room seen o e false r (s-second a ra p q) =
+t-stage y v s m room seen o e false r (s-second a ra p q) =
     let n = refuses y s m r in
     known-still (seen .known) (ap (λ (b : Message). v .sent ++ said b) (n .1) ∙ quiet (v .sent)) (ap (λ (b : Answer). v .received ++ heard b (m ∷ [])) (n .0) ∙ append-nil (v .received))
-solver-last-stage y v s m room seen o e b r (s-over d) = absurd (omega (arith, o .later .due-is, d))
-
-solver-last-seen : (m : Message) (room : ℕ) (x : Session) (v : View) (s : Slot) (u : List ℕ) (f : Effect Session) → SeenBy x v → runLater (solver-last m room) x s u ≡ done f
-    → matrices (roleIn x) (termsIn x) (slotWords s) ≡ v .half → SeenBy (f .session) (viewLater v (solver-last m room) f)
-unfolding runLater solverLastEffect
-solver-last-seen m room x v s u f sn h hm =
-    let a = of-any solverEnd _ h in
-    let y = asSolver x in
-    let o = tests.solver-last y s m room .means (a .1) in
-    let w = o .0 .later .session-open .is-open in
-    let seen : SolverSeen y v = subst (λ z. SeenBy z v) (sym (is-solver x w)) sn in
-    let e : matrices solver (y .terms) (slotWords s) ≡ v .half = subst (λ z. matrices (roleIn z) (termsIn z) (slotWords s) ≡ v .half) (sym (is-solver x w)) hm in
-    subst (λ z. SeenBy (z .session) (viewLater v (solver-last m room) z)) (ap (asAny solverEnd) (o .1) ∙ a .2)
-    (record {
-      known = solver-last-stage y v s m room seen (o .0) e _ refl (seen .stage);
-      l = seen .l;
-      x = seen .x;
-      input-is = seen .input-is;
-      began = seen .began;
-      stage = s-over refl;
-    })
+t-stage y v s m room seen o e b r (s-over d) = absurd (omega (arith, o .later .due-is, d))
 
 -- ---- the blinder
 
@@ -181,12 +174,12 @@ module _ {v : View} {t : Terms} {mm y : List ℕ} (k : Known blinder t v) (is : 
       ≡ blinderMessages t (halfSlot blinder t (v .half)) (v .input) got (wordsFor (t .q) (v .coins))
   input-back got = ap (λ (i : List (List ℕ)). blinderMessages t (halfSlot blinder t (v .half)) i got (wordsFor (t .q) (v .coins))) (sym is)
 
-blinder-second-stage : (z : BlinderSession) (v : View) (s : Slot) (u : List ℕ) (m : Message) (room : ℕ) (seen : BlinderSeen z v)
+pub w-stage : (z : BlinderSession) (v : View) (s : Slot) (u : List ℕ) (m : Message) (room : ℕ) (seen : BlinderSeen z v)
     → tests.BlinderFits 3 z s u m (messageSize 4 (z .terms)) room → matrices blinder (z .terms) (slotWords s) ≡ v .half
     → scratchParts (z .terms) u ≡ scratchParts (z .terms) (v .coins) → BlinderStage (z .terms) (v .half) (seen .mm) (seen .y) (v .coins) z (v .received)
-    → BlinderSeen (blinderSecondEffect z s u m .session) (viewLater v (blinder-second m room) (asAny blinderEnd (blinderSecondEffect z s u m)))
+    → BlinderSeen (blinderSecondEffect z s u m .session) (viewWith v (v .sent ++ said (blinderSecondEffect z s u m .sent)) (v .received ++ (m .residues ∷ [])))
 unfolding blinderFirstEffect blinderSecondEffect
-blinder-second-stage z v s u m room seen o e c (b-first a ra p q) =
+w-stage z v s u m room seen o e c (b-first a ra p q) =
     let t = z .terms in
     let mm = seen .mm in
     let y = seen .y in
@@ -196,7 +189,8 @@ blinder-second-stage z v s u m room seen o e c (b-first a ra p q) =
     let mb = subst (λ (z : BlinderSession). allBelow (t .q) (keptM z) ≡ true) q (o .m-below) in
     let yb = subst (λ (z : BlinderSession). allBelow (t .q) (keptY z) ≡ true) q (o .y-below) in
     let now : blinderSecondEffect z s u m .sent ≡ blinderTwo t (v .half) mm y (v .coins) a (m .residues) .sent =
-    ap (λ (z : BlinderSession). blinderSecondEffect z s u m .sent) q ∙ blinder-second-is t (v .half) mm y (v .coins) g a ra (m .residues) rm mb yb s u m (incoming-whole (o .message)) e c
+    ap (λ (z : BlinderSession). blinderSecondEffect z s u m .sent) q ∙ w-is t (v .half) mm y (v .coins) g a ra (m .residues) rm mb yb s u m
+    (incoming-whole (o .message)) e c
     in
     let two = blinder-two t (v .half) mm y (v .coins) g a ra (m .residues) rm mb yb in
     let got : v .received ++ (m .residues ∷ []) ≡ a ∷ m .residues ∷ [] = ap (λ (z : List (List ℕ)). z ++ (m .residues ∷ [])) p in
@@ -212,110 +206,20 @@ blinder-second-stage z v s u m room seen o e c (b-first a ra p q) =
       began = g;
       stage = b-second a (m .residues) _ _ ra rm got refl (ap (λ (z : BlinderSession). z .mm) q, ap (λ (z : BlinderSession). z .y) q) two;
     }
-blinder-second-stage z v s u m room seen o e c (b-second a b b2 b4 ra rb p d kept two) = absurd (omega (arith, o .later .due-is, d))
-blinder-second-stage z v s u m room seen o e c (b-over d) = absurd (omega (arith, o .later .due-is, d))
+w-stage z v s u m room seen o e c (b-second a b b2 b4 ra rb p d kept two) = absurd (omega (arith, o .later .due-is, d))
+w-stage z v s u m room seen o e c (b-over d) = absurd (omega (arith, o .later .due-is, d))
 
-blinder-second-seen : (m : Message) (room : ℕ) (x : Session) (v : View) (s : Slot) (u : List ℕ) (f : Effect Session) → SeenBy x v → runLater (blinder-second m room) x s u ≡ done f
-    → matrices (roleIn x) (termsIn x) (slotWords s) ≡ v .half → (roleIn x ≡ blinder → scratchParts (termsIn x) u ≡ scratchParts (termsIn x) (v .coins))
-    → SeenBy (f .session) (viewLater v (blinder-second m room) f)
-unfolding runLater
-blinder-second-seen m room x v s u f sn h hm hu =
-    let a = of-any blinderEnd _ h in
-    let z = asBlinder x in
-    let o = tests.blinder-second z s u m room .means (a .1) in
-    let i = is-blinder x (o .0 .later .session-open .is-open) in
-    let seen : BlinderSeen z v = subst (λ z. SeenBy z v) (sym i) sn in
-    let e : matrices blinder (z .terms) (slotWords s) ≡ v .half = subst (λ z. matrices (roleIn z) (termsIn z) (slotWords s) ≡ v .half) (sym i) hm in
-    let c : scratchParts (z .terms) u ≡ scratchParts (z .terms) (v .coins) = subst (λ z. roleIn z ≡ blinder → scratchParts (termsIn z) u ≡ scratchParts (termsIn z) (v .coins)) (sym i) hu refl in
-    subst (λ z. SeenBy (z .session) (viewLater v (blinder-second m room) z)) (ap (asAny blinderEnd) (o .1) ∙ a .2) (blinder-second-stage z v s u m room seen (o .0) e c (seen .stage))
-
-blinder-last-stage : (z : BlinderSession) (v : View) (m : Message) (seen : BlinderSeen z v) → z .due ≡ 5 → MessageFits 5 (z .terms) m
-    → BlinderStage (z .terms) (v .half) (seen .mm) (seen .y) (v .coins) z (v .received) → Known blinder (z .terms) (viewWith v (v .sent) (v .received ++ (m .residues ∷ [])))
+pub z-stage : (z : BlinderSession) (v : View) (m : Message) (seen : BlinderSeen z v) → z .due ≡ 5 → MessageFits 5 (z .terms) m
+    → BlinderStage (z .terms) (v .half) (seen .mm) (seen .y) (v .coins) z (v .received)
+    → (a : List ℕ) × (b : List ℕ) × (v .received ≡ a ∷ b ∷ []) × Known blinder (z .terms) (viewWith v (v .sent) (v .received ++ (m .residues ∷ [])))
 unfolding blinderFirstEffect
-blinder-last-stage z v m seen w f (b-first a ra p q) = absurd (omega (arith, w, ap (λ (z : BlinderSession). z .due) q))
-blinder-last-stage z v m seen w f (b-second a b b2 b4 ra rb p d kept two) =
+z-stage z v m seen w f (b-first a ra p q) = absurd (omega (arith, w, ap (λ (z : BlinderSession). z .due) q))
+z-stage z v m seen w f (b-second a b b2 b4 ra rb p d kept two) =
     let k = seen .known in
     let all = blinder-sent k (seen .input-is) p ∙ two [] in
-    known-with k (v .sent) (a ∷ b ∷ m .residues ∷ []) refl (ap (λ (z : List (List ℕ)). z ++ (m .residues ∷ [])) p)
+    let known = known-with k (v .sent) (a ∷ b ∷ m .residues ∷ []) refl (ap (λ (z : List (List ℕ)). z ++ (m .residues ∷ [])) p)
     (all ∙ sym (two (m .residues ∷ [])) ∙ input-back k (seen .input-is) (a ∷ b ∷ m .residues ∷ [])) (k .sent-fit) (ra before rb before f .residues before no-more)
     (omega (arith, ap length all))
-blinder-last-stage z v m seen w f (b-over d) = absurd (omega (arith, w, d))
-
-blinder-last-seen : (m : Message) (room : ℕ) (x : Session) (v : View) (s : Slot) (u : List ℕ) (f : Effect Session) → SeenBy x v → runLater (blinder-last m room) x s u ≡ done f
-    → SeenBy (f .session) (viewLater v (blinder-last m room) f)
-unfolding runLater blinderLastEffect
-blinder-last-seen m room x v s u f sn h =
-    let a = of-any blinderEnd _ h in
-    let z = asBlinder x in
-    let o = tests.blinder-last z s u m room .means (a .1) in
-    let seen : BlinderSeen z v = subst (λ z. SeenBy z v) (sym (is-blinder x (o .0 .later .session-open .is-open))) sn in
-    subst (λ z. SeenBy (z .session) (viewLater v (blinder-last m room) z)) (ap (asAny blinderEnd) (o .1) ∙ a .2)
-    (record {
-      known = known-still (blinder-last-stage z v m seen (o .0 .later .due-is) (o .0 .message) (seen .stage)) (quiet (v .sent)) refl;
-      mm = seen .mm;
-      y = seen .y;
-      input-is = seen .input-is;
-      began = seen .began;
-      stage = b-over refl;
-    })
-
--- ---- drops: the view stays
-
-right-drop-seen : (x : Session) (v : View) (s : Slot) (u : List ℕ) (f : Effect Session) → SeenBy x v → runLater right-drop x s u ≡ done f → SeenBy (f .session) (viewLater v right-drop f)
-unfolding runLater
-right-drop-seen x v s u f sn h =
-    let a = of-any rightEnd _ h in
-    let y = asRight x in
-    let o = tests.drop-right y s .means (a .1) in
-    let seen : RightSeen y v = subst (λ z. SeenBy z v) (sym (is-right x (o .0 .is-open))) sn in
-    subst (λ z. SeenBy (z .session) (viewLater v right-drop z)) (ap (asAny rightEnd) (o .1) ∙ a .2)
-    (record {
-      known = known-still (seen .known) (quiet (v .sent)) (append-nil (v .received));
-      one-sent = ap length (quiet (v .sent)) ∙ seen .one-sent;
-      waits = λ z. absurd (omega (arith, z));
-    })
-
-solver-drop-seen : (x : Session) (v : View) (s : Slot) (u : List ℕ) (f : Effect Session) → SeenBy x v → runLater solver-drop x s u ≡ done f → SeenBy (f .session) (viewLater v solver-drop f)
-unfolding runLater
-solver-drop-seen x v s u f sn h =
-    let a = of-any solverEnd _ h in
-    let y = asSolver x in
-    let o = tests.drop-solver y s .means (a .1) in
-    let seen : SolverSeen y v = subst (λ z. SeenBy z v) (sym (is-solver x (o .0 .is-open))) sn in
-    subst (λ z. SeenBy (z .session) (viewLater v solver-drop z)) (ap (asAny solverEnd) (o .1) ∙ a .2)
-    (record {
-      known = known-still (seen .known) (quiet (v .sent)) (append-nil (v .received));
-      l = seen .l;
-      x = seen .x;
-      input-is = seen .input-is;
-      began = seen .began;
-      stage = s-over refl;
-    })
-
-blinder-drop-seen : (x : Session) (v : View) (s : Slot) (u : List ℕ) (f : Effect Session) → SeenBy x v → runLater blinder-drop x s u ≡ done f → SeenBy (f .session) (viewLater v blinder-drop f)
-unfolding runLater
-blinder-drop-seen x v s u f sn h =
-    let a = of-any blinderEnd _ h in
-    let z = asBlinder x in
-    let o = tests.drop-blinder z s u .means (a .1) in
-    let seen : BlinderSeen z v = subst (λ z. SeenBy z v) (sym (is-blinder x (o .0 .session-open .is-open))) sn in
-    subst (λ z. SeenBy (z .session) (viewLater v blinder-drop z)) (ap (asAny blinderEnd) (o .1) ∙ a .2)
-    (record {
-      known = known-still (seen .known) (quiet (v .sent)) (append-nil (v .received));
-      mm = seen .mm;
-      y = seen .y;
-      input-is = seen .input-is;
-      began = seen .began;
-      stage = b-over refl;
-    })
-
-pub later-seen : (k : Later) (x : Session) (v : View) (s : Slot) (u : List ℕ) (f : Effect Session) → SeenBy x v → runLater k x s u ≡ done f
-    → matrices (roleIn x) (termsIn x) (slotWords s) ≡ v .half → (roleIn x ≡ blinder → scratchParts (termsIn x) u ≡ scratchParts (termsIn x) (v .coins)) → SeenBy (f .session) (viewLater v k f)
-later-seen (right-last m room) x v s u f sn h e c = right-last-seen m room x v s u f sn h
-later-seen (solver-second m room) x v s u f sn h e c = solver-second-seen m room x v s u f sn h e
-later-seen (solver-last m room) x v s u f sn h e c = solver-last-seen m room x v s u f sn h e
-later-seen (blinder-second m room) x v s u f sn h e c = blinder-second-seen m room x v s u f sn h e c
-later-seen (blinder-last m room) x v s u f sn h e c = blinder-last-seen m room x v s u f sn h
-later-seen right-drop x v s u f sn h e c = right-drop-seen x v s u f sn h
-later-seen solver-drop x v s u f sn h e c = solver-drop-seen x v s u f sn h
-later-seen blinder-drop x v s u f sn h e c = blinder-drop-seen x v s u f sn h
+    in
+    (a, b, p, known)
+z-stage z v m seen w f (b-over d) = absurd (omega (arith, w, d))

@@ -12,19 +12,19 @@ use native.Mathlib.Omega.{arith}
 use native.Mathlib.Decide.{ℕ-discrete}
 use lib.ListN.{length}
 use Rattle.algebra.specs.Matrix.{zeros}
+use Rattle.algebra.specs.Count.{total}
 use Rattle.algebra.proofs.Lists.{length-tabulate}
 use Rattle.protocol.specs.declared.Terms.{Terms}
-use Rattle.protocol.specs.Judge.{done}
 use Rattle.protocol.specs.Tape.{Role, left, right, blinder, solver}
 use Rattle.algebra.specs.Words.{over}
-use Rattle.protocol.specs.Message.{Message}
-use Rattle.protocol.specs.System.{scratchSize, coinsOf}
-use Rattle.history.specs.Ends.{Session, absent, isBegun, dueIn, termsIn, roleIn, First, right-first, left-only, solver-first, blinder-first, Later, Step, begins, goes-on, roleFirst, roleOf, runStep}
+use Rattle.protocol.specs.System.{scratchSize, scratchLayout}
+use Rattle.protocol.specs.View.{coinLayout}
+use Rattle.history.specs.Ends.{Session, absent, isBegun, dueIn, termsIn, roleIn, First, opening, Later, Step, begins, goes-on, roleFirst, roleOf}
 use Rattle.history.specs.Log.{choose, Party, State, Call, Did, Entry, did, run, lentAfter, lentTo, OwnScratchBy, Premises}
-use Rattle.history.specs.Contents.{tenantBy, tenantAfter, tenant, coinsIn, keptWords, termsBy, scratchWords}
+use Rattle.history.specs.Contents.{tenantOf, tenantAfter, tenant, keptBy, coinsBy, coinsIn, keptWords, termsBy, scratchWords}
 use Rattle.history.proofs.Words.{over-over, over-nothing}
-use Rattle.history.proofs.Steps.{Begins, Continues, wipeScratch, coinsFirst, blinder-begins}
-use Rattle.history.proofs.Facts.{set-same, set-other, none≢, absent≢}
+use Rattle.history.proofs.Accepted.{firstRow, Begins, Continues, wipeScratch}
+use Rattle.history.proofs.Facts.{set-same, set-other, none≢, absent≢, same-some}
 use Rattle.history.proofs.Kept.{slotBy, stateAfter, Way, fresh, onward, Move}
 use Rattle.history.specs.Claim.{Empty}
 use Rattle.history.proofs.Along.{along}
@@ -44,9 +44,6 @@ pub record Lent (lent : ℕ → List ℕ) (st : State) (l : List Entry) : Type 0
   pub keeps-it : (n : ℕ) → 0 < dueIn (st .sessions n) → roleIn (st .sessions n) ≡ blinder → (e : Did) × (tenant l (lentTo l n) ≡ some e) × (e .name ≡ n)
 
 -- ---- one scratch
-
-same-some : {e e′ : Did} → some e ≡ some e′ → e ≡ e′
-same-some h = cc
 
 -- only whether the tenant's session is open counts
 kept-same : (d d′ : ℕ) (t : Terms) (coins : List ℕ) → (d ≡ d′) ⊎ ((0 < d) × (0 < d′)) → keptWords d t coins ≡ keptWords d′ t coins
@@ -90,32 +87,41 @@ tenant-later (yes _) e (goes-on f) o q = refl
 tenant-later (no n) e k o q = refl
 
 -- first steps of the other ends
-quiet : (k : First) → (roleFirst k ≡ blinder → ⊥) → (e : Did) (o : Option Did) → tenantBy e k o ≡ o
-quiet (right-first y room) n e o = refl
-quiet (left-only x words a room shareRoom) n e o = refl
-quiet (solver-first l x room) n e o = refl
-quiet (blinder-first mm y words a room) n e o = absurd (n refl)
+pub quiet : (r : Role) → (r ≡ blinder → ⊥) → (e : Did) (o : Option Did) → tenantOf r e o ≡ o
+quiet left n e o = refl
+quiet right n e o = refl
+quiet solver n e o = refl
+quiet blinder n e o = absurd (n refl)
 
 tenant-quiet : {P : Type 0} (h : Dec P) (e : Did) (k : Step) (o : Option Did) {t : Terms} {f : First} → k ≡ begins t f → (roleFirst f ≡ blinder → ⊥) → tenantAfter h e k o ≡ o
 tenant-quiet {P} h e k o {t} {f} q n = subst (λ (k : Step). tenantAfter h e k o ≡ o) (sym q) (go h)
   where
     go : (h : Dec P) → tenantAfter h e (begins t f) o ≡ o
-    go (yes _) = quiet f n e o
+    go (yes _) = quiet (roleFirst f) n e o
     go (no _) = refl
 
-tenant-new : {P : Type 0} (h : Dec P) (e : Did) (k : Step) (o : Option Did) {t : Terms} {mm y words : List ℕ} {a : Message} {room : ℕ}
-    → k ≡ begins t (blinder-first mm y words a room) → P → tenantAfter h e k o ≡ some e
-tenant-new {P} h e k o {t} {mm} {y} {words} {a} {room} q p = subst (λ (k : Step). tenantAfter h e k o ≡ some e) (sym q) (go h)
+tenant-new : {P : Type 0} (h : Dec P) (e : Did) (k : Step) (o : Option Did) {t : Terms} {f : First} → k ≡ begins t f → roleFirst f ≡ blinder → P
+    → tenantAfter h e k o ≡ some e
+tenant-new {P} h e k o {t} {f} q r p = subst (λ (k : Step). tenantAfter h e k o ≡ some e) (sym q) (go h)
   where
-    go : (h : Dec P) → tenantAfter h e (begins t (blinder-first mm y words a room)) o ≡ some e
-    go (yes _) = refl
+    go : (h : Dec P) → tenantAfter h e (begins t f) o ≡ some e
+    go (yes _) = ap (λ (r : Role). tenantOf r e o) r
     go (no n) = absurd (n p)
 
-quiet-coins : (t : Terms) (k : First) → (roleFirst k ≡ blinder → ⊥) → coinsFirst t k ≡ []
-quiet-coins t (right-first y room) n = refl
-quiet-coins t (left-only x words a room shareRoom) n = refl
-quiet-coins t (solver-first l x room) n = refl
-quiet-coins t (blinder-first mm y words a room) n = absurd (n refl)
+quiet-coins : (r : Role) (coins : List ℕ) → (r ≡ blinder → ⊥) → keptBy r coins ≡ []
+quiet-coins left coins n = refl
+quiet-coins right coins n = refl
+quiet-coins solver coins n = refl
+quiet-coins blinder coins n = absurd (n refl)
+
+-- those of a blinder
+own-coins : (r : Role) (t : Terms) (coins : List ℕ) → r ≡ blinder → length coins ≡ total (coinLayout r t) → length (keptBy r coins) ≡ scratchSize t
+unfolding scratchSize
+own-coins r t coins e = subst (λ (r : Role). length coins ≡ total (coinLayout r t) → length (keptBy r coins) ≡ total (scratchLayout t)) (sym e) (λ h. h)
+
+still-open : (r : Role) (next due : ℕ) → (r ≡ left) ⊎ (0 < next) → r ≡ blinder → due ≡ next → 0 < due
+still-open r next due (inl z) e d = absurd (let y : left ≡ blinder = sym z ∙ e in let z : _≡_ {A = ℕ} 0 1 = cc in omega arith)
+still-open r next due (inr z) e d = omega (arith, z, d)
 
 -- what a later step writes there
 wipe-open : (d : ℕ) (r : Role) (t : Terms) → 0 < d → wipeScratch d r t ≡ []
@@ -129,7 +135,7 @@ wipe-none zero solver t n = refl
 wipe-none zero blinder t n = absurd (n refl)
 wipe-none (suc d) r t n = refl
 
-is-blinder? : (r : Role) → Dec (r ≡ blinder)
+pub is-blinder? : (r : Role) → Dec (r ≡ blinder)
 is-blinder? left = no (λ e. let z : _≡_ {A = ℕ} 0 1 = cc in omega arith)
 is-blinder? right = no (λ e. let z : _≡_ {A = ℕ} 0 1 = cc in omega arith)
 is-blinder? solver = no (λ e. let z : _≡_ {A = ℕ} 0 1 = cc in omega arith)
@@ -178,7 +184,7 @@ module _ (size : Party → ℕ) (start : Party → List ℕ) (lent : ℕ → Lis
         quiet-first : Lent lent st′ (did e ∷ l)
         quiet-first = record {
           shown = λ b.
-              untouched-scratch (g .laid ∙ quiet-coins t k n) b
+              untouched-scratch (g .laid ∙ quiet-coins (roleFirst k) (opening k .coins t) n) b
               ∙ o .shown b
               ∙ words-same lent (e .on .sessions) (st′ .sessions) b (tenant l b) (λ x h. inl (ap dueIn (sym (not-now (x .name) (not-named b x h)))))
               ∙ ap (scratchWords lent (st′ .sessions) b) (sym (same-tenant b));
@@ -195,80 +201,80 @@ module _ (size : Party → ℕ) (start : Party → List ℕ) (lent : ℕ → Lis
                     let x = o .keeps-it m (rw (not-now m h) at d) (rw (not-now m h) at r) in
                     (x .0, same-tenant _ ∙ ap (tenant l) (lent-other (ℕ-discrete (e .name) m) (e .step) (e .scratch) (lentTo l m) (λ q. h (sym q))) ∙ x .1, x .2)
 
-    -- of a blinder
-    module _ (t : Terms) (mm y words : List ℕ) (m : Message) (room : ℕ) (s : e .step ≡ begins t (blinder-first mm y words m room)) (a : e .on .sessions (e .name) ≡ absent)
-        (g : Begins t (blinder-first mm y words m room) (slotBy size start e) (e .effect)) where
-      facts : (0 < dueIn (e .effect .session)) × (length (coinsOf t words) ≡ scratchSize t)
-      facts =
-          blinder-begins t mm y words m room (slotBy size start e) (e .on .scratches (e .scratch)) (e .effect)
-          (subst (λ (k : Step). runStep k (e .on .sessions (e .name)) (slotBy size start e) (e .on .scratches (e .scratch)) ≡ done (e .effect)) s (mv .acted))
+      -- of a blinder
+      module _ (r : roleFirst k ≡ blinder) where
+        open-now : 0 < dueIn (e .effect .session)
+        open-now = still-open (roleFirst k) (firstRow k .next) (dueIn (e .effect .session)) (g .stays) r (g .due-is)
 
-      new-tenant : tenant (did e ∷ l) (e .scratch) ≡ some e
-      new-tenant = tenant-new (ℕ-discrete (e .scratch) (e .scratch)) e (e .step) (tenant l (e .scratch)) s refl
+        new-tenant : tenant (did e ∷ l) (e .scratch) ≡ some e
+        new-tenant = tenant-new (ℕ-discrete (e .scratch) (e .scratch)) e (e .step) (tenant l (e .scratch)) s r refl
 
-      new-lent : lentTo (did e ∷ l) (e .name) ≡ e .scratch
-      new-lent = lent-first (ℕ-discrete (e .name) (e .name)) (e .step) (e .scratch) (lentTo l (e .name)) s refl
+        new-lent : lentTo (did e ∷ l) (e .name) ≡ e .scratch
+        new-lent = lent-first (ℕ-discrete (e .name) (e .name)) (e .step) (e .scratch) (lentTo l (e .name)) s refl
 
-      coins : coinsIn (e .step) ≡ coinsOf t words
-      coins = ap coinsIn s
+        coins : coinsIn (e .step) ≡ coinsBy t k
+        coins = ap coinsIn s
 
-      blinder-shown : (b : ℕ) → st′ .scratches b ≡ scratchWords lent (st′ .sessions) b (tenant (did e ∷ l) b)
-      blinder-shown b = go (ℕ-discrete (e .scratch) b)
-        where
-          this : st′ .scratches (e .scratch) ≡ scratchWords lent (st′ .sessions) (e .scratch) (tenant (did e ∷ l) (e .scratch))
-          this =
-              set-same (e .scratch) (over (e .effect .scratch) (e .on .scratches (e .scratch))) (e .on .scratches)
-              ∙ ap (λ (z : List ℕ). over z (e .on .scratches (e .scratch)))
-              (g .laid ∙ sym coins ∙ sym (kept-open (dueIn (st′ .sessions (e .name))) (termsBy (e .step)) (coinsIn (e .step)) (subst (λ (x : Session). 0 < dueIn x) (sym is-now) (facts .0))))
-              ∙ ap (scratchWords lent (st′ .sessions) (e .scratch)) (sym new-tenant)
+        blinder-shown : (b : ℕ) → st′ .scratches b ≡ scratchWords lent (st′ .sessions) b (tenant (did e ∷ l) b)
+        blinder-shown b = go (ℕ-discrete (e .scratch) b)
+          where
+            this : st′ .scratches (e .scratch) ≡ scratchWords lent (st′ .sessions) (e .scratch) (tenant (did e ∷ l) (e .scratch))
+            this =
+                set-same (e .scratch) (over (e .effect .scratch) (e .on .scratches (e .scratch))) (e .on .scratches)
+                ∙ ap (λ (z : List ℕ). over z (e .on .scratches (e .scratch)))
+                (g .laid ∙ sym coins
+                ∙ sym (kept-open (dueIn (st′ .sessions (e .name))) (termsBy (e .step)) (coinsIn (e .step))
+                (subst (λ (x : Session). 0 < dueIn x) (sym is-now) open-now)))
+                ∙ ap (scratchWords lent (st′ .sessions) (e .scratch)) (sym new-tenant)
 
-          go : Dec (e .scratch ≡ b) → st′ .scratches b ≡ scratchWords lent (st′ .sessions) b (tenant (did e ∷ l) b)
-          go (yes q) = subst (λ (b : ℕ). st′ .scratches b ≡ scratchWords lent (st′ .sessions) b (tenant (did e ∷ l) b)) q this
-          go (no h) =
-              set-other (e .scratch) (over (e .effect .scratch) (e .on .scratches (e .scratch))) (e .on .scratches) b (λ q. h (sym q))
-              ∙ o .shown b
-              ∙ words-same lent (e .on .sessions) (st′ .sessions) b (tenant l b) (λ x i. inl (ap dueIn (sym (not-now (x .name) (not-named t _ s a g b x i)))))
-              ∙ ap (scratchWords lent (st′ .sessions) b) (sym (tenant-other (ℕ-discrete (e .scratch) b) e (e .step) (tenant l b) h))
+            go : Dec (e .scratch ≡ b) → st′ .scratches b ≡ scratchWords lent (st′ .sessions) b (tenant (did e ∷ l) b)
+            go (yes q) = subst (λ (b : ℕ). st′ .scratches b ≡ scratchWords lent (st′ .sessions) b (tenant (did e ∷ l) b)) q this
+            go (no h) =
+                set-other (e .scratch) (over (e .effect .scratch) (e .on .scratches (e .scratch))) (e .on .scratches) b (λ q. h (sym q))
+                ∙ o .shown b
+                ∙ words-same lent (e .on .sessions) (st′ .sessions) b (tenant l b) (λ x i. inl (ap dueIn (sym (not-now (x .name) (not-named b x i)))))
+                ∙ ap (scratchWords lent (st′ .sessions) b) (sym (tenant-other (ℕ-discrete (e .scratch) b) e (e .step) (tenant l b) h))
 
-      blinder-tenant : (b : ℕ) (x : Did) → tenant (did e ∷ l) b ≡ some x → Tenant st′ (did e ∷ l) b x
-      blinder-tenant b x h = go (ℕ-discrete (e .scratch) b)
-        where
-          this : Tenant st′ (did e ∷ l) (e .scratch) e
-          this = record {
-            lent-is = new-lent;
-            is-begun = ap isBegun is-now ∙ g .is-begun;
-            role-is = ap roleIn is-now ∙ g .role-is;
-            terms-are = ap termsIn is-now ∙ g .terms-are ∙ sym (ap termsBy s);
-            coins-are = ap length coins ∙ facts .1 ∙ ap (λ (k : Step). scratchSize (termsBy k)) (sym s);
-          }
+        blinder-tenant : (b : ℕ) (x : Did) → tenant (did e ∷ l) b ≡ some x → Tenant st′ (did e ∷ l) b x
+        blinder-tenant b x h = go (ℕ-discrete (e .scratch) b)
+          where
+            this : Tenant st′ (did e ∷ l) (e .scratch) e
+            this = record {
+              lent-is = new-lent;
+              is-begun = ap isBegun is-now ∙ g .is-begun;
+              role-is = ap roleIn is-now ∙ g .role-is ∙ r;
+              terms-are = ap termsIn is-now ∙ g .terms-are ∙ sym (ap termsBy s);
+              coins-are =
+                  ap length coins ∙ own-coins (roleFirst k) t (opening k .coins t) r (g .drew .size) ∙ ap (λ (k : Step). scratchSize (termsBy k)) (sym s);
+            }
 
-          go : Dec (e .scratch ≡ b) → Tenant st′ (did e ∷ l) b x
-          go (yes q) = subst₂ (λ (b : ℕ) (x : Did). Tenant st′ (did e ∷ l) b x) q (same-some (sym new-tenant ∙ ap (tenant (did e ∷ l)) q ∙ h)) this
-          go (no n) =
-              let h′ : tenant l b ≡ some x = sym (tenant-other (ℕ-discrete (e .scratch) b) e (e .step) (tenant l b) n) ∙ h in
-              other-tenant b x (not-named t _ s a g b x h′) (o .is-tenant b x h′)
+            go : Dec (e .scratch ≡ b) → Tenant st′ (did e ∷ l) b x
+            go (yes q) = subst₂ (λ (b : ℕ) (x : Did). Tenant st′ (did e ∷ l) b x) q (same-some (sym new-tenant ∙ ap (tenant (did e ∷ l)) q ∙ h)) this
+            go (no n) =
+                let h′ : tenant l b ≡ some x = sym (tenant-other (ℕ-discrete (e .scratch) b) e (e .step) (tenant l b) n) ∙ h in
+                other-tenant b x (not-named b x h′) (o .is-tenant b x h′)
 
-      blinder-keeps : (n : ℕ) → 0 < dueIn (st′ .sessions n) → roleIn (st′ .sessions n) ≡ blinder → (x : Did) × (tenant (did e ∷ l) (lentTo (did e ∷ l) n) ≡ some x) × (x .name ≡ n)
-      blinder-keeps n d r = go (ℕ-discrete n (e .name))
-        where
-          fair : OwnScratchBy l e (begins t (blinder-first mm y words m room))
-          fair = subst (λ (k : Step). OwnScratchBy l e k) s (p .1 .0 .own-scratch)
+        blinder-keeps : (n : ℕ) → 0 < dueIn (st′ .sessions n) → roleIn (st′ .sessions n) ≡ blinder → (x : Did) × (tenant (did e ∷ l) (lentTo (did e ∷ l) n) ≡ some x) × (x .name ≡ n)
+        blinder-keeps n d b = go (ℕ-discrete n (e .name))
+          where
+            fair : OwnScratchBy l e (begins t k)
+            fair = subst (λ (k : Step). OwnScratchBy l e k) s (p .1 .0 .own-scratch)
 
-          go : Dec (n ≡ e .name) → (x : Did) × (tenant (did e ∷ l) (lentTo (did e ∷ l) n) ≡ some x) × (x .name ≡ n)
-          go (yes q) = (e, ap (tenant (did e ∷ l)) (ap (lentTo (did e ∷ l)) q ∙ new-lent) ∙ new-tenant, sym q)
-          go (no h) =
-              let d′ : 0 < dueIn (e .on .sessions n) = rw (not-now n h) at d in
-              let r′ : roleIn (e .on .sessions n) ≡ blinder = rw (not-now n h) at r in
-              let x = o .keeps-it n d′ r′ in
-              let same : lentTo (did e ∷ l) n ≡ lentTo l n = lent-other (ℕ-discrete (e .name) n) (e .step) (e .scratch) (lentTo l n) (λ q. h (sym q)) in (
-                x .0,
-                ap (tenant (did e ∷ l)) same ∙ tenant-other (ℕ-discrete (e .scratch) (lentTo l n)) e (e .step) (tenant l (lentTo l n))
-                    (λ q. fair (ap roleOf s) n d′ r′ (sym q)) ∙ x .1,
-                x .2,
-              )
+            go : Dec (n ≡ e .name) → (x : Did) × (tenant (did e ∷ l) (lentTo (did e ∷ l) n) ≡ some x) × (x .name ≡ n)
+            go (yes q) = (e, ap (tenant (did e ∷ l)) (ap (lentTo (did e ∷ l)) q ∙ new-lent) ∙ new-tenant, sym q)
+            go (no h) =
+                let d′ : 0 < dueIn (e .on .sessions n) = rw (not-now n h) at d in
+                let r′ : roleIn (e .on .sessions n) ≡ blinder = rw (not-now n h) at b in
+                let x = o .keeps-it n d′ r′ in
+                let same : lentTo (did e ∷ l) n ≡ lentTo l n = lent-other (ℕ-discrete (e .name) n) (e .step) (e .scratch) (lentTo l n) (λ q. h (sym q)) in (
+                  x .0,
+                  ap (tenant (did e ∷ l)) same ∙ tenant-other (ℕ-discrete (e .scratch) (lentTo l n)) e (e .step) (tenant l (lentTo l n))
+                      (λ q. fair (ap roleOf s ∙ r) n d′ r′ (sym q)) ∙ x .1,
+                  x .2,
+                )
 
-      blinder-first-lent : Lent lent st′ (did e ∷ l)
-      blinder-first-lent = record { shown = blinder-shown; is-tenant = blinder-tenant; keeps-it = blinder-keeps }
+        new-blinder : Lent lent st′ (did e ∷ l)
+        new-blinder = record { shown = blinder-shown; is-tenant = blinder-tenant; keeps-it = blinder-keeps }
 
     -- ---- a later step or a drop
 
@@ -394,14 +400,14 @@ module _ (size : Party → ℕ) (start : Party → List ℕ) (lent : ℕ → Lis
     pub move-lent : Lent lent st′ (did e ∷ l)
     move-lent = go (mv .way)
       where
-        by-kind : (t : Terms) (k : First) → e .step ≡ begins t k → e .on .sessions (e .name) ≡ absent → Begins t k (slotBy size start e) (e .effect) → Lent lent st′ (did e ∷ l)
-        by-kind t (right-first y room) s a g = quiet-first t (right-first y room) s a g (λ q. let z : _≡_ {A = ℕ} 0 1 = cc in omega arith)
-        by-kind t (left-only x words m room shareRoom) s a g = quiet-first t (left-only x words m room shareRoom) s a g (λ q. let z : _≡_ {A = ℕ} 0 1 = cc in omega arith)
-        by-kind t (solver-first y x room) s a g = quiet-first t (solver-first y x room) s a g (λ q. let z : _≡_ {A = ℕ} 0 1 = cc in omega arith)
-        by-kind t (blinder-first mm y words m room) s a g = blinder-first-lent t mm y words m room s a g
+        by-role : (t : Terms) (k : First) (s : e .step ≡ begins t k) (a : e .on .sessions (e .name) ≡ absent)
+            (g : Begins t k (slotBy size start e) (e .effect)) → Dec (roleFirst k ≡ blinder)
+            → Lent lent st′ (did e ∷ l)
+        by-role t k s a g (yes r) = new-blinder t k s a g r
+        by-role t k s a g (no n) = quiet-first t k s a g n
 
         go : Way size start e (mv .server) → Lent lent st′ (did e ∷ l)
-        go (fresh t k s u a g) = by-kind t k s a g
+        go (fresh t k s u a g) = by-role t k s a g (is-blinder? (roleFirst k))
         go (onward k s u g) = later-lent k s g
 
   pub lent-scratches : Empty size start → (cs : List Call) → Premises size (run size start lent cs .log) → Lent lent (run size start lent cs .state) (run size start lent cs .log)

@@ -1,6 +1,10 @@
 -- The proofs of demands 3 and 2, in reading order. Lists that meet their premises are in the crate history_examples.
 -- Words             words written over a list and into a slot; a tape's words
--- Steps             what an accepted step or drop needs and leaves: all that the bookkeeping knows of steps
+-- Replay            what an end sends depends on its half alone
+-- Accepted          what is known of an accepted step or drop: all that the bookkeeping knows of steps
+-- Known, KnownOn    what is known of a session's view, after its first step and after the later ones
+-- Needs             what an end that keeps to the rules has of a later step's needs
+-- Steps             the laws of every step and drop, a clause for each
 -- Facts             of any log
 -- Dealt             what an accepted dealing needs and leaves
 -- Named             the names of the sessions that were begun: of every list, without a premise
@@ -9,9 +13,7 @@
 -- Once              each step of a session was accepted once at most
 -- Served            each half served one session at most
 -- Lent              the scratches
--- Replay            what an end sends depends on its half alone
--- Known, KnownOn    what is known of a session's view, after its first step and after the later ones
--- Views             the same for every session of the list
+-- Views             every session of the list: what is known of its view
 -- Stands            so every view that stands for a session is secret
 -- Demand            demand 3
 -- Results, Shared   what a session's last step gave; two sessions that are the ends of one tape
@@ -20,6 +22,11 @@
 -- Stood             an end's own half and coins complete the other's view
 -- Rightness         demand 2
 pub mod Words
+pub mod Replay
+pub mod Accepted
+pub mod Known
+pub mod KnownOn
+pub mod Needs
 pub mod Steps
 pub mod Facts
 pub mod Dealt
@@ -29,9 +36,6 @@ pub mod Along
 pub mod Once
 pub mod Served
 pub mod Lent
-pub mod Replay
-pub mod Known
-pub mod KnownOn
 pub mod Views
 pub mod Stands
 pub mod Demand

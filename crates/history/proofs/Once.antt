@@ -11,13 +11,12 @@ use mathlib.Core.Option.{Option, some, none}
 use Prim.Native.Nat.{ℕ, zero, suc, _≤_, _<_}
 use native.Mathlib.Omega.{arith}
 use native.Mathlib.Decide.{ℕ-discrete, decLt}
-use Rattle.history.specs.Ends.{isBegun, dueIn, First, right-first, left-only, solver-first, blinder-first, Later, right-last, solver-second, solver-last, blinder-second, blinder-last, right-drop, solver-drop, blinder-drop, Step, StepKind, first-right, only-left, first-solver, first-blinder, last-right, second-solver, last-solver, second-blinder, last-blinder, drop-right, drop-solver, drop-blinder, kind-eq, kindFirst, kindLater, kindOf}
+use Rattle.history.specs.Ends.{isBegun, dueIn, Step, StepKind, kind-eq, Turn, opens, awaits, drops, row, kindOf}
 use Rattle.history.specs.Log.{choose, both?, Party, State, Call, Did, Entry, did, run, Premises}
-use Rattle.history.specs.Claim.{timesBy, timesOf, times}
-use Rattle.history.proofs.Steps.{InTurn}
+use Rattle.history.specs.Claim.{timesBy, timesOf, times, Empty}
+use Rattle.history.proofs.Accepted.{firstRow, laterRow, InTurn}
 use Rattle.history.proofs.Facts.{set-same, set-other, absent≢}
 use Rattle.history.proofs.Kept.{Inv, stateAfter, Way, fresh, onward, Move}
-use Rattle.history.specs.Claim.{Empty}
 use Rattle.history.proofs.Along.{along}
 
 -- ---- turns
@@ -121,38 +120,21 @@ module _ (size : Party → ℕ) (start : Party → List ℕ) where
 
   -- ---- by the step
 
+  abbrev turnBy : Turn → (takes : ℕ) → Option ℕ
+  turnBy opens takes = some 0
+  turnBy awaits takes = some takes
+  turnBy drops takes = none
+
   abbrev turnOf : StepKind → Option ℕ
-  turnOf first-right = some 0
-  turnOf only-left = some 0
-  turnOf first-solver = some 0
-  turnOf first-blinder = some 0
-  turnOf last-right = some 2
-  turnOf second-solver = some 2
-  turnOf last-solver = some 4
-  turnOf second-blinder = some 3
-  turnOf last-blinder = some 5
-  turnOf drop-right = none
-  turnOf drop-solver = none
-  turnOf drop-blinder = none
+  turnOf k = turnBy (row k .turn) (row k .takes)
 
-  first-turned : (k : First) (d d′ : ℕ) → d ≡ 0 → Turned (turnOf (kindFirst k)) d d′
-  first-turned k d d′ e = subst (λ (o : Option ℕ). Turned o d d′) (ap some e ∙ go k) (turned-first d d′ e)
-    where
-      go : (k : First) → some 0 ≡ turnOf (kindFirst k)
-      go (right-first y room) = refl
-      go (left-only x words a room shareRoom) = refl
-      go (solver-first l x room) = refl
-      go (blinder-first mm y words a room) = refl
+  first-turned : (turn : Turn) (takes d d′ : ℕ) → turn ≡ opens → d ≡ 0 → Turned (turnBy turn takes) d d′
+  first-turned turn takes d d′ e z = subst₂ (λ (t : Turn) (n : ℕ). Turned (turnBy t takes) n d′) (sym e) (sym z) (turned-first 0 d′ refl)
 
-  later-turned : (k : Later) (d d′ : ℕ) → InTurn k d d′ → (d′ ≡ 0) ⊎ (d < d′) → Turned (turnOf (kindLater k)) d d′
-  later-turned (right-last a room) d d′ e m = turned-some 2 d d′ e m
-  later-turned (solver-second a room) d d′ e m = turned-some 2 d d′ e m
-  later-turned (solver-last a room) d d′ e m = turned-some 4 d d′ e m
-  later-turned (blinder-second a room) d d′ e m = turned-some 3 d d′ e m
-  later-turned (blinder-last a room) d d′ e m = turned-some 5 d d′ e m
-  later-turned right-drop d d′ e m = (λ a. a, inl e)
-  later-turned solver-drop d d′ e m = (λ a. a, inl e)
-  later-turned blinder-drop d d′ e m = (λ a. a, inl e)
+  later-turned : (turn : Turn) (takes next d d′ : ℕ) → InTurn turn takes next d → d′ ≡ next → (d′ ≡ 0) ⊎ (d < d′) → Turned (turnBy turn takes) d d′
+  later-turned opens takes next d d′ t e m = absurd t
+  later-turned awaits takes next d d′ t e m = turned-some takes d d′ (t .0) m
+  later-turned drops takes next d d′ t e m = (λ a. a, inl (e ∙ t))
 
   step-turned : (l : List Entry) (e : Did) → Move size start l e → Turned (turnOf (kindOf (e .step))) (due e) (dueIn (e .effect .session))
   step-turned l e mv = go (mv .way)
@@ -161,8 +143,11 @@ module _ (size : Party → ℕ) (start : Party → List ℕ) where
       Goal k = Turned (turnOf (kindOf k)) (dueIn (e .on .sessions (e .name))) (dueIn (e .effect .session))
 
       go : Way size start e (mv .server) → Goal (e .step)
-      go (fresh t k s q a b) = subst Goal (sym s) (first-turned k (due e) (dueIn (e .effect .session)) (ap dueIn a))
-      go (onward k s q g) = subst Goal (sym s) (later-turned k (due e) (dueIn (e .effect .session)) (g .in-turn) (g .moved))
+      go (fresh t k s q a b) =
+          subst Goal (sym s) (first-turned (firstRow k .turn) (firstRow k .takes) (due e) (dueIn (e .effect .session)) (b .turn-is) (ap dueIn a))
+      go (onward k s q g) =
+          subst Goal (sym s)
+          (later-turned (laterRow k .turn) (laterRow k .takes) (laterRow k .next) (due e) (dueIn (e .effect .session)) (g .in-turn) (g .due-is) (g .moved))
 
   pub once : Empty size start → (lent : ℕ → List ℕ) (cs : List Call) → Premises size (run size start lent cs .log) → (n : ℕ) (k : StepKind) → timesOf n k (run size start lent cs .log) ≤ 1
   once = labelled kind-eq (λ e. kindOf (e .step)) turnOf step-turned

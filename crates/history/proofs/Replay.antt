@@ -1,7 +1,7 @@
 -- What an end's own steps send depends on its half, its input, its coins and the messages received, and on nothing else of the pool that they run on.
 --   said-is                     a step's message, as it stands in a view
 --   y-sent .. t-sent            what each step sends fits its kind
---   right-same .. last-same     steps on two slots with the same half leave the same
+--   y-same .. w-same            steps on two slots with the same half leave the same
 --   solver-none, solver-one, solver-two, blinder-one, blinder-two   an end's messages, as its own steps give them one after the other
 -- Assumes nothing.
 use mathlib.Core.Path.{_≡_, refl, sym, ap, _∙_, subst}
@@ -109,39 +109,41 @@ t-sent x s a f r =
 
 -- ---- steps on two slots with the same half
 
-pub right-same : (t : Terms) (s s′ : Slot) (y : List ℕ) → matrices right t (slotWords s) ≡ matrices right t (slotWords s′) → rightFirstEffect t s y .sent ≡ rightFirstEffect t s′ y .sent
+pub y-same : (t : Terms) (s s′ : Slot) (y : List ℕ) → matrices right t (slotWords s) ≡ matrices right t (slotWords s′)
+    → rightFirstEffect t s y .sent ≡ rightFirstEffect t s′ y .sent
 unfolding rightFirstEffect
-right-same t s s′ y e = rw e
+y-same t s s′ y e = rw e
 
-pub left-same : (t : Terms) (s s′ : Slot) (x words words′ : List ℕ) (a : Message) → matrices left t (slotWords s) ≡ matrices left t (slotWords s′)
+pub x-same : (t : Terms) (s s′ : Slot) (x words words′ : List ℕ) (a : Message) → matrices left t (slotWords s) ≡ matrices left t (slotWords s′)
     → drawn (t .q) (t .m * t .p) words ≡ drawn (t .q) (t .m * t .p) words′ → leftEffect t s x words a .sent ≡ leftEffect t s′ x words′ a .sent
 unfolding leftEffect
-left-same t s s′ x words words′ a e c = rw (e, c)
+x-same t s s′ x words words′ a e c = rw (e, c)
 
-pub solver-first-same : (t : Terms) (s s′ : Slot) (l x : List ℕ) → matrices solver t (slotWords s) ≡ matrices solver t (slotWords s′)
+pub y1-same : (t : Terms) (s s′ : Slot) (l x : List ℕ) → matrices solver t (slotWords s) ≡ matrices solver t (slotWords s′)
     → solverFirstEffect t s l x .sent ≡ solverFirstEffect t s′ l x .sent
 unfolding solverFirstEffect
-solver-first-same t s s′ l x e = rw e
+y1-same t s s′ l x e = rw e
 
-pub solver-second-same : (x : SolverSession) (s s′ : Slot) (a : Message) → matrices solver (x .terms) (slotWords s) ≡ matrices solver (x .terms) (slotWords s′)
+pub f-same : (x : SolverSession) (s s′ : Slot) (a : Message) → matrices solver (x .terms) (slotWords s) ≡ matrices solver (x .terms) (slotWords s′)
     → (solverSecondEffect x s a .sent ≡ solverSecondEffect x s′ a .sent) × (solverSecondEffect x s a .session ≡ solverSecondEffect x s′ a .session)
 unfolding solverSecondEffect
-solver-second-same x s s′ a e = (rw e, rw e)
+f-same x s s′ a e = (rw e, rw e)
 
-pub solver-last-same : (x : SolverSession) (s s′ : Slot) (a : Message) → matrices solver (x .terms) (slotWords s) ≡ matrices solver (x .terms) (slotWords s′)
+pub t-same : (x : SolverSession) (s s′ : Slot) (a : Message) → matrices solver (x .terms) (slotWords s) ≡ matrices solver (x .terms) (slotWords s′)
     → (solverLastEffect x s a .sent ≡ solverLastEffect x s′ a .sent) × (jointSum x s a ≡ jointSum x s′ a)
 unfolding solverLastEffect jointSum
-solver-last-same x s s′ a e = (rw e, rw e)
+t-same x s s′ a e = (rw e, rw e)
 
-pub blinder-first-same : (t : Terms) (s s′ : Slot) (mm y words words′ : List ℕ) (a : Message) → matrices blinder t (slotWords s) ≡ matrices blinder t (slotWords s′)
+pub x1-same : (t : Terms) (s s′ : Slot) (mm y words words′ : List ℕ) (a : Message) → matrices blinder t (slotWords s) ≡ matrices blinder t (slotWords s′)
     → coinsOf t words ≡ coinsOf t words′ → blinderFirstEffect t s mm y words a .sent ≡ blinderFirstEffect t s′ mm y words′ a .sent
 unfolding blinderFirstEffect
-blinder-first-same t s s′ mm y words words′ a e c = rw (e, c)
+x1-same t s s′ mm y words words′ a e c = rw (e, c)
 
-pub blinder-second-same : (x : BlinderSession) (s s′ : Slot) (u u′ : List ℕ) (a : Message) → matrices blinder (x .terms) (slotWords s) ≡ matrices blinder (x .terms) (slotWords s′)
+pub w-same : (x : BlinderSession) (s s′ : Slot) (u u′ : List ℕ) (a : Message)
+    → matrices blinder (x .terms) (slotWords s) ≡ matrices blinder (x .terms) (slotWords s′)
     → scratchParts (x .terms) u ≡ scratchParts (x .terms) u′ → blinderSecondEffect x s u a .sent ≡ blinderSecondEffect x s′ u′ a .sent
 unfolding blinderSecondEffect
-blinder-second-same x s s′ u u′ a e c = rw (e, c)
+w-same x s s′ u u′ a e c = rw (e, c)
 
 -- ---- right and left
 
@@ -156,7 +158,7 @@ module _ (t : Terms) (half : List (List ℕ)) where
     right-sends got =
         then-accepted _ _ _ _ (tests.right-first t (halfSlot right t half) y (messageSize 1 t) .accepts
         (record { first = first-fits right-alone (fits .first .terms); y-fits = fits .y-fits; message-room = le-refl _ }))
-        ∙ ap (λ (a : Message). said a ++ []) (right-same t _ s y (holding-matrices right READY t half _ right-alone ∙ sym held))
+        ∙ ap (λ (a : Message). said a ++ []) (y-same t _ s y (holding-matrices right READY t half _ right-alone ∙ sym held))
         ∙ ap (λ (l : List (List ℕ)). l ++ []) (said-is (y-sent t s y (fits .first .terms)))
 
   module _ (s : Slot) (x words : List ℕ) (a : Message) (room shareRoom : ℕ) (fits : tests.LeftFits t s x words a room shareRoom) (held : matrices left t (slotWords s) ≡ half)
@@ -182,7 +184,8 @@ module _ (t : Terms) (half : List (List ℕ)) where
           enough = drawn-enough (fits .first .terms .small) coins;
         }))
         ∙ ap (λ (b : Message). said (leftEffect t (halfSlot left t half) x coined b .sent) ++ []) (sym (incoming-whole (fits .message)))
-        ∙ ap (λ (b : Message). said b ++ []) (left-same t _ s x coined words a (holding-matrices left READY t half _ left-alone ∙ sym held) (drawn-own (fits .first .terms .small) coins))
+        ∙ ap (λ (b : Message). said b ++ [])
+        (x-same t _ s x coined words a (holding-matrices left READY t half _ left-alone ∙ sym held) (drawn-own (fits .first .terms .small) coins))
         ∙ ap (λ (l : List (List ℕ)). l ++ []) (said-is (x-sent t s x words a (fits .first .terms)))
 
 -- ---- the solver
@@ -235,8 +238,8 @@ module _ (t : Terms) (half : List (List ℕ)) (l x : List ℕ) (g : SolverBegan 
   solver-none = then-accepted _ _ _ _ accepts1 ∙ ap (λ (z : List (List ℕ)). z ++ []) says1
 
   -- the same message from the half in the pool
-  pub solver-first-is : (s : Slot) → matrices solver t (slotWords s) ≡ half → solverFirstEffect t s l x .sent ≡ solverOne t half l x .sent
-  solver-first-is s e = solver-first-same t s alone l x (e ∙ sym (holding-matrices solver READY t half alone held))
+  pub y1-is : (s : Slot) → matrices solver t (slotWords s) ≡ half → solverFirstEffect t s l x .sent ≡ solverOne t half l x .sent
+  y1-is s e = y1-same t s alone l x (e ∙ sym (holding-matrices solver READY t half alone held))
 
   module _ (a : List ℕ) (ra : Residues (t .q) (messageSize 2 t) a) where
     held2 : Holding solver IN-USE t half (slotTwo t half l x a)
@@ -267,12 +270,12 @@ module _ (t : Terms) (half : List (List ℕ)) (l x : List ℕ) (g : SolverBegan 
         ∙ ap (λ (z : List (List ℕ)). z ++ andThen (slotOne t half l x) (solverSecond (solverOne t half l x .session) (slotOne t half l x) (incoming 2 t a) (messageSize 3 t)) (λ x s. [])) says1
         ∙ ap (λ (z : List (List ℕ)). solverOne t half l x .sent .residues ∷ z) (then-accepted _ _ _ _ accepts2 ∙ ap (λ (z : List (List ℕ)). z ++ []) says2)
 
-    pub solver-second-is : (s : Slot) (m : Message) → m ≡ incoming 2 t a → matrices solver t (slotWords s) ≡ half
+    pub f-is : (s : Slot) (m : Message) → m ≡ incoming 2 t a → matrices solver t (slotWords s) ≡ half
         → (solverSecondEffect (solverOne t half l x .session) s m .sent ≡ solverTwo t half l x a .sent)
         × (solverSecondEffect (solverOne t half l x .session) s m .session ≡ solverTwo t half l x a .session)
     unfolding solverFirstEffect
-    solver-second-is s m i e =
-        let o = solver-second-same (solverOne t half l x .session) s (slotOne t half l x) m (e ∙ sym (holding-matrices solver IN-USE t half _ held1)) in (
+    f-is s m i e =
+        let o = f-same (solverOne t half l x .session) s (slotOne t half l x) m (e ∙ sym (holding-matrices solver IN-USE t half _ held1)) in (
           o .0 ∙ ap (λ (m : Message). solverSecondEffect (solverOne t half l x .session) (slotOne t half l x) m .sent) i,
           o .1 ∙ ap (λ (m : Message). solverSecondEffect (solverOne t half l x .session) (slotOne t half l x) m .session) i,
         )
@@ -291,12 +294,12 @@ module _ (t : Terms) (half : List (List ℕ)) (l x : List ℕ) (g : SolverBegan 
         message-room = le-refl _;
       })
 
-      pub solver-last-is : (s : Slot) (m : Message) → m ≡ incoming 4 t b → matrices solver t (slotWords s) ≡ half
+      pub t-is : (s : Slot) (m : Message) → m ≡ incoming 4 t b → matrices solver t (slotWords s) ≡ half
           → (solverLastEffect (solverTwo t half l x a .session) s m .sent ≡ solverThree t half l x a b .sent)
           × (jointSum (solverTwo t half l x a .session) s m ≡ jointSum (solverTwo t half l x a .session) (slotTwo t half l x a) (incoming 4 t b))
       unfolding solverFirstEffect solverSecondEffect
-      solver-last-is s m i e =
-          let o = solver-last-same (solverTwo t half l x a .session) s (slotTwo t half l x a) m (e ∙ sym (holding-matrices solver IN-USE t half _ held2)) in (
+      t-is s m i e =
+          let o = t-same (solverTwo t half l x a .session) s (slotTwo t half l x a) m (e ∙ sym (holding-matrices solver IN-USE t half _ held2)) in (
             o .0 ∙ ap (λ (m : Message). solverLastEffect (solverTwo t half l x a .session) (slotTwo t half l x a) m .sent) i,
             o .1 ∙ ap (λ (m : Message). jointSum (solverTwo t half l x a .session) (slotTwo t half l x a) m) i,
           )
@@ -385,10 +388,10 @@ module _ (t : Terms) (half : List (List ℕ)) (mm y coins : List ℕ) (g : Blind
   unfolding blinderMessages hearing
   blinder-one = then-accepted _ _ _ _ takes1 ∙ ap (λ (z : List (List ℕ)). z ++ []) told1
 
-  pub blinder-first-is : (s : Slot) (words : List ℕ) (m : Message) → m ≡ incoming 1 t a → matrices blinder t (slotWords s) ≡ half → coinsOf t words ≡ coins
+  pub x1-is : (s : Slot) (words : List ℕ) (m : Message) → m ≡ incoming 1 t a → matrices blinder t (slotWords s) ≡ half → coinsOf t words ≡ coins
       → blinderFirstEffect t s mm y words m .sent ≡ blinderOne t half mm y coins a .sent
-  blinder-first-is s words m i e c =
-      blinder-first-same t s by-itself mm y words (wordsFor (t .q) coins) m (e ∙ sym (holding-matrices blinder READY t half by-itself has)) (c ∙ sym coins-are)
+  x1-is s words m i e c =
+      x1-same t s by-itself mm y words (wordsFor (t .q) coins) m (e ∙ sym (holding-matrices blinder READY t half by-itself has)) (c ∙ sym coins-are)
       ∙ ap (λ (m : Message). blinderFirstEffect t by-itself mm y (wordsFor (t .q) coins) m .sent) i
 
   module _ (b : List ℕ) (rb : Residues (t .q) (messageSize 3 t) b) (m-below : allBelow (t .q) (keptM (blinderOne t half mm y coins a .session)) ≡ true)
@@ -437,10 +440,10 @@ module _ (t : Terms) (half : List (List ℕ)) (mm y coins : List ℕ) (g : Blind
         (blinderSecond (blinderOne t half mm y coins a .session) (slotFirst t half mm y coins a) (scratchFirst t half mm y coins a) (incoming 3 t b) (messageSize 4 t)) (λ x s. [])) told1
         ∙ ap (λ (z : List (List ℕ)). blinderOne t half mm y coins a .sent .residues ∷ z) (then-accepted _ _ _ _ takes2 ∙ ap (λ (z : List (List ℕ)). z ++ []) told2)
 
-    pub blinder-second-is : (s : Slot) (u : List ℕ) (m : Message) → m ≡ incoming 3 t b → matrices blinder t (slotWords s) ≡ half → scratchParts t u ≡ scratchParts t coins
+    pub w-is : (s : Slot) (u : List ℕ) (m : Message) → m ≡ incoming 3 t b → matrices blinder t (slotWords s) ≡ half → scratchParts t u ≡ scratchParts t coins
         → blinderSecondEffect (blinderOne t half mm y coins a .session) s u m .sent ≡ blinderTwo t half mm y coins a b .sent
     unfolding blinderFirstEffect
-    blinder-second-is s u m i e c =
-        blinder-second-same (blinderOne t half mm y coins a .session) s (slotFirst t half mm y coins a) u (scratchFirst t half mm y coins a) m
+    w-is s u m i e c =
+        w-same (blinderOne t half mm y coins a .session) s (slotFirst t half mm y coins a) u (scratchFirst t half mm y coins a) m
         (e ∙ sym (holding-matrices blinder IN-USE t half _ has1)) (c ∙ sym stand-parts)
         ∙ ap (λ (m : Message). blinderSecondEffect (blinderOne t half mm y coins a .session) (slotFirst t half mm y coins a) (scratchFirst t half mm y coins a) m .sent) i

@@ -1,6 +1,5 @@
 -- Every view that stands for a session of the list is one of those that protocol's counts are for: as it was answered, and with another message sent, which
 -- the other end accepted.
---   seen-known                  what is known of a session's view
 --   taken-fit, heard            a message that a step of a product accepted fits its tape
 --   stands-secret
 -- Assumes nothing.
@@ -14,33 +13,25 @@ use lib.ListN.{length}
 use Rattle.algebra.specs.Matrix.{Residues}
 use Rattle.protocol.specs.declared.Terms.{Terms}
 use Rattle.protocol.specs.Judge.{done}
-use Rattle.protocol.specs.Bounds.{product, system}
+use Rattle.protocol.specs.Bounds.{product}
 use Rattle.protocol.specs.Tape.{Slot, Role, left, right, blinder, solver, sortOf}
 use Rattle.protocol.specs.Message.{Message, messageSize}
 use Rattle.protocol.specs.Step.{Effect}
-use Rattle.protocol.specs.Product.{leftEffect, rightLastEffect}
 use Rattle.protocol.specs.View.{View, facing, kindsSent}
 use Rattle.protocol.specs.Completion.{Secret}
-use Rattle.protocol.proofs.StepTests as tests
 use Rattle.protocol.proofs.Completion.{Messages, no-more, _before_, ahead, Arises, secret}
-use Rattle.history.specs.Ends.{Session, absent, leftEnd, rightEnd, solverEnd, blinderEnd, isBegun, termsIn, roleIn, asRight, First, right-first, left-only, solver-first, blinder-first, Later, right-last, solver-second, solver-last, blinder-second, blinder-last, right-drop, solver-drop, blinder-drop, Step, begins, goes-on, roleFirst, roleLater, roleOf, asAny, runFirst, runLater, runStep}
+use Rattle.history.specs.Ends.{Session, isBegun, termsIn, roleIn, Row, Step, begins, goes-on, roleFirst, roleLater, roleOf, runStep}
 use Rattle.history.specs.Log.{Party, State, Call, Dealing, Did, Entry, did, run, WasDone, numberOf, Premises}
 use Rattle.history.specs.Seen.{view, takenFirst, takenLater, takenBy, withSent, AcceptedBy, Stands, as-answered, as-accepted}
 use Rattle.history.specs.Claim.{Empty}
-use Rattle.history.proofs.Facts.{absent≢, one-dealing}
-use Rattle.history.proofs.Steps.{of-any}
+use Rattle.history.proofs.Facts.{one-dealing}
+use Rattle.history.proofs.Accepted.{firstRow, laterRow, Hears, in-system}
+use Rattle.history.proofs.Steps.{begins-sound, continues-sound}
 use Rattle.history.proofs.Kept.{stateAfter, Move}
 use Rattle.history.proofs.Along.{along}
 use Rattle.history.proofs.Served.{served}
-use Rattle.history.proofs.Known.{Known, arises, SeenBy}
+use Rattle.history.proofs.Known.{Known, arises, seen-known}
 use Rattle.history.proofs.Views.{views}
-
-pub seen-known : (x : Session) (v : View) → SeenBy x v → isBegun x ≡ true → Known (roleIn x) (termsIn x) v
-seen-known absent v s b = absent≢ refl b
-seen-known (leftEnd t) v s b = s
-seen-known (rightEnd x) v s b = s .known
-seen-known (solverEnd x) v s b = s .known
-seen-known (blinderEnd x) v s b = s .known
 
 -- ---- an accepted message
 
@@ -48,45 +39,24 @@ seen-known (blinderEnd x) v s b = s .known
 abbrev Fit : Step → Effect Session → Message → Type 0
 Fit k f a = Messages (termsIn (f .session)) (kindsSent (facing (roleOf k))) (a .residues ∷ [])
 
-no-message : {A : Type 0} {a : Message} → [] ≡ a ∷ [] → A
-no-message e = absurd (let z : _≡_ {A = ℕ} 0 1 = cc in omega arith)
-
-no-product : {A : Type 0} → system ≡ product → A
-no-product e = absurd (let z : _≡_ {A = ℕ} 0 1 = cc in omega arith)
-
-the-message : {a b : Message} → _≡_ {A = List Message} (a ∷ []) (b ∷ []) → a ≡ b
-the-message e = cc
-
-first-fit : (t : Terms) (k : First) (s : Slot) (u : List ℕ) (f : Effect Session) (a : Message) → runFirst t k s u ≡ done f → takenFirst k ≡ a ∷ [] → sortOf (roleFirst k) ≡ product
-    → Fit (begins t k) f a
-unfolding runFirst leftEffect
-first-fit t (right-first y room) s u f a h e p = no-message e
-first-fit t (left-only x words m room shareRoom) s u f a h e p =
-    let i = of-any (λ (z : Unit). leftEnd t) _ h in
-    let o = tests.left-step t s x words m room shareRoom .means (i .1) in
-    subst₂ (λ (f : Effect Session) (a : Message). Fit (begins t (left-only x words m room shareRoom)) f a) (ap (asAny (λ (z : Unit). leftEnd t)) (o .1) ∙ i .2) (the-message e)
-    (o .0 .message .residues before no-more)
-first-fit t (solver-first l x room) s u f a h e p = no-product p
-first-fit t (blinder-first mm y words m room) s u f a h e p = no-product p
-
-later-fit : (k : Later) (x : Session) (s : Slot) (u : List ℕ) (f : Effect Session) (a : Message) → runLater k x s u ≡ done f → takenLater k ≡ a ∷ [] → sortOf (roleLater k) ≡ product
-    → Fit (goes-on k) f a
-unfolding runLater rightLastEffect
-later-fit (right-last m room) x s u f a h e p =
-    let i = of-any rightEnd _ h in
-    let o = tests.right-last (asRight x) s m room .means (i .1) in
-    subst₂ (λ (f : Effect Session) (a : Message). Fit (goes-on (right-last m room)) f a) (ap (asAny rightEnd) (o .1) ∙ i .2) (the-message e) (o .0 .message .residues before no-more)
-later-fit (solver-second m room) x s u f a h e p = no-product p
-later-fit (solver-last m room) x s u f a h e p = no-product p
-later-fit (blinder-second m room) x s u f a h e p = no-product p
-later-fit (blinder-last m room) x s u f a h e p = no-product p
-later-fit right-drop x s u f a h e p = no-message e
-later-fit solver-drop x s u f a h e p = no-message e
-later-fit blinder-drop x s u f a h e p = no-message e
+heard-fit : (r : Row) (t : Terms) (ms : List Message) (a : Message) → Hears r t ms → ms ≡ a ∷ [] → sortOf (r .role) ≡ product
+    → Messages t (kindsSent (facing (r .role))) (a .residues ∷ [])
+heard-fit r t [] a h e p = absurd (let z : _≡_ {A = ℕ} 0 1 = cc in omega arith)
+heard-fit r t (m ∷ ms) a h e p =
+    subst₂ (λ (ks : List ℕ) (m : Message). Messages t ks (m .residues ∷ [])) (sym (h .1 p)) (the-message e) (h .0 .residues before no-more)
+  where
+    the-message : m ∷ ms ≡ a ∷ [] → m ≡ a
+    the-message e = cc
 
 taken-fit : (k : Step) (x : Session) (s : Slot) (u : List ℕ) (f : Effect Session) (a : Message) → runStep k x s u ≡ done f → takenBy k ≡ a ∷ [] → sortOf (roleOf k) ≡ product → Fit k f a
-taken-fit (begins t k) x s u f a h e p = first-fit t k s u f a h e p
-taken-fit (goes-on k) x s u f a h e p = later-fit k x s u f a h e p
+taken-fit (begins t k) x s u f a h e p =
+    let g = begins-sound t k s u f h in
+    subst (λ (t : Terms). Messages t (kindsSent (facing (roleFirst k))) (a .residues ∷ [])) (sym (g .terms-are))
+    (heard-fit (firstRow k) t (takenFirst k) a (g .heard) e p)
+taken-fit (goes-on k) x s u f a h e p =
+    let g = continues-sound k x s u f h in
+    subst (λ (t : Terms). Messages t (kindsSent (facing (roleLater k))) (a .residues ∷ [])) (sym (g .terms-are))
+    (heard-fit (laterRow k) (termsIn x) (takenLater k) a (g .heard) e p)
 
 -- the same message fits other terms with that tape
 resized : (t t′ : Terms) (kind : ℕ) (l : List ℕ) → t .q ≡ t′ .q → t .m ≡ t′ .m → t .k ≡ t′ .k → t .p ≡ t′ .p → Residues (t .q) (messageSize kind t) l
@@ -115,8 +85,8 @@ one-received left e no-more = omega arith
 one-received left e (r before no-more) = omega arith
 one-received right e no-more = omega arith
 one-received right e (r before no-more) = omega arith
-one-received blinder e m = no-product e
-one-received solver e m = no-product e
+one-received blinder e m = in-system e
+one-received solver e m = in-system e
 
 -- ---- after every list
 
@@ -173,7 +143,7 @@ module _ (size : Party → ℕ) (start : Party → List ℕ) (empty : Empty size
         sent-fit = subst (λ (t : Terms). Messages t (kindsSent role) (a .residues ∷ [])) (sym (known n b .terms-are)) (same-tape (c .step .name) n (o .0) b (c .same-tape) f);
         received-fit = k .received-fit;
         in-turn = one-received role (c .in-product) (k .received-fit);
-        kept = λ y. no-product (sym y ∙ c .in-product);
+        kept = λ y. in-system (sym y ∙ c .in-product);
       }
 
   pub stands-secret : (n : ℕ) → isBegun (st .sessions n) ≡ true → (v : View) → Stands l (view l n) v → Secret v

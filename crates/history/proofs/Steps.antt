@@ -1,222 +1,411 @@
--- What an accepted step or drop needs and leaves, whatever its kind: the only facts about steps that the bookkeeping uses.
---   of-any                    an accepted outcome, as that of the end's own step
---   Begins, begins-sound      first steps
---   Continues, continues-sound   later steps and drops
---   blinder-begins            a blinder's first step
+-- The laws of every step and drop, with a clause for each, here alone. All else goes by the table of steps (specs/Ends) and by these laws; only what the
+-- solver's last step answers is read off its definition once more (Results).
+--   FirstLaw, first-law       a first step's needs and effect: it is accepted exactly where they are met, what is known of it then, what it makes of the view,
+--                             and that an end that keeps to the rules meets them
+--   LaterLaw, later-law       the same of a later step or a drop
+--   begins-sound, continues-sound, first-seen, later-seen, first-goes, later-goes   the laws, of any step
+--   step-sends, step-ends     what it sends, and whether it ends its session
 -- Assumes nothing.
-use mathlib.Core.Path.{_≡_, refl, sym, ap, _∙_, subst}
-use mathlib.Core.Logic.{_⊎_, inl, inr}
-use mathlib.Core.Bool.{true}
-use mathlib.Core.List.{List, []}
-use Prim.Native.Nat.{ℕ, zero, suc, _<_}
+use mathlib.Core.Path.{_≡_, refl, sym, ap, _∙_, subst, subst₂}
+use mathlib.Core.Logic.{_⊎_, inl, inr, _↔_}
+use mathlib.Core.Bool.{Bool, true, false}
+use mathlib.Core.List.{List, [], _∷_, _++_}
+use Prim.Native.Nat.{ℕ, zero, suc, _*_}
 use native.Mathlib.Omega.{arith}
 use lib.ListN.{length}
-use Rattle.algebra.specs.Matrix.{zeros}
+use Rattle.algebra.specs.Matrix.{zeros, matMul}
+use Rattle.algebra.specs.Count.{part}
+use Rattle.algebra.specs.Elimination.{regular}
+use Rattle.algebra.proofs.Lists.{residues-none}
 use Rattle.protocol.specs.declared.Terms.{Terms}
-use Rattle.protocol.specs.Judge.{refused, done}
-use Rattle.protocol.specs.Tape.{Slot, slotWords, Role, left, right, blinder, solver, READY, wordsInUse, wordsSpent}
-use Rattle.protocol.specs.Message.{Message}
-use Rattle.protocol.specs.Step.{Effect, Outcome}
-use Rattle.protocol.specs.Product.{closedRight, rightFirstEffect, leftEffect}
-use Rattle.protocol.specs.System.{closedSolver, closedBlinder, scratchSize, coinsOf, solverFirstEffect, blinderFirstEffect, solverSecondEffect, blinderSecondEffect}
-use Rattle.protocol.proofs.Judge.{refused≢done}
-use Rattle.protocol.proofs.Residues.{residues-drawn}
-use Rattle.protocol.proofs.Tests.{HalfFits, OpenFits, draw-tests}
+use Rattle.protocol.specs.declared.SolverSession.{SolverSession}
+use Rattle.protocol.specs.declared.Answer.the-variants.{Refused}
+use Rattle.protocol.specs.declared.Refusal.the-variants.{Singular}
+use Rattle.protocol.specs.Judge.{done}
+use Rattle.protocol.specs.Bounds.{system, columns}
+use Rattle.protocol.specs.Tape.{Slot, slotWords, Role, left, right, blinder, solver, sortOf, wordsSpent, matrices, READY, IN-USE}
+use Rattle.protocol.specs.Message.{Message, noMessage, messageSize, messageParts}
+use Rattle.protocol.specs.Step.{Effect}
+use Rattle.protocol.specs.Product.{closedRight, rightFirstEffect, leftEffect, rightLastEffect}
+use Rattle.protocol.specs.System.{closedSolver, closedBlinder, sideSize, scratchSize, scratchParts, coinsOf, jointSum, solverFirstEffect, blinderFirstEffect, solverSecondEffect, blinderSecondEffect, solverLastEffect, blinderLastEffect}
+use Rattle.protocol.specs.Drop.{dropped}
+use Rattle.protocol.specs.View.{View}
+use Rattle.protocol.specs.Completion.{takenTests}
+use Rattle.protocol.proofs.Judge.{passed}
+use Rattle.protocol.proofs.Residues.{input-residues}
+use Rattle.protocol.proofs.Tests.{Decides, TermsFit, OpenFits, MessageFits}
 use Rattle.protocol.proofs.StepTests as tests
-use Rattle.protocol.proofs.Endings.{Ended, left-ends, right-ends, solver-ends, blinder-ends}
-use Rattle.history.specs.Ends.{Session, absent, leftEnd, rightEnd, solverEnd, blinderEnd, isBegun, dueIn, termsIn, roleIn, asRight, asSolver, asBlinder, First, right-first, left-only, solver-first, blinder-first, Later, right-last, solver-second, solver-last, blinder-second, blinder-last, right-drop, solver-drop, blinder-drop, roleFirst, roleLater, asAny, ofAny, runFirst, runLater}
-
--- an accepted outcome, as that of the end's own step
-pub of-any : {S : Type 0} (f : S → Session) (o : Outcome S) {e : Effect Session} → ofAny f o ≡ done e → (e₀ : Effect S) × (o ≡ done e₀) × (asAny f e₀ ≡ e)
-of-any f (refused r) p = absurd (refused≢done p)
-of-any f (done e₀) p = (e₀, refl, cc)
+use Rattle.protocol.proofs.CompletionInputs.{taken-by-right, taken-by-left, taken-by-solver, taken-by-blinder}
+use Rattle.history.specs.Ends.{Session, leftEnd, rightEnd, solverEnd, blinderEnd, isBegun, dueIn, termsIn, roleIn, asRight, asSolver, asBlinder, First, right-first, left-only, solver-first, blinder-first, Later, right-last, solver-second, solver-last, blinder-second, blinder-last, right-drop, solver-drop, blinder-drop, kindOf, roleFirst, roleLater, asAny, runFirst, runLater, Step, begins, goes-on, runStep}
+use Rattle.history.specs.Seen.{takenLater, viewLater, viewFirst}
+use Rattle.history.specs.Claim.{Closes, Ends}
+use Rattle.history.proofs.Replay.{y-sent, x-sent, y1-sent, x1-sent, f-sent, w-sent, t-sent, said-is, incoming-whole, solver-none, blinder-one, right-sends, left-sends, SolverBegan, y1-is, BlinderBegan, x1-is}
+use Rattle.history.specs.Log.{World}
+use Rattle.history.specs.Right.{FairFirst}
+use Rattle.history.proofs.Accepted.{any-decides, firstRow, laterRow, Sends, in-system, Begins, began, coins-drawn, Continues, ownEnd, own-open, own-is, went, Waits}
+use Rattle.history.proofs.Known.{known-with, known-still, s-first, b-first, SeenBy, cut, Gave, half-now, first-known}
+use Rattle.history.proofs.KnownOn.{quiet, closed-solver, closed-blinder, open-short, drop-view, right-any, f-stage, t-stage, w-stage, z-stage}
+use Rattle.history.proofs.Needs.{Handed, FairBy, in-time, drop-needs, solver-needs, Coins, long-enough, blinder-needs}
+use Rattle.algebra.specs.Product.{rightShare}
+use Rattle.protocol.proofs.Completion.{no-more, _before_}
+use Rattle.protocol.proofs.Halves.{Holding, first-fits}
+use Rattle.protocol.proofs.CompletionSystem.{taken-pair}
 
 -- ---- first steps
 
--- the slot's words, by the turn that is due afterwards
-abbrev pub leaveFirst : ℕ → Role → Terms → Slot → List ℕ
-leaveFirst zero role t s = wordsSpent role t (slotWords s)
-leaveFirst (suc _) role t s = wordsInUse (slotWords s)
+pub record FirstLaw (t : Terms) (k : First) (s : Slot) (u : List ℕ) : Type 1 where
+  pub Needs : Type 0
+  pub effect : Effect Session
+  pub decides : Decides (runFirst t k s u) effect Needs
+  pub known : Needs → Begins t k s effect
+  pub seen : (ls : List (List ℕ)) → matrices (roleFirst k) t (slotWords s) ≡ ls → (roleFirst k ≡ blinder → regular (t .q) (t .m) (part 2 ls) ≡ true) → Needs
+      → Begins t k s effect → SeenBy (effect .session) (viewFirst t k ls effect) × Gave (firstRow k) t (effect .result) (viewFirst t k ls effect)
+  pub met : (o : World) → Handed o → {ls : List (List ℕ)} → TermsFit (sortOf (roleFirst k)) t → Holding (roleFirst k) READY t ls s
+      → FairFirst o t k (length u) → Needs
 
--- what a first step keeps in the scratch: P, then U0 of a blinder
-abbrev pub coinsFirst : Terms → First → List ℕ
-coinsFirst t (right-first y room) = []
-coinsFirst t (left-only x words a room shareRoom) = []
-coinsFirst t (solver-first l x room) = []
-coinsFirst t (blinder-first mm y words a room) = coinsOf t words
-
-pub record Begins (t : Terms) (k : First) (s : Slot) (e : Effect Session) : Type 0 where
-  pub is-begun : isBegun (e .session) ≡ true
-  pub role-is : roleIn (e .session) ≡ roleFirst k
-  pub terms-are : termsIn (e .session) ≡ t
-  pub half : HalfFits (roleFirst k) READY t s
-  pub wrote : e .slot ≡ leaveFirst (dueIn (e .session)) (roleFirst k) t s
-  pub laid : e .scratch ≡ coinsFirst t k
+pub first-law : (t : Terms) (k : First) (s : Slot) (u : List ℕ) → FirstLaw t k s u
+unfolding runFirst rightFirstEffect leftEffect solverFirstEffect blinderFirstEffect coinsOf scratchSize scratchParts
+first-law t (right-first y room) s u =
+    let d = tests.right-first t s y room in
+    record {
+      Needs = tests.RightFirstFits t s y room;
+      effect = asAny rightEnd (rightFirstEffect t s y);
+      decides = any-decides rightEnd d;
+      known = λ n.
+          began refl refl (inr (omega arith)) (n .first) (taken-by-right t s y room (d .accepts n)) residues-none refl refl
+          (inr (y-sent t s y (n .first .terms)));
+      seen = λ ls e rq n g.
+          let m = y-sent t s y (n .first .terms) in (
+            record {
+              known = first-known t _ s ls e g rq m (sym (right-sends t ls s y room n e [])) (m .residues before no-more) no-more (omega arith);
+              one-sent = ap length (said-is m);
+              waits = λ z. refl;
+            },
+            (refl, omega arith),
+          );
+      met = λ o handed terms held f. record {
+        first = first-fits held terms;
+        y-fits = input-residues (t .q) (t .k * t .p) y (passed (takenTests right t (y ∷ [])) (f .0) .0);
+        message-room = f .1;
+      };
+    }
+first-law t (left-only x words a room shareRoom) s u =
+    let d = tests.left-step t s x words a room shareRoom in
+    record {
+      Needs = tests.LeftFits t s x words a room shareRoom;
+      effect = asAny (λ (z : Unit). leftEnd t) (leftEffect t s x words a);
+      decides = any-decides (λ (z : Unit). leftEnd t) d;
+      known = λ n.
+          began refl refl (inl refl) (n .first) (taken-by-left t s x words a room shareRoom (d .accepts n))
+          (coins-drawn t (t .m * t .p) words (n .first .terms) (n .enough)) refl (n .message, λ p. refl) (inr (x-sent t s x words a (n .first .terms)));
+      seen = λ ls e rq n g.
+          let m = x-sent t s x words a (n .first .terms) in (
+            first-known t _ s ls e g rq m (sym (left-sends t ls s x words a room shareRoom n e (g .drew))) (m .residues before no-more)
+                (n .message .residues before no-more) (omega arith),
+            (refl, refl),
+          );
+      met = λ o handed terms held f. record {
+        first = first-fits held terms;
+        message = handed left t 1 a (omega arith) (f .1);
+        x-fits = input-residues (t .q) (t .m * t .k) x (passed (takenTests left t (x ∷ [])) (f .0) .0);
+        message-room = f .2;
+        share-room = f .3;
+        enough = f .4;
+      };
+    }
+first-law t (solver-first l x room) s u =
+    let d = tests.solver-first t s l x room in
+    record {
+      Needs = tests.SolverFirstFits t s l x room;
+      effect = asAny solverEnd (solverFirstEffect t s l x);
+      decides = any-decides solverEnd d;
+      known = λ n.
+          began refl refl (inr (omega arith)) (n .first) (taken-by-solver t s l x room (d .accepts n)) residues-none refl refl
+          (inr (y1-sent t s l x (n .first .terms)));
+      seen = λ ls e rq n g.
+          let m = y1-sent t s l x (n .first .terms) in
+          let b : SolverBegan t ls l x = record {
+            terms = n .first .terms;
+            fits = half-now t _ s ls e g;
+            l-fits = n .l-fits;
+            x-fits = n .x-fits;
+            l-regular = n .l-regular;
+          } in (
+            record {
+              known = first-known t _ s ls e g rq m (ap (λ (m : Message). m .residues ∷ []) (y1-is t ls l x b s e) ∙ sym (solver-none t ls l x b))
+                  (m .residues before no-more) no-more (omega arith);
+              l = l;
+              x = x;
+              input-is = refl;
+              began = b;
+              stage = s-first refl refl;
+            },
+            (refl, tt),
+          );
+      met = λ o handed terms held f.
+          let i = taken-pair t (l ∷ x ∷ []) (f .0) in
+          record { first = first-fits held terms; l-fits = i .matrix; x-fits = i .side; message-room = f .1; l-regular = i .inverse };
+    }
+first-law t (blinder-first mm y words a room) s u =
+    let d = tests.blinder-first t s (length u) mm y words a room in
+    record {
+      Needs = tests.BlinderFirstFits t s (length u) mm y words a room;
+      effect = asAny blinderEnd (blinderFirstEffect t s mm y words a);
+      decides = any-decides blinderEnd d;
+      known = λ n.
+          began refl refl (inr (omega arith)) (n .first) (taken-by-blinder t s (length u) mm y words a room (d .accepts n))
+          (coins-drawn t (scratchSize t) words (n .first .terms) (n .enough)) (n .p-regular) (n .message, λ p. in-system p)
+          (inr (x1-sent t s mm y words a (n .first .terms)));
+      seen = λ ls e rq n g.
+          let m = x1-sent t s mm y words a (n .first .terms) in
+          let rm = n .message .residues in
+          let b : BlinderBegan t ls mm y (coinsOf t words) = record {
+            terms = n .first .terms;
+            fits = half-now t _ s ls e g;
+            m-fits = n .m-fits;
+            y-fits = n .y-fits;
+            m-regular = n .m-regular;
+            coins-fit = g .drew;
+            p-regular = n .p-regular;
+          } in (
+            record {
+              known = first-known t _ s ls e g rq m
+                  (ap (λ (b : Message). b .residues ∷ []) (x1-is t ls mm y (coinsOf t words) b (a .residues) rm s words a (incoming-whole (n .message)) e refl)
+                  ∙ sym (blinder-one t ls mm y (coinsOf t words) b (a .residues) rm))
+                  (m .residues before no-more) (rm before no-more) (omega arith);
+              mm = mm;
+              y = y;
+              input-is = refl;
+              began = b;
+              stage = b-first (a .residues) rm refl refl;
+            },
+            (refl, omega arith),
+          );
+      met = λ o handed terms held f.
+          let i = taken-pair t (mm ∷ y ∷ []) (f .0) in
+          record {
+            first = first-fits held terms;
+            message = handed blinder t 1 a (omega arith) (f .1);
+            m-fits = i .matrix;
+            y-fits = i .side;
+            scratch-room = f .3;
+            message-room = f .2;
+            enough = f .4;
+            m-regular = i .inverse;
+            p-regular = f .5;
+          };
+    }
 
 pub begins-sound : (t : Terms) (k : First) (s : Slot) (u : List ℕ) (e : Effect Session) → runFirst t k s u ≡ done e → Begins t k s e
-unfolding runFirst rightFirstEffect leftEffect solverFirstEffect blinderFirstEffect
-begins-sound t (right-first y room) s u e h =
-    let a = of-any rightEnd _ h in
-    let o = tests.right-first t s y room .means (a .1) in
-    subst (λ z. Begins t (right-first y room) s z) (ap (asAny rightEnd) (o .1) ∙ a .2)
-    (record { is-begun = refl; role-is = refl; terms-are = refl; half = o .0 .first .half; wrote = refl; laid = refl })
-begins-sound t (left-only x words m room shareRoom) s u e h =
-    let a = of-any (λ (z : Unit). leftEnd t) _ h in
-    let o = tests.left-step t s x words m room shareRoom .means (a .1) in
-    subst (λ z. Begins t (left-only x words m room shareRoom) s z) (ap (asAny (λ (z : Unit). leftEnd t)) (o .1) ∙ a .2)
-    (record { is-begun = refl; role-is = refl; terms-are = refl; half = o .0 .first .half; wrote = left-ends t s x words m .slot-is; laid = left-ends t s x words m .scratch-is })
-begins-sound t (solver-first l x room) s u e h =
-    let a = of-any solverEnd _ h in
-    let o = tests.solver-first t s l x room .means (a .1) in
-    subst (λ z. Begins t (solver-first l x room) s z) (ap (asAny solverEnd) (o .1) ∙ a .2)
-    (record { is-begun = refl; role-is = refl; terms-are = refl; half = o .0 .first .half; wrote = refl; laid = refl })
-begins-sound t (blinder-first mm y words m room) s u e h =
-    let a = of-any blinderEnd _ h in
-    let o = tests.blinder-first t s (length u) mm y words m room .means (a .1) in
-    subst (λ z. Begins t (blinder-first mm y words m room) s z) (ap (asAny blinderEnd) (o .1) ∙ a .2)
-    (record { is-begun = refl; role-is = refl; terms-are = refl; half = o .0 .first .half; wrote = refl; laid = refl })
+begins-sound t k s u e h =
+    let law = first-law t k s u in
+    let m = law .decides .means h in
+    subst (Begins t k s) (m .1) (law .known (m .0))
+
+pub first-seen : (t : Terms) (k : First) (s : Slot) (u : List ℕ) (f : Effect Session) (ls : List (List ℕ)) → runFirst t k s u ≡ done f
+    → matrices (roleFirst k) t (slotWords s) ≡ ls → (roleFirst k ≡ blinder → regular (t .q) (t .m) (part 2 ls) ≡ true)
+    → SeenBy (f .session) (viewFirst t k ls f) × Gave (firstRow k) t (f .result) (viewFirst t k ls f)
+first-seen t k s u f ls h e rq =
+    let law = first-law t k s u in
+    let m = law .decides .means h in
+    subst (λ (f : Effect Session). SeenBy (f .session) (viewFirst t k ls f) × Gave (firstRow k) t (f .result) (viewFirst t k ls f)) (m .1)
+    (law .seen ls e rq (m .0) (law .known (m .0)))
+
+pub first-goes : (o : World) → Handed o → (t : Terms) (k : First) (s : Slot) (u : List ℕ) {ls : List (List ℕ)} → TermsFit (sortOf (roleFirst k)) t
+    → Holding (roleFirst k) READY t ls s → FairFirst o t k (length u) → (f : Effect Session) × (runFirst t k s u ≡ done f)
+first-goes o handed t k s u terms held f = let law = first-law t k s u in (law .effect, law .decides .accepts (law .met o handed terms held f))
 
 -- ---- later steps and drops
 
--- the slot's words, by the turn that is due afterwards
-abbrev pub leaveLater : ℕ → Role → Terms → Slot → List ℕ
-leaveLater zero role t s = wordsSpent role t (slotWords s)
-leaveLater (suc _) role t s = slotWords s
+-- t, or nothing where W + V is singular
+t-sends : (y : SolverSession) (s : Slot) (m : Message) → TermsFit system (y .terms) → (b : Bool) → regular (y .terms .q) (y .terms .m) (jointSum y s m) ≡ b
+    → let e = solverLastEffect y s m in
+    ((e .sent ≡ noMessage) × ((_≡_ {A = ℕ} 5 0) ⊎ (e .answer ≡ Refused Singular))) ⊎ MessageFits 5 (y .terms) (e .sent)
+t-sends y s m t true e = inr (t-sent y s m t e)
+t-sends y s m t false e = inl (unfold solverLastEffect in (rw e, inr (rw e)))
 
--- what is written over the scratch
-abbrev pub wipeScratch : ℕ → Role → Terms → List ℕ
-wipeScratch zero left t = []
-wipeScratch zero right t = []
-wipeScratch zero blinder t = zeros (scratchSize t)
-wipeScratch zero solver t = []
-wipeScratch (suc _) role t = []
+-- y: the session, as its own end's
+pub record LaterLaw (k : Later) (x : Session) (s : Slot) (u : List ℕ) (y : Session) : Type 1 where
+  pub waits : Waits (laterRow k .takes) (takenLater k)
+  pub Needs : Type 0
+  pub effect : Effect Session
+  pub decides : Decides (runLater k x s u) effect Needs
+  pub known : Needs → Continues k y s effect
+  pub seen : (v : View) → SeenBy y v → matrices (roleLater k) (termsIn y) (slotWords s) ≡ v .half
+      → (roleLater k ≡ blinder → scratchParts (termsIn y) u ≡ scratchParts (termsIn y) (v .coins)) → Needs
+      → SeenBy (effect .session) (viewLater v k effect) × Gave (laterRow k) (termsIn y) (effect .result) (viewLater v k effect)
+  pub met : (v : View) (ls : List (List ℕ)) → SeenBy y v → Holding (roleLater k) IN-USE (termsIn y) ls s → (roleLater k ≡ blinder → Coins v u) → FairBy y k
+      → Needs
 
--- a later step is made while its message is due, and a drop leaves none due
-abbrev pub InTurn : Later → (due due′ : ℕ) → Type 0
-InTurn (right-last a room) due due′ = due ≡ 2
-InTurn (solver-second a room) due due′ = due ≡ 2
-InTurn (solver-last a room) due due′ = due ≡ 4
-InTurn (blinder-second a room) due due′ = due ≡ 3
-InTurn (blinder-last a room) due due′ = due ≡ 5
-InTurn right-drop due due′ = due′ ≡ 0
-InTurn solver-drop due due′ = due′ ≡ 0
-InTurn blinder-drop due due′ = due′ ≡ 0
-
-pub record Continues (k : Later) (x : Session) (s : Slot) (e : Effect Session) : Type 0 where
-  pub was-begun : isBegun x ≡ true
-  pub role-was : roleIn x ≡ roleLater k
-  pub session-open : OpenFits (roleLater k) (dueIn x) (termsIn x) s
-  pub is-begun : isBegun (e .session) ≡ true
-  pub role-is : roleIn (e .session) ≡ roleIn x
-  pub terms-are : termsIn (e .session) ≡ termsIn x
-  pub moved : (dueIn (e .session) ≡ 0) ⊎ (dueIn x < dueIn (e .session))
-  pub in-turn : InTurn k (dueIn x) (dueIn (e .session))
-  pub wrote : e .slot ≡ leaveLater (dueIn (e .session)) (roleIn x) (termsIn x) s
-  pub cleared : e .scratch ≡ wipeScratch (dueIn (e .session)) (roleIn x) (termsIn x)
-
--- a session that is open for its end is one of this end
-pub is-right : (x : Session) → 0 < asRight x .due → rightEnd (asRight x) ≡ x
-is-right absent h = absurd (omega arith)
-is-right (leftEnd t) h = absurd (omega arith)
-is-right (rightEnd x) h = refl
-is-right (solverEnd x) h = absurd (omega arith)
-is-right (blinderEnd x) h = absurd (omega arith)
-
-pub is-solver : (x : Session) → 0 < asSolver x .due → solverEnd (asSolver x) ≡ x
-is-solver absent h = absurd (omega arith)
-is-solver (leftEnd t) h = absurd (omega arith)
-is-solver (rightEnd x) h = absurd (omega arith)
-is-solver (solverEnd x) h = refl
-is-solver (blinderEnd x) h = absurd (omega arith)
-
-pub is-blinder : (x : Session) → 0 < asBlinder x .due → blinderEnd (asBlinder x) ≡ x
-is-blinder absent h = absurd (omega arith)
-is-blinder (leftEnd t) h = absurd (omega arith)
-is-blinder (rightEnd x) h = absurd (omega arith)
-is-blinder (solverEnd x) h = absurd (omega arith)
-is-blinder (blinderEnd x) h = refl
-
--- the session that the call names is the end's own, and the effect is the step's
-carried : (k : Later) {x x′ : Session} (s : Slot) {e e′ : Effect Session} → x′ ≡ x → e′ ≡ e → Continues k x′ s e′ → Continues k x s e
-carried k {x} {x′} s {e} {e′} p q c = subst (λ (z : Effect Session). Continues k x s z) q (subst (λ (z : Session). Continues k z s e′) p c)
-
--- what ends a session
-ended-continues : {S : Type 0} (g : S → Session) (k : Later) (x closed : S) (s : Slot) (e : Effect S) → OpenFits (roleLater k) (dueIn (g x)) (termsIn (g x)) s
-    → isBegun (g x) ≡ true → roleIn (g x) ≡ roleLater k → isBegun (g closed) ≡ true → roleIn (g closed) ≡ roleIn (g x) → termsIn (g closed) ≡ termsIn (g x) → dueIn (g closed) ≡ 0
-    → ((due′ : ℕ) → due′ ≡ 0 → InTurn k (dueIn (g x)) due′)
-    → Ended closed (wordsSpent (roleIn (g x)) (termsIn (g x)) (slotWords s)) (wipeScratch 0 (roleIn (g x)) (termsIn (g x))) e → Continues k (g x) s (asAny g e)
-ended-continues {S} g k x closed s e f b r b′ r′ t d turn n =
-    let due : dueIn (g (e .session)) ≡ 0 = ap (λ (z : S). dueIn (g z)) (n .session-is) ∙ d in
+pub later-law : (k : Later) (x : Session) (s : Slot) (u : List ℕ) → LaterLaw k x s u (ownEnd (roleLater k) x)
+unfolding runLater rightLastEffect solverSecondEffect solverLastEffect blinderSecondEffect blinderLastEffect messageParts
+later-law (right-last m room) x s u =
+    let t = asRight x .terms in
     record {
-      was-begun = b;
-      role-was = r;
-      session-open = f;
-      is-begun = ap (λ (z : S). isBegun (g z)) (n .session-is) ∙ b′;
-      role-is = ap (λ (z : S). roleIn (g z)) (n .session-is) ∙ r′;
-      terms-are = ap (λ (z : S). termsIn (g z)) (n .session-is) ∙ t;
-      moved = inl due;
-      in-turn = turn _ due;
-      wrote = n .slot-is ∙ ap (λ (d : ℕ). leaveLater d (roleIn (g x)) (termsIn (g x)) s) (sym due);
-      cleared = n .scratch-is ∙ ap (λ (d : ℕ). wipeScratch d (roleIn (g x)) (termsIn (g x))) (sym due);
+      waits = omega arith;
+      Needs = tests.RightLastFits (asRight x) s m room;
+      effect = asAny rightEnd (rightLastEffect (asRight x) s m);
+      decides = any-decides rightEnd (tests.right-last (asRight x) s m room);
+      known = λ n. went x refl (n .later .session-open) (n .later .due-is, inl refl) (n .message, λ p. refl) (inl (refl, inl refl));
+      seen = λ v sn e c n.
+          let w = n .later .session-open .is-open in
+          let got : v .received ++ (m .residues ∷ []) ≡ m .residues ∷ [] = ap (λ (z : List (List ℕ)). z ++ (m .residues ∷ [])) (sn .waits w) in (
+            record {
+              known = known-with (sn .known) (v .sent) (m .residues ∷ []) (quiet (v .sent)) got (sn .known .sent-is ∙ right-any _ _ _ _ _) (sn .known .sent-fit)
+                  (n .message .residues before no-more) (omega (arith, sn .one-sent));
+              one-sent = ap length (quiet (v .sent)) ∙ sn .one-sent;
+              waits = λ z. absurd (omega (arith, z));
+            },
+            (
+              refl,
+              m .residues,
+              got,
+              ap (λ (ls : List (List ℕ)). rightShare (t .q) (t .m) (t .k) (t .p) (part 0 (cut 2 t (m .residues))) (part 0 ls)
+                  (part 1 (cut 2 t (m .residues))) (part 1 ls)) e,
+            ),
+          );
+      met = λ v ls sn held b f. record {
+        later = in-time 2 (asRight x .due) held (sn .known .terms-fit) (f .0) (omega arith);
+        message = f .1;
+        share-room = f .2;
+      };
+    }
+later-law (solver-second m room) x s u = record {
+  waits = omega arith;
+  Needs = tests.SolverFits 2 (asSolver x) s m (messageSize 3 (asSolver x .terms)) room;
+  effect = asAny solverEnd (solverSecondEffect (asSolver x) s m);
+  decides = any-decides solverEnd (tests.solver-second (asSolver x) s m room);
+  known = λ n.
+      went x refl (n .later .session-open) (n .later .due-is, inr (omega arith)) (n .message, λ p. in-system p)
+      (inr (f-sent (asSolver x) s m (n .later .session-open .terms)));
+  seen = λ v sn e c n. (f-stage (asSolver x) v s m room sn n e (sn .stage), (refl, tt));
+  met = λ v ls sn held b f. solver-needs v s ls 2 m _ room (asSolver x) sn held (omega arith) f;
+}
+later-law (solver-last m room) x s u = record {
+  waits = omega arith;
+  Needs = tests.SolverFits 4 (asSolver x) s m (messageSize 5 (asSolver x .terms)) room;
+  effect = asAny solverEnd (solverLastEffect (asSolver x) s m);
+  decides = any-decides solverEnd (tests.solver-last (asSolver x) s m room);
+  known = λ n.
+      went x refl (n .later .session-open) (n .later .due-is, inl refl) (n .message, λ p. in-system p)
+      (t-sends (asSolver x) s m (n .later .session-open .terms) _ refl);
+  seen = λ v sn e c n. (closed-solver sn (t-stage (asSolver x) v s m room sn n e _ refl (sn .stage)), (refl, tt));
+  met = λ v ls sn held b f. solver-needs v s ls 4 m _ room (asSolver x) sn held (omega arith) f;
+}
+later-law (blinder-second m room) x s u = record {
+  waits = omega arith;
+  Needs = tests.BlinderFits 3 (asBlinder x) s u m (messageSize 4 (asBlinder x .terms)) room;
+  effect = asAny blinderEnd (blinderSecondEffect (asBlinder x) s u m);
+  decides = any-decides blinderEnd (tests.blinder-second (asBlinder x) s u m room);
+  known = λ n.
+      went x refl (n .later .session-open) (n .later .due-is, inr (omega arith)) (n .message, λ p. in-system p)
+      (inr (w-sent (asBlinder x) s u m (n .later .session-open .terms)));
+  seen = λ v sn e c n.
+      let w = w-stage (asBlinder x) v s u m room sn n e (c refl) (sn .stage) in
+      (w, (refl, open-short _ (w .stage) (omega arith)));
+  met = λ v ls sn held b f. blinder-needs v u (b refl) s ls 3 m _ room (asBlinder x) sn held (omega arith) f;
+}
+later-law (blinder-last m room) x s u =
+    let t = asBlinder x .terms in
+    record {
+      waits = omega arith;
+      Needs = tests.BlinderFits 5 (asBlinder x) s u m (sideSize (asBlinder x .terms)) room;
+      effect = asAny blinderEnd (blinderLastEffect (asBlinder x) s u m);
+      decides = any-decides blinderEnd (tests.blinder-last (asBlinder x) s u m room);
+      known = λ n. went x refl (n .later .session-open) (n .later .due-is, inl refl) (n .message, λ p. in-system p) (inl (refl, inl refl));
+      seen = λ v sn e c n.
+          let w = z-stage (asBlinder x) v m sn (n .later .due-is) (n .message) (sn .stage) in (
+            closed-blinder sn (known-still (w .3) (quiet (v .sent)) refl),
+            (
+              refl,
+              w .0,
+              w .1,
+              m .residues,
+              ap (λ (z : List (List ℕ)). z ++ (m .residues ∷ [])) (w .2),
+              ap (λ (ls : List (List ℕ)). matMul (t .q) (t .m) (t .m) (columns (t .m) (t .p)) (part 2 ls) (part 0 (cut 5 t (m .residues)))) e,
+            ),
+          );
+      met = λ v ls sn held b f. blinder-needs v u (b refl) s ls 5 m _ room (asBlinder x) sn held (omega arith) f;
+    }
+later-law right-drop x s u = record {
+  waits = refl;
+  Needs = OpenFits right (asRight x .due) (asRight x .terms) s;
+  effect = asAny rightEnd (dropped (closedRight (asRight x)) (wordsSpent right (asRight x .terms) (slotWords s)) []);
+  decides = any-decides rightEnd (tests.drop-right (asRight x) s);
+  known = λ n. went x refl n refl refl (inl (refl, inl refl));
+  seen = λ v sn e c n. drop-view (rightEnd (asRight x)) v sn (n .is-open);
+  met = λ v ls sn held b f. drop-needs held (sn .known .terms-fit) f;
+}
+later-law solver-drop x s u = record {
+  waits = refl;
+  Needs = OpenFits solver (asSolver x .due) (asSolver x .terms) s;
+  effect = asAny solverEnd (dropped (closedSolver (asSolver x)) (wordsSpent solver (asSolver x .terms) (slotWords s)) []);
+  decides = any-decides solverEnd (tests.drop-solver (asSolver x) s);
+  known = λ n. went x refl n refl refl (inl (refl, inl refl));
+  seen = λ v sn e c n. drop-view (solverEnd (asSolver x)) v sn (n .is-open);
+  met = λ v ls sn held b f. drop-needs held (sn .known .terms-fit) f;
+}
+later-law blinder-drop x s u =
+    let t = asBlinder x .terms in
+    record {
+      waits = refl;
+      Needs = tests.DropBlinderFits (asBlinder x) s u;
+      effect = asAny blinderEnd (dropped (closedBlinder (asBlinder x)) (wordsSpent blinder t (slotWords s)) (zeros (scratchSize t)));
+      decides = any-decides blinderEnd (tests.drop-blinder (asBlinder x) s u);
+      known = λ n. went x refl (n .session-open) refl refl (inl (refl, inl refl));
+      seen = λ v sn e c n. drop-view (blinderEnd (asBlinder x)) v sn (n .session-open .is-open);
+      met = λ v ls sn held b f. record { session-open = drop-needs held (sn .known .terms-fit) f; scratch-room = long-enough v u (b refl) (asBlinder x) sn };
     }
 
+-- an accepted one: its needs were met, its effect is the definition's, and the session that it was called for is its own end's
+taken-up : (k : Later) (x : Session) (s : Slot) (u : List ℕ) {e : Effect Session} → runLater k x s u ≡ done e
+    → later-law k x s u .Needs × (later-law k x s u .effect ≡ e) × (ownEnd (roleLater k) x ≡ x)
+taken-up k x s u h =
+    let law = later-law k x s u in
+    let m = law .decides .means h in
+    (m .0, m .1, own-open (roleLater k) x (law .known (m .0) .session-open .is-open))
+
 pub continues-sound : (k : Later) (x : Session) (s : Slot) (u : List ℕ) (e : Effect Session) → runLater k x s u ≡ done e → Continues k x s e
-unfolding runLater solverSecondEffect blinderSecondEffect
-continues-sound (right-last m room) x s u e h =
-    let a = of-any rightEnd _ h in
-    let o = tests.right-last (asRight x) s m room .means (a .1) in
-    let f = o .0 .later .session-open in
-    carried (right-last m room) s (is-right x (f .is-open)) (ap (asAny rightEnd) (o .1) ∙ a .2)
-    (ended-continues rightEnd (right-last m room) (asRight x) (closedRight (asRight x)) s _ f refl refl refl refl refl refl (λ d z. o .0 .later .due-is) (right-ends (asRight x) s m))
-continues-sound (solver-second m room) x s u e h =
-    let a = of-any solverEnd _ h in
-    let o = tests.solver-second (asSolver x) s m room .means (a .1) in
-    let f = o .0 .later .session-open in
-    carried (solver-second m room) s (is-solver x (f .is-open)) (ap (asAny solverEnd) (o .1) ∙ a .2)
-    (record { was-begun = refl; role-was = refl; session-open = f; is-begun = refl; role-is = refl; terms-are = refl; moved = inr (omega (arith, o .0 .later .due-is)); in-turn = o .0 .later .due-is; wrote = refl; cleared = refl })
-continues-sound (solver-last m room) x s u e h =
-    let a = of-any solverEnd _ h in
-    let o = tests.solver-last (asSolver x) s m room .means (a .1) in
-    let f = o .0 .later .session-open in
-    carried (solver-last m room) s (is-solver x (f .is-open)) (ap (asAny solverEnd) (o .1) ∙ a .2)
-    (ended-continues solverEnd (solver-last m room) (asSolver x) (closedSolver (asSolver x)) s _ f refl refl refl refl refl refl (λ d z. o .0 .later .due-is) (solver-ends (asSolver x) s m))
-continues-sound (blinder-second m room) x s u e h =
-    let a = of-any blinderEnd _ h in
-    let o = tests.blinder-second (asBlinder x) s u m room .means (a .1) in
-    let f = o .0 .later .session-open in
-    carried (blinder-second m room) s (is-blinder x (f .is-open)) (ap (asAny blinderEnd) (o .1) ∙ a .2)
-    (record { was-begun = refl; role-was = refl; session-open = f; is-begun = refl; role-is = refl; terms-are = refl; moved = inr (omega (arith, o .0 .later .due-is)); in-turn = o .0 .later .due-is; wrote = refl; cleared = refl })
-continues-sound (blinder-last m room) x s u e h =
-    let a = of-any blinderEnd _ h in
-    let o = tests.blinder-last (asBlinder x) s u m room .means (a .1) in
-    let f = o .0 .later .session-open in
-    carried (blinder-last m room) s (is-blinder x (f .is-open)) (ap (asAny blinderEnd) (o .1) ∙ a .2)
-    (ended-continues blinderEnd (blinder-last m room) (asBlinder x) (closedBlinder (asBlinder x)) s _ f refl refl refl refl refl refl (λ d z. o .0 .later .due-is) (blinder-ends (asBlinder x) s u m))
-continues-sound right-drop x s u e h =
-    let a = of-any rightEnd _ h in
-    let o = tests.drop-right (asRight x) s .means (a .1) in
-    carried right-drop s (is-right x (o .0 .is-open)) (ap (asAny rightEnd) (o .1) ∙ a .2)
-    (ended-continues rightEnd right-drop (asRight x) (closedRight (asRight x)) s _ (o .0) refl refl refl refl refl refl (λ d z. z) (record { session-is = refl; slot-is = refl; scratch-is = refl }))
-continues-sound solver-drop x s u e h =
-    let a = of-any solverEnd _ h in
-    let o = tests.drop-solver (asSolver x) s .means (a .1) in
-    carried solver-drop s (is-solver x (o .0 .is-open)) (ap (asAny solverEnd) (o .1) ∙ a .2)
-    (ended-continues solverEnd solver-drop (asSolver x) (closedSolver (asSolver x)) s _ (o .0) refl refl refl refl refl refl (λ d z. z) (record { session-is = refl; slot-is = refl; scratch-is = refl }))
-continues-sound blinder-drop x s u e h =
-    let a = of-any blinderEnd _ h in
-    let o = tests.drop-blinder (asBlinder x) s u .means (a .1) in
-    let f = o .0 .session-open in
-    carried blinder-drop s (is-blinder x (f .is-open)) (ap (asAny blinderEnd) (o .1) ∙ a .2)
-    (ended-continues blinderEnd blinder-drop (asBlinder x) (closedBlinder (asBlinder x)) s _ f refl refl refl refl refl refl (λ d z. z) (record { session-is = refl; slot-is = refl; scratch-is = refl }))
+continues-sound k x s u e h =
+    let m = taken-up k x s u h in
+    subst₂ (λ (x : Session) (e : Effect Session). Continues k x s e) (m .2) (m .1) (later-law k x s u .known (m .0))
 
--- ---- a blinder's first step
+pub later-seen : (k : Later) (x : Session) (v : View) (s : Slot) (u : List ℕ) (f : Effect Session) → SeenBy x v → runLater k x s u ≡ done f
+    → matrices (roleIn x) (termsIn x) (slotWords s) ≡ v .half → (roleIn x ≡ blinder → scratchParts (termsIn x) u ≡ scratchParts (termsIn x) (v .coins))
+    → SeenBy (f .session) (viewLater v k f) × Gave (laterRow k) (termsIn x) (f .result) (viewLater v k f)
+later-seen k x v s u f sn h e c =
+    let m = taken-up k x s u h in
+    let r : roleIn x ≡ roleLater k = continues-sound k x s u f h .role-was in
+    let t : termsIn (ownEnd (roleLater k) x) ≡ termsIn x = ap termsIn (m .2) in
+    let both = later-law k x s u .seen v (subst (λ z. SeenBy z v) (sym (m .2)) sn)
+    (subst₂ (λ (r : Role) (t : Terms). matrices r t (slotWords s) ≡ v .half) r (sym t) e)
+    (λ b. subst (λ (t : Terms). scratchParts t u ≡ scratchParts t (v .coins)) (sym t) (c (r ∙ b))) (m .0)
+    in
+    subst₂ (λ (t : Terms) (f : Effect Session). SeenBy (f .session) (viewLater v k f) × Gave (laterRow k) t (f .result) (viewLater v k f)) t (m .1) both
 
-pub blinder-begins : (t : Terms) (mm y words : List ℕ) (m : Message) (room : ℕ) (s : Slot) (u : List ℕ) (e : Effect Session)
-    → runFirst t (blinder-first mm y words m room) s u ≡ done e → (0 < dueIn (e .session)) × (length (coinsOf t words) ≡ scratchSize t)
-unfolding runFirst blinderFirstEffect coinsOf
-blinder-begins t mm y words m room s u e h =
-    let a = of-any blinderEnd _ h in
-    let o = tests.blinder-first t s (length u) mm y words m room .means (a .1) in (
-      subst (λ z. 0 < dueIn (z .session)) (ap (asAny blinderEnd) (o .1) ∙ a .2) (omega arith),
-      residues-drawn (t .q) (scratchSize t) words (omega (arith, o .0 .first .terms .big)) (draw-tests _ _ _ .1 (o .0 .enough) .all) .size,
-    )
+pub later-goes : (v : View) (s : Slot) (ls : List (List ℕ)) (u : List ℕ) (k : Later) (x : Session) → isBegun x ≡ true → roleIn x ≡ roleLater k → SeenBy x v
+    → Holding (roleLater k) IN-USE (termsIn x) ls s → (roleLater k ≡ blinder → Coins v u) → FairBy x k → (f : Effect Session) × (runLater k x s u ≡ done f)
+later-goes v s ls u k x b r seen held c f =
+    let law = later-law k x s u in
+    let own : ownEnd (roleLater k) x ≡ x = subst (λ (r : Role). ownEnd r x ≡ x) r (own-is x b) in
+    let needs : law .Needs =
+    subst (λ (y : Session). SeenBy y v → Holding (roleLater k) IN-USE (termsIn y) ls s → (roleLater k ≡ blinder → Coins v u) → FairBy y k → law .Needs) own
+    (law .met v ls)
+    seen held c f
+    in
+    (law .effect, law .decides .accepts needs)
+
+-- ---- any of them
+
+pub step-sends : (k : Step) (x : Session) (s : Slot) (u : List ℕ) (e : Effect Session) → runStep k x s u ≡ done e → Sends (kindOf k) e
+step-sends (begins t k) x s u e h = begins-sound t k s u e h .sends
+step-sends (goes-on k) x s u e h = continues-sound k x s u e h .sends
+
+closes-by : (d next : ℕ) → d ≡ next → (d ≡ 0) ↔ Closes next
+closes-by d zero e = (λ z. tt, λ z. e)
+closes-by d (suc n) e = (λ z. omega (arith, z, e), λ z. absurd z)
+
+-- it leaves 0 due exactly where it is one of those that end a session
+pub step-ends : (k : Step) (x : Session) (s : Slot) (u : List ℕ) (e : Effect Session) → runStep k x s u ≡ done e → (dueIn (e .session) ≡ 0) ↔ Ends k
+step-ends (begins t k) x s u e h = closes-by (dueIn (e .session)) (firstRow k .next) (begins-sound t k s u e h .due-is)
+step-ends (goes-on k) x s u e h = closes-by (dueIn (e .session)) (laterRow k .next) (continues-sound k x s u e h .due-is)

@@ -22,22 +22,21 @@ use Rattle.algebra.specs.Matrix.{Residues}
 use Rattle.protocol.proofs.Residues.{parts-over}
 use Rattle.protocol.specs.Deal.{Dealt}
 use Rattle.protocol.specs.System.{scratchParts, scratchLayout}
-use Rattle.history.specs.Ends.{Session, absent, leftEnd, rightEnd, solverEnd, blinderEnd, dueIn, termsIn, roleIn, First, right-first, left-only, solver-first, blinder-first, Later, Step, begins, goes-on, roleFirst, roleOf, runStep, runFirst, runLater}
-use Rattle.history.specs.Log.{choose, Party, State, Call, Dealing, Did, Entry, dealt, did, afterDealing, run, holds, here, place, lentTo, OwnScratchBy, Premises}
-use Rattle.history.specs.Log.{fresh as fresh-state}
-use Rattle.history.specs.Contents.{half, tenantAfter, tenant, coinsIn, termsBy, scratchWords}
-use Rattle.protocol.specs.View.{View}
+use Rattle.history.specs.Ends.{Session, absent, dueIn, termsIn, roleIn, First, opening, Later, Step, begins, goes-on, roleFirst, roleOf, runStep, runFirst, runLater, isBegun}
+use Rattle.history.specs.Log.{choose, Party, State, Call, Dealing, Did, Entry, dealt, did, afterDealing, run, holds, here, place, lentTo, OwnScratchBy, Premises, fresh as fresh-state}
+use Rattle.history.specs.Contents.{half, tenantOf, tenantAfter, tenant, keptBy, coinsIn, termsBy, scratchWords}
+use Rattle.protocol.specs.View.{View, coinLayout}
 use Rattle.history.specs.Seen.{viewFirst, viewLater, halfAt, viewAfter, view}
-use Rattle.history.proofs.Steps.{Begins, Continues}
-use Rattle.history.proofs.Facts.{set-same, set-other, none≢, absent≢, same-server, same-dealing, same-name, place-known}
+use Rattle.history.proofs.Accepted.{Begins, Continues, firstRow, laterRow}
+use Rattle.history.proofs.Facts.{set-same, set-other, none≢, absent≢, same-server, same-dealing, same-some, place-known}
 use Rattle.history.proofs.Dealt.{Fine}
 use Rattle.history.proofs.Kept.{Agrees, Inv, slotBy, stateAfter, Way, fresh, onward, Move, ready-before, used-before, only, place-now, place-else}
 use Rattle.history.specs.Claim.{Empty}
 use Rattle.history.proofs.Along.{along}
-use Rattle.history.proofs.Lent.{Lent, move-lent, kept-open}
+use Rattle.history.proofs.Lent.{Lent, quiet, is-blinder?, move-lent, kept-open}
 use Rattle.history.proofs.Words.{tape-matrices}
-use Rattle.history.proofs.Known.{SeenBy, first-seen}
-use Rattle.history.proofs.KnownOn.{later-seen}
+use Rattle.history.proofs.Known.{SeenBy, Gave, seen-known}
+use Rattle.history.proofs.Steps.{first-seen, later-seen}
 
 pub record Views (st : State) (l : List Entry) : Type 0 where
   -- a scratch's tenant keeps the coins of its view there
@@ -80,30 +79,23 @@ data Came (e : Did) (o : Option Did) (x : Did) : Type 0 where
   this : e ≡ x → (t : Terms) (f : First) → e .step ≡ begins t f → roleFirst f ≡ blinder → Came e o x
   before : o ≡ some x → Came e o x
 
-same-did : {e x : Did} → some e ≡ some x → e ≡ x
-same-did h = cc
+came-first : (e : Did) (t : Terms) (f : First) (o : Option Did) (x : Did) → e .step ≡ begins t f → tenantOf (roleFirst f) e o ≡ some x
+    → Dec (roleFirst f ≡ blinder) → Came e o x
+came-first e t f o x s h (yes r) = this (same-some (sym (ap (λ (r : Role). tenantOf r e o) r) ∙ h)) t f s r
+came-first e t f o x s h (no n) = before (sym (quiet (roleFirst f) n e o) ∙ h)
 
 came : {P : Type 0} (h : Dec P) (e : Did) (k : Step) (o : Option Did) (x : Did) → e .step ≡ k → tenantAfter h e k o ≡ some x → Came e o x
-came (yes _) e (begins t (right-first y room)) o x s h = before h
-came (yes _) e (begins t (left-only y words a room shareRoom)) o x s h = before h
-came (yes _) e (begins t (solver-first y z room)) o x s h = before h
-came (yes _) e (begins t (blinder-first mm y words a room)) o x s h = this (same-did h) t (blinder-first mm y words a room) s refl
+came (yes _) e (begins t f) o x s h = came-first e t f o x s h (is-blinder? (roleFirst f))
 came (yes _) e (goes-on k) o x s h = before h
 came (no _) e k o x s h = before h
 
 blinder-coins : (t : Terms) (f : First) (ls : List (List ℕ)) (g : Effect Session) → roleFirst f ≡ blinder → viewFirst t f ls g .coins ≡ coinsIn (begins t f)
-blinder-coins t (right-first y room) ls g r = absurd (let z : _≡_ {A = ℕ} 0 1 = cc in omega arith)
-blinder-coins t (left-only y words a room shareRoom) ls g r = absurd (let z : _≡_ {A = ℕ} 0 1 = cc in omega arith)
-blinder-coins t (solver-first y z room) ls g r = absurd (let z : _≡_ {A = ℕ} 0 1 = cc in omega arith)
-blinder-coins t (blinder-first mm y words a room) ls g r = refl
+blinder-coins t f ls g r = ap (λ (r : Role). keptBy r (opening f .coins t)) (sym r)
 
 -- what a blinder drew
-blinder-coins-fit : (x : Session) (v : View) → SeenBy x v → roleIn x ≡ blinder → Residues (termsIn x .q) (total (scratchLayout (termsIn x))) (v .coins)
-blinder-coins-fit absent v s r = absurd (let z : _≡_ {A = ℕ} 0 1 = cc in omega arith)
-blinder-coins-fit (leftEnd t) v s r = absurd (let z : _≡_ {A = ℕ} 0 1 = cc in omega arith)
-blinder-coins-fit (rightEnd y) v s r = absurd (let z : _≡_ {A = ℕ} 0 1 = cc in omega arith)
-blinder-coins-fit (solverEnd y) v s r = absurd (let z : _≡_ {A = ℕ} 0 1 = cc in omega arith)
-blinder-coins-fit (blinderEnd y) v s r = s .known .coins-residues
+blinder-coins-fit : (x : Session) (v : View) → SeenBy x v → isBegun x ≡ true → roleIn x ≡ blinder
+    → Residues (termsIn x .q) (total (scratchLayout (termsIn x))) (v .coins)
+blinder-coins-fit x v s b r = subst (λ (r : Role). Residues (termsIn x .q) (total (coinLayout r (termsIn x))) (v .coins)) r (seen-known x v s b .coins-residues)
 
 -- the half that a session agrees with fits its terms
 agrees-fits : {size : Party → ℕ} {start : Party → List ℕ} (x : Session) (w : Party) (d : Dealing) → Fine size start d → Agrees x w d
@@ -137,7 +129,7 @@ module _ (size : Party → ℕ) (start : Party → List ℕ) (lent : ℕ → Lis
       fit-first : Fits (t .q) (layout (roleFirst k) (t .m) (t .k) (t .p)) (half (e .party) (mv .dealing))
       fit-first = subst₂ (λ (r : Role) (t : Terms). Fits (t .q) (layout r (t .m) (t .k) (t .p)) (half (e .party) (mv .dealing))) (g .role-is) (g .terms-are) fit
 
-      pub mats : matrices (roleFirst k) t (slotWords (slotBy size start e)) ≡ half (e .party) (mv .dealing)
+      mats : matrices (roleFirst k) t (slotWords (slotBy size start e)) ≡ half (e .party) (mv .dealing)
       mats = ap (matrices (roleFirst k) t) (ready-before size start l e v (p .0) mv u) ∙ tape-matrices (roleFirst k) t _ (mv .dealing) (half (e .party) (mv .dealing)) _ fit-first
 
       mask : roleFirst k ≡ blinder → regular (t .q) (t .m) (part 2 (half (e .party) (mv .dealing))) ≡ true
@@ -145,7 +137,7 @@ module _ (size : Party → ℕ) (start : Party → List ℕ) (lent : ℕ → Lis
           let fine = v .fine (mv .dealing) (place-known l (e .party) (e .index) (mv .stands) .0) in
           rw (← g .terms-are, mv .agrees .q-is, mv .agrees .m-is) (fine .mask (e .party) (sym (mv .agrees .role-is) ∙ g .role-is ∙ r))
 
-      pub acts : runFirst t k (slotBy size start e) (e .on .scratches (e .scratch)) ≡ done (e .effect)
+      acts : runFirst t k (slotBy size start e) (e .on .scratches (e .scratch)) ≡ done (e .effect)
       acts = subst (λ (k : Step). runStep k (e .on .sessions (e .name)) (slotBy size start e) (e .on .scratches (e .scratch)) ≡ done (e .effect)) s (mv .acted)
 
       first-tied : (b : ℕ) (x : Did) → tenant (did e ∷ l) b ≡ some x → view (did e ∷ l) (x .name) .coins ≡ coinsIn (x .step)
@@ -159,10 +151,12 @@ module _ (size : Party → ℕ) (start : Party → List ℕ) (lent : ℕ → Lis
               let n : x .name ≢ e .name = λ z. absent≢ (ap (e .on .sessions) z ∙ a) (o .is-tenant b x q .is-begun) in
               ap (λ (z : View). z .coins) (view-other (x .name) n) ∙ vs .tied b x q
 
+      pub first-both : SeenBy (e .effect .session) (viewFirst t k (half (e .party) (mv .dealing)) (e .effect))
+          × Gave (firstRow k) t (e .effect .result) (viewFirst t k (half (e .party) (mv .dealing)) (e .effect))
+      first-both = first-seen t k (slotBy size start e) (e .on .scratches (e .scratch)) (e .effect) (half (e .party) (mv .dealing)) acts mats mask
+
       first-seen-here : SeenBy (stateAfter size start e .sessions (e .name)) here-view
-      first-seen-here =
-          subst₂ SeenBy (sym (set-same (e .name) (e .effect .session) (e .on .sessions))) (sym new-view)
-          (first-seen t k (slotBy size start e) (e .on .scratches (e .scratch)) (e .effect) (half (e .party) (mv .dealing)) acts mats mask)
+      first-seen-here = subst₂ SeenBy (sym (set-same (e .name) (e .effect .session) (e .on .sessions))) (sym new-view) (first-both .0)
 
       pub first-half : here-view .half ≡ half (e .party) (mv .dealing)
       first-half = ap (λ (z : View). z .half) new-view
@@ -186,7 +180,7 @@ module _ (size : Party → ℕ) (start : Party → List ℕ) (lent : ℕ → Lis
           ∙ sym was-half
 
       -- P and U0 stand in the blinder's scratch
-      pub coins-stand : roleIn x₀ ≡ blinder → scratchParts (termsIn x₀) (e .on .scratches (e .scratch)) ≡ scratchParts (termsIn x₀) (view l (e .name) .coins)
+      coins-stand : roleIn x₀ ≡ blinder → scratchParts (termsIn x₀) (e .on .scratches (e .scratch)) ≡ scratchParts (termsIn x₀) (view l (e .name) .coins)
       unfolding scratchParts
       coins-stand r =
           let x = o .keeps-it (e .name) (g .session-open .is-open) r in
@@ -199,16 +193,24 @@ module _ (size : Party → ℕ) (start : Party → List ℕ) (lent : ℕ → Lis
           ∙ ap (λ (z : List ℕ). over z (x .0 .on .scratches (e .scratch))) (kept-open (dueIn (e .on .sessions (x .0 .name))) (termsBy (x .0 .step)) (coinsIn (x .0 .step)) due)
           in
           ap (scratchParts (termsIn x₀)) words
-          ∙ parts-over (scratchLayout (termsIn x₀)) (x .0 .on .scratches (e .scratch)) (subst (Residues (termsIn x₀ .q) (total (scratchLayout (termsIn x₀)))) coins (blinder-coins-fit x₀ (view l (e .name)) (vs .seen (e .name)) r))
+          ∙ parts-over (scratchLayout (termsIn x₀)) (x .0 .on .scratches (e .scratch))
+          (subst (Residues (termsIn x₀ .q) (total (scratchLayout (termsIn x₀)))) coins
+          (blinder-coins-fit x₀ (view l (e .name)) (vs .seen (e .name)) (g .was-begun) r))
           ∙ ap (scratchParts (termsIn x₀)) (sym coins)
 
       pub later-acts : runLater k x₀ (slotBy size start e) (e .on .scratches (e .scratch)) ≡ done (e .effect)
       later-acts = subst (λ (k : Step). runStep k x₀ (slotBy size start e) (e .on .scratches (e .scratch)) ≡ done (e .effect)) s (mv .acted)
 
+      pub later-both : SeenBy (e .effect .session) (viewLater (view l (e .name)) k (e .effect))
+          × Gave (laterRow k) (termsIn x₀) (e .effect .result) (viewLater (view l (e .name)) k (e .effect))
+      later-both =
+          later-seen k x₀ (view l (e .name)) (slotBy size start e) (e .on .scratches (e .scratch)) (e .effect)
+          (vs .seen (e .name)) later-acts mats-later coins-stand
+
       later-seen-here : SeenBy (stateAfter size start e .sessions (e .name)) here-view
       later-seen-here =
           subst₂ SeenBy (sym (set-same (e .name) (e .effect .session) (e .on .sessions))) (sym (view-later decided l e (e .step) (view l (e .name)) s refl))
-          (later-seen k x₀ (view l (e .name)) (slotBy size start e) (e .on .scratches (e .scratch)) (e .effect) (vs .seen (e .name)) later-acts mats-later coins-stand)
+          (later-both .0)
 
       later-tied : (b : ℕ) (x : Did) → tenant (did e ∷ l) b ≡ some x → view (did e ∷ l) (x .name) .coins ≡ coinsIn (x .step)
       later-tied b x h = go (came (ℕ-discrete (e .scratch) b) e (e .step) (tenant l b) x refl h)
@@ -245,7 +247,7 @@ module _ (size : Party → ℕ) (start : Party → List ℕ) (lent : ℕ → Lis
                 let same : holds (mv .dealing) (some (e .name)) ≡ holds d (some n) =
                 sym (place-now size start l e v (p .0) mv) ∙ subst₂ (λ (w : Party) (i : ℕ). place (did e ∷ l) (e .party) (e .index) ≡ place (did e ∷ l) w i) (q .0) (q .1) refl ∙ f
                 in
-                ap (λ (n : ℕ). view (did e ∷ l) n .half) (sym (same-name (same-server same))) ∙ half-by (mv .way) ∙ ap₂ half (q .0) (same-dealing same)
+                ap (λ (n : ℕ). view (did e ∷ l) n .half) (sym (same-some (same-server same))) ∙ half-by (mv .way) ∙ ap₂ half (q .0) (same-dealing same)
             go (no h) =
                 let was : place l w i ≡ holds d (some n) = sym (place-else size start l e v (p .0) mv w i h) ∙ f in
                 let apart : n ≢ e .name = λ q. h (only size start l e v (p .0) mv w i d (was ∙ ap (λ (n : ℕ). holds d (some n)) q)) in

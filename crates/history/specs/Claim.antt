@@ -10,7 +10,7 @@ use mathlib.Core.Logic.{_≢_, _↔_}
 use mathlib.Core.Bool.{true}
 use mathlib.Core.List.{List, [], _∷_, _++_}
 use mathlib.Core.Option.{Option, some, none}
-use Prim.Native.Nat.{ℕ, suc, _*_, _/_, _≤_, _<_}
+use Prim.Native.Nat.{ℕ, zero, suc, _*_, _/_, _≤_, _<_}
 use native.Mathlib.Decide.{ℕ-discrete}
 use lib.ListN.{length, drop}
 use Rattle.protocol.specs.Judge.{done}
@@ -18,7 +18,8 @@ use Rattle.protocol.specs.Deal.{Dealt, deal}
 use Rattle.protocol.specs.Tape.{isSlot, slotWords, statusOf, EMPTY, blinder}
 use Rattle.protocol.specs.View.{View}
 use Rattle.protocol.specs.Completion.{Secret}
-use Rattle.history.specs.Ends.{Session, absent, isBegun, dueIn, roleIn, First, right-first, left-only, solver-first, blinder-first, Later, right-last, solver-second, solver-last, blinder-second, blinder-last, right-drop, solver-drop, blinder-drop, Step, begins, goes-on, StepKind, kind-eq, kindOf, roleOf, runStep}
+use Rattle.history.specs.Ends.{Session, absent, isBegun, dueIn, roleIn, First, Later, Step, begins, goes-on, StepKind, kind-eq, row, kindFirst, kindLater}
+use Rattle.history.specs.Ends.{kindOf, roleOf, runStep}
 use Rattle.history.specs.Log.{choose, both?, Party, opposite, Call, dealing, beginning, continuing, Dealing, Did, Entry, dealt, did, World, begunIn, slotOf, run, halfRole, holds, here, place, WasDone, lentTo, Premises}
 use Rattle.history.specs.Contents.{halfWords, tenant, scratchWords}
 use Rattle.history.specs.Seen.{view, Stands}
@@ -56,22 +57,17 @@ current [] n = absent
 current (dealt d ∷ l) n = current l n
 current (did e ∷ l) n = choose (ℕ-discrete (e .name) n) (e .effect .session) (current l n)
 
+-- no message is due next
+abbrev pub Closes : (next : ℕ) → Type 0
+Closes zero = Unit
+Closes (suc _) = ⊥
+
 -- the steps that end a session: each end's last, which for the solver may be refused by 10, and drops. Left's one step begins and ends it
 abbrev pub EndsFirst : First → Type 0
-EndsFirst (right-first y room) = ⊥
-EndsFirst (left-only x words a room shareRoom) = Unit
-EndsFirst (solver-first l x room) = ⊥
-EndsFirst (blinder-first mm y words a room) = ⊥
+EndsFirst k = Closes (row (kindFirst k) .next)
 
 abbrev pub EndsLater : Later → Type 0
-EndsLater (right-last a room) = Unit
-EndsLater (solver-second a room) = ⊥
-EndsLater (solver-last a room) = Unit
-EndsLater (blinder-second a room) = ⊥
-EndsLater (blinder-last a room) = Unit
-EndsLater right-drop = Unit
-EndsLater solver-drop = Unit
-EndsLater blinder-drop = Unit
+EndsLater k = Closes (row (kindLater k) .next)
 
 abbrev pub Ends : Step → Type 0
 Ends (begins t k) = EndsFirst k

@@ -11,11 +11,11 @@ use Rattle.algebra.specs.Matrix.{zeros}
 use Rattle.algebra.specs.Count.{join}
 use Rattle.protocol.specs.declared.Terms.{Terms}
 use Rattle.algebra.specs.Words.{over}
-use Rattle.protocol.specs.Tape.{slotWords, headerWords, READY, IN-USE, SPENT, bodySize}
+use Rattle.protocol.specs.Tape.{slotWords, headerWords, READY, IN-USE, SPENT, bodySize, Role, left, right, blinder, solver}
 use Rattle.protocol.specs.Deal.{Request, drawnParts, dealtB, dealtV, firstHalf, secondHalf}
 use Rattle.protocol.specs.Message.{noTerms}
-use Rattle.protocol.specs.System.{scratchSize, coinsOf}
-use Rattle.history.specs.Ends.{Session, dueIn, Step, begins, goes-on, First, right-first, left-only, solver-first, blinder-first}
+use Rattle.protocol.specs.System.{scratchSize}
+use Rattle.history.specs.Ends.{Session, dueIn, Step, begins, goes-on, First, opening, roleFirst}
 use Rattle.history.specs.Log.{Party, party-eq, Dealing, Did, Entry, dealt, did, slotOf, halfRole, Place, untouched, holds}
 
 -- ---- halves
@@ -52,12 +52,15 @@ placeWords size start sessions w i (holds d o) = halfWords sessions w d o (slotW
 
 -- ---- scratches
 
--- P and then U0, where the step is a blinder's first: the last such step on a scratch
+-- a blinder's first step takes the scratch: the last such step on it
+abbrev pub tenantOf : Role → Did → Option Did → Option Did
+tenantOf left e o = o
+tenantOf right e o = o
+tenantOf solver e o = o
+tenantOf blinder e o = some e
+
 abbrev pub tenantBy : Did → First → Option Did → Option Did
-tenantBy e (right-first y room) o = o
-tenantBy e (left-only x words a room shareRoom) o = o
-tenantBy e (solver-first l x room) o = o
-tenantBy e (blinder-first mm y words a room) o = some e
+tenantBy e k o = tenantOf (roleFirst k) e o
 
 abbrev pub tenantAfter : {P : Type 0} → Dec P → Did → Step → Option Did → Option Did
 tenantAfter (yes _) e (begins t k) o = tenantBy e k o
@@ -69,12 +72,15 @@ tenant [] b = none
 tenant (dealt d ∷ l) b = tenant l b
 tenant (did e ∷ l) b = tenantAfter (ℕ-discrete (e .scratch) b) e (e .step) (tenant l b)
 
--- what a step keeps in its scratch: P, then U0 of a blinder's first
+-- what a step keeps in its scratch: a blinder's first P, then U0
+abbrev pub keptBy : Role → (coins : List ℕ) → List ℕ
+keptBy left coins = []
+keptBy right coins = []
+keptBy solver coins = []
+keptBy blinder coins = coins
+
 abbrev pub coinsBy : Terms → First → List ℕ
-coinsBy t (right-first y room) = []
-coinsBy t (left-only x words a room shareRoom) = []
-coinsBy t (solver-first l x room) = []
-coinsBy t (blinder-first mm y words a room) = coinsOf t words
+coinsBy t k = keptBy (roleFirst k) (opening k .coins t)
 
 abbrev pub coinsIn : Step → List ℕ
 coinsIn (begins t k) = coinsBy t k

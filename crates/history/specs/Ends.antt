@@ -1,23 +1,25 @@
 -- The four ends' sessions as one type, and all their steps and drops as functions into it: each runs the definition that the code's promises cite.
 --   Session                   a session of any end, or none yet
 --   First, Later, Step        first steps; later steps and drops; any of them
---   StepKind, kindOf          which of the steps and drops it is
+--   StepKind, row             which of the steps and drops it is, and the table of them: role, turn, messages
+--   opening, going            each with what it is handed, and the definition that it runs
 --   runStep                   a step or drop on a session, a slot and a scratch
 -- Assumes nothing.
 use mathlib.Core.Bool.{Bool, true, false}
-use mathlib.Core.List.{List}
-use Prim.Native.Nat.{ℕ}
+use mathlib.Core.List.{List, [], _∷_}
+use Prim.Native.Nat.{ℕ, _*_}
 use lib.ListN.{length}
 use Rattle.protocol.specs.declared.Terms.{Terms}
 use Rattle.protocol.specs.declared.RightSession.{RightSession}
 use Rattle.protocol.specs.declared.SolverSession.{SolverSession}
 use Rattle.protocol.specs.declared.BlinderSession.{BlinderSession}
 use Rattle.protocol.specs.Judge.{refused, done}
+use Rattle.protocol.specs.Drawing.{drawn}
 use Rattle.protocol.specs.Tape.{Slot, Role, left, right, blinder, solver}
-use Rattle.protocol.specs.Message.{Message, noTerms}
+use Rattle.protocol.specs.Message.{Message, noTerms, messageSize}
 use Rattle.protocol.specs.Step.{Effect, Outcome}
 use Rattle.protocol.specs.Product.{noRight, rightFirst, leftStep, rightLast}
-use Rattle.protocol.specs.System.{noSolver, noBlinder, solverFirst, blinderFirst, solverSecond, blinderSecond, solverLast, blinderLast}
+use Rattle.protocol.specs.System.{noSolver, noBlinder, sideSize, coinsOf, solverFirst, blinderFirst, solverSecond, blinderSecond, solverLast, blinderLast}
 use Rattle.protocol.specs.Drop.{dropRight, dropSolver, dropBlinder}
 
 -- ---- sessions
@@ -95,22 +97,6 @@ pub data Later : Type 0 where
   right-last solver-second solver-last blinder-second blinder-last : Message → (room : ℕ) → Later
   right-drop solver-drop blinder-drop : Later
 
-abbrev pub roleFirst : First → Role
-roleFirst (right-first y room) = right
-roleFirst (left-only x words a room shareRoom) = left
-roleFirst (solver-first l x room) = solver
-roleFirst (blinder-first mm y words a room) = blinder
-
-abbrev pub roleLater : Later → Role
-roleLater (right-last a room) = right
-roleLater (solver-second a room) = solver
-roleLater (solver-last a room) = solver
-roleLater (blinder-second a room) = blinder
-roleLater (blinder-last a room) = blinder
-roleLater right-drop = right
-roleLater solver-drop = solver
-roleLater blinder-drop = blinder
-
 -- the same effect, with its session as one of any end
 abbrev pub asAny : {S : Type 0} → (S → Session) → Effect S → Effect Session
 asAny f e = record { answer = e .answer; session = f (e .session); slot = e .slot; scratch = e .scratch; sent = e .sent; result = e .result }
@@ -119,27 +105,7 @@ abbrev pub ofAny : {S : Type 0} → (S → Session) → Outcome S → Outcome Se
 ofAny f (refused r) = refused r
 ofAny f (done e) = done (asAny f e)
 
--- `scratch`: what the caller lends; of no account but to a blinder
-unfoldable pub runFirst : Terms → First → Slot → (scratch : List ℕ) → Outcome Session
-runFirst t (right-first y room) s u = ofAny rightEnd (rightFirst t s y room)
-runFirst t (left-only x words a room shareRoom) s u = ofAny (λ z. leftEnd t) (leftStep t s x words a room shareRoom)
-runFirst t (solver-first l x room) s u = ofAny solverEnd (solverFirst t s l x room)
-runFirst t (blinder-first mm y words a room) s u = ofAny blinderEnd (blinderFirst t s (length u) mm y words a room)
-
-unfoldable pub runLater : Later → Session → Slot → (scratch : List ℕ) → Outcome Session
-runLater (right-last a room) x s u = ofAny rightEnd (rightLast (asRight x) s a room)
-runLater (solver-second a room) x s u = ofAny solverEnd (solverSecond (asSolver x) s a room)
-runLater (solver-last a room) x s u = ofAny solverEnd (solverLast (asSolver x) s a room)
-runLater (blinder-second a room) x s u = ofAny blinderEnd (blinderSecond (asBlinder x) s u a room)
-runLater (blinder-last a room) x s u = ofAny blinderEnd (blinderLast (asBlinder x) s u a room)
-runLater right-drop x s u = ofAny rightEnd (dropRight (asRight x) s)
-runLater solver-drop x s u = ofAny solverEnd (dropSolver (asSolver x) s)
-runLater blinder-drop x s u = ofAny blinderEnd (dropBlinder (asBlinder x) s u)
-
--- a step or drop
-pub data Step : Type 0 where
-  begins : Terms → First → Step
-  goes-on : Later → Step
+-- ---- the table of steps
 
 -- which step or drop it is, by its constructor, whatever it is handed
 pub data StepKind : Type 0 where
@@ -148,21 +114,118 @@ pub data StepKind : Type 0 where
   drop-right drop-solver drop-blinder : StepKind
   deriving Discrete as kind-eq
 
+-- a step begins a session, or is made while the session awaits its message; a drop is made at any turn
+pub data Turn : Type 0 where
+  opens awaits drops : Turn
+
+-- what a step gives its caller: a share is left's or right's, and the solution is the blinder's
+pub data Result : Type 0 where
+  no-result left-share right-share solution : Result
+
+-- what each of them is. Messages by their kinds: the one that it takes, the one that it sends, and the one that is due after it, 0 where it ends its session
+pub record Row : Type 0 where
+  pub role : Role
+  pub turn : Turn
+  pub takes : ℕ
+  pub sends : ℕ
+  pub gives : Result
+  pub next : ℕ
+
+abbrev pub row : StepKind → Row
+row first-right = record { role = right; turn = opens; takes = 0; sends = 1; gives = no-result; next = 2 }
+row only-left = record { role = left; turn = opens; takes = 1; sends = 2; gives = left-share; next = 0 }
+row first-solver = record { role = solver; turn = opens; takes = 0; sends = 1; gives = no-result; next = 2 }
+row first-blinder = record { role = blinder; turn = opens; takes = 1; sends = 2; gives = no-result; next = 3 }
+row last-right = record { role = right; turn = awaits; takes = 2; sends = 0; gives = right-share; next = 0 }
+row second-solver = record { role = solver; turn = awaits; takes = 2; sends = 3; gives = no-result; next = 4 }
+row last-solver = record { role = solver; turn = awaits; takes = 4; sends = 5; gives = no-result; next = 0 }
+row second-blinder = record { role = blinder; turn = awaits; takes = 3; sends = 4; gives = no-result; next = 5 }
+row last-blinder = record { role = blinder; turn = awaits; takes = 5; sends = 0; gives = solution; next = 0 }
+row drop-right = record { role = right; turn = drops; takes = 0; sends = 0; gives = no-result; next = 0 }
+row drop-solver = record { role = solver; turn = drops; takes = 0; sends = 0; gives = no-result; next = 0 }
+row drop-blinder = record { role = blinder; turn = drops; takes = 0; sends = 0; gives = no-result; next = 0 }
+
+-- a first step with what it is handed: its input, the coins that it draws, its message if it takes one, and the definition that it runs.
+-- `scratch`: what the caller lends; of no account but to a blinder
+pub record Opening : Type 0 where
+  pub kind : StepKind
+  pub input : List (List ℕ)
+  pub coins : Terms → List ℕ
+  pub taken : List Message
+  pub runs : Terms → Slot → (scratch : List ℕ) → Outcome Session
+
+abbrev pub opening : First → Opening
+opening (right-first y room) =
+    record { kind = first-right; input = y ∷ []; coins = λ t. []; taken = []; runs = λ t s u. ofAny rightEnd (rightFirst t s y room) }
+opening (left-only x words a room shareRoom) = record {
+  kind = only-left;
+  input = x ∷ [];
+  coins = λ t. drawn (t .q) (t .m * t .p) words;
+  taken = a ∷ [];
+  runs = λ t s u. ofAny (λ z. leftEnd t) (leftStep t s x words a room shareRoom);
+}
+opening (solver-first l x room) =
+    record { kind = first-solver; input = l ∷ x ∷ []; coins = λ t. []; taken = []; runs = λ t s u. ofAny solverEnd (solverFirst t s l x room) }
+opening (blinder-first mm y words a room) = record {
+  kind = first-blinder;
+  input = mm ∷ y ∷ [];
+  coins = λ t. coinsOf t words;
+  taken = a ∷ [];
+  runs = λ t s u. ofAny blinderEnd (blinderFirst t s (length u) mm y words a room);
+}
+
+-- a later step or a drop with what it is handed: its message, the words that it writes for its caller and the room for them, and the definition that it runs
+pub record Going : Type 0 where
+  pub kind : StepKind
+  pub taken : List Message
+  pub writes : Terms → ℕ
+  pub room : ℕ
+  pub runs : Session → Slot → (scratch : List ℕ) → Outcome Session
+
+abbrev pub going : Later → Going
+going (right-last a room) =
+    record { kind = last-right; taken = a ∷ []; writes = λ t. t .m * t .p; room = room; runs = λ x s u. ofAny rightEnd (rightLast (asRight x) s a room) }
+going (solver-second a room) =
+    record { kind = second-solver; taken = a ∷ []; writes = messageSize 3; room = room; runs = λ x s u. ofAny solverEnd (solverSecond (asSolver x) s a room) }
+going (solver-last a room) =
+    record { kind = last-solver; taken = a ∷ []; writes = messageSize 5; room = room; runs = λ x s u. ofAny solverEnd (solverLast (asSolver x) s a room) }
+going (blinder-second a room) = record {
+  kind = second-blinder;
+  taken = a ∷ [];
+  writes = messageSize 4;
+  room = room;
+  runs = λ x s u. ofAny blinderEnd (blinderSecond (asBlinder x) s u a room);
+}
+going (blinder-last a room) =
+    record { kind = last-blinder; taken = a ∷ []; writes = sideSize; room = room; runs = λ x s u. ofAny blinderEnd (blinderLast (asBlinder x) s u a room) }
+going right-drop = record { kind = drop-right; taken = []; writes = λ t. 0; room = 0; runs = λ x s u. ofAny rightEnd (dropRight (asRight x) s) }
+going solver-drop = record { kind = drop-solver; taken = []; writes = λ t. 0; room = 0; runs = λ x s u. ofAny solverEnd (dropSolver (asSolver x) s) }
+going blinder-drop = record { kind = drop-blinder; taken = []; writes = λ t. 0; room = 0; runs = λ x s u. ofAny blinderEnd (dropBlinder (asBlinder x) s u) }
+
+-- ---- read off the table
+
 abbrev pub kindFirst : First → StepKind
-kindFirst (right-first y room) = first-right
-kindFirst (left-only x words a room shareRoom) = only-left
-kindFirst (solver-first l x room) = first-solver
-kindFirst (blinder-first mm y words a room) = first-blinder
+kindFirst k = opening k .kind
 
 abbrev pub kindLater : Later → StepKind
-kindLater (right-last a room) = last-right
-kindLater (solver-second a room) = second-solver
-kindLater (solver-last a room) = last-solver
-kindLater (blinder-second a room) = second-blinder
-kindLater (blinder-last a room) = last-blinder
-kindLater right-drop = drop-right
-kindLater solver-drop = drop-solver
-kindLater blinder-drop = drop-blinder
+kindLater k = going k .kind
+
+abbrev pub roleFirst : First → Role
+roleFirst k = row (kindFirst k) .role
+
+abbrev pub roleLater : Later → Role
+roleLater k = row (kindLater k) .role
+
+unfoldable pub runFirst : Terms → First → Slot → (scratch : List ℕ) → Outcome Session
+runFirst t k s u = opening k .runs t s u
+
+unfoldable pub runLater : Later → Session → Slot → (scratch : List ℕ) → Outcome Session
+runLater k x s u = going k .runs x s u
+
+-- a step or drop
+pub data Step : Type 0 where
+  begins : Terms → First → Step
+  goes-on : Later → Step
 
 abbrev pub kindOf : Step → StepKind
 kindOf (begins t k) = kindFirst k

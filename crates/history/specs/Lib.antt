@@ -1,5 +1,5 @@
 -- Demands 3 and 2, in reading order.
--- Ends      sessions and steps of all four ends as one type
+-- Ends      sessions and steps of all four ends as one type, and the table of steps
 -- Log       calls, what they leave, the log, places, and the premises
 -- Contents  what slots and scratches hold
 -- Seen      what the end of each session has seen

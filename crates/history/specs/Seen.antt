@@ -6,52 +6,34 @@
 -- Assumes nothing.
 use mathlib.Core.Path.{_≡_}
 use mathlib.Core.List.{List, [], _∷_, _++_}
-use Prim.Native.Nat.{ℕ, _*_}
+use Prim.Native.Nat.{ℕ}
 use native.Mathlib.Decide.{ℕ-discrete}
 use Rattle.protocol.specs.declared.Terms.{Terms}
 use Rattle.protocol.specs.declared.Answer.{Answer}
 use Rattle.protocol.specs.declared.Answer.the-variants.{Accepted, Refused}
-use Rattle.protocol.specs.Drawing.{drawn}
 use Rattle.protocol.specs.Bounds.{product}
 use Rattle.protocol.specs.Tape.{left, sortOf}
 use Rattle.protocol.specs.Message.{Message, noTerms}
-use Rattle.protocol.specs.System.{coinsOf}
 use Rattle.protocol.specs.Step.{Effect}
 use Rattle.protocol.specs.View.{View, facing}
 use Rattle.protocol.specs.Completion.{said}
-use Rattle.history.specs.Ends.{Session, First, right-first, left-only, solver-first, blinder-first, Later, right-last, solver-second, solver-last, blinder-second, blinder-last, right-drop, solver-drop, blinder-drop, Step, begins, goes-on, roleFirst, roleOf}
+use Rattle.history.specs.Ends.{Session, First, Later, opening, going, Step, begins, goes-on, roleFirst, roleOf}
 use Rattle.history.specs.Log.{Party, Did, Entry, dealt, did, Place, untouched, holds, place, WasDone}
 use Rattle.history.specs.Contents.{half}
 
 -- ---- what a step adds
 
 abbrev pub inputOf : First → List (List ℕ)
-inputOf (right-first y room) = y ∷ []
-inputOf (left-only x words a room shareRoom) = x ∷ []
-inputOf (solver-first l x room) = l ∷ x ∷ []
-inputOf (blinder-first mm y words a room) = mm ∷ y ∷ []
+inputOf k = opening k .input
 
 abbrev pub coinsDrawn : Terms → First → List ℕ
-coinsDrawn t (right-first y room) = []
-coinsDrawn t (left-only x words a room shareRoom) = drawn (t .q) (t .m * t .p) words
-coinsDrawn t (solver-first l x room) = []
-coinsDrawn t (blinder-first mm y words a room) = coinsOf t words
+coinsDrawn t k = opening k .coins t
 
 abbrev pub takenFirst : First → List Message
-takenFirst (right-first y room) = []
-takenFirst (left-only x words a room shareRoom) = a ∷ []
-takenFirst (solver-first l x room) = []
-takenFirst (blinder-first mm y words a room) = a ∷ []
+takenFirst k = opening k .taken
 
 abbrev pub takenLater : Later → List Message
-takenLater (right-last a room) = a ∷ []
-takenLater (solver-second a room) = a ∷ []
-takenLater (solver-last a room) = a ∷ []
-takenLater (blinder-second a room) = a ∷ []
-takenLater (blinder-last a room) = a ∷ []
-takenLater right-drop = []
-takenLater solver-drop = []
-takenLater blinder-drop = []
+takenLater k = going k .taken
 
 -- a message that a step refuses, be it by 10, isn't accepted
 abbrev pub heard : Answer → List Message → List (List ℕ)
