@@ -1,7 +1,7 @@
 // Drops.
 use crate::words;
 use dropping::blinder_drop;
-use dropping::right_drop;
+use product::right_drop;
 use dropping::solver_drop;
 use judging::message::no_head;
 

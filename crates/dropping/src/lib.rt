@@ -1,8 +1,8 @@
 // Dropping: an open session closes, and its tape is spent; a blinder's scratch is zeroed with it.
-//   right_drop, solver_drop, blinder_drop   the drops of the three ends that keep a session
+//   solver_drop, blinder_drop   the drops of a system's ends
 //   check                                   the tests of a drop
 // A drop is given its pool, the size of the pool's slots and the index of its own; the blinder's its scratch; and the session.
-// For hosts: right_drop, solver_drop, blinder_drop.
+// For hosts: solver_drop, blinder_drop.
 mod check;
 
 use blinder::closed;
@@ -13,7 +13,6 @@ use judging::Check;
 use judging::answer_of;
 use protocol::Answer;
 use protocol::BlinderSession;
-use protocol::RightSession;
 use protocol::SolverSession;
 use protocol::Terms;
 use tape::End;
@@ -27,17 +26,12 @@ ghost use lib.ListN.{length};
 ghost use Rattle.protocol.specs.Bounds.{sidesFit};
 ghost use Rattle.protocol.specs.Tape.{slotAt, slotWords, poolWith, tapeSize, wordsSpent};
 ghost use Rattle.protocol.specs.Message.{noMessage};
-ghost use Rattle.protocol.specs.Drop.{dropRight, dropSolver, dropBlinder};
+ghost use Rattle.protocol.specs.Drop.{dropSolver, dropBlinder};
 ghost use Rattle.tape.specs.Ends.{role, sort};
 ghost use Rattle.protocol.specs.Step.{answerReply};
 ghost use Rattle.judging.specs.Leaves.{Leaves, leaves};
 
 // What a drop answers, and the session as it then is.
-pub struct RightDropped {
-    pub answer: Answer,
-    pub session: RightSession,
-}
-
 pub struct SolverDropped {
     pub answer: Answer,
     pub session: SolverSession,
@@ -56,26 +50,6 @@ fn spend_at(end: End, t: Terms, pool: &mut [u32], size: usize, index: usize)
     let at = index * size;
     let stop = at + size;
     spend(end, t, &mut pool[at..stop]);
-}
-
-pub fn right_drop(pool: &mut [u32], size: usize, index: usize, s: RightSession) -> RightDropped
-    ensures { λ r. ⌜ _≡_ {A = Leaves RightSession}
-        (record { answer = answerReply (r .answer); session = r .session; head = noMessage .head; pool = now (pool .exit); scratch = []; sent = []; result = [] })
-        (leaves s (slotAt (now (pool .entry)) size index) [] [] [] (dropRight s (slotAt (now (pool .entry)) size index))) ⌝ }
-{
-    let t = s.terms;
-    let checked = check_open(End::Right, s.due, t, pool, size, index);
-    let Check::Passed = checked else {
-        return RightDropped {
-            answer: answer_of(checked),
-            session: s,
-        };
-    };
-    spend_at(End::Right, t, pool, size, index);
-    RightDropped {
-        answer: Answer::Accepted(0),
-        session: RightSession { terms: t, due: 0 },
-    }
 }
 
 pub fn solver_drop(pool: &mut [u32], size: usize, index: usize, s: SolverSession) -> SolverDropped

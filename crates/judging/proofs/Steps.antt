@@ -1,4 +1,5 @@
 -- The tests of steps, judged by the groups in which the code makes them: the sorted tests are the groups' sorted tests, by computing.
+--   in-two                                     two phases
 --   first-phases, open-phases, none-due        without a message
 --   received-phases, later-phases, later-closed   with one
 -- Assumes nothing.
@@ -21,8 +22,8 @@ use Rattle.judging.specs.Received.{receivedNumbers, receivedWords, close
 use Rattle.judging.proofs.InOrder.{judge-sorted, after-last}
 use Rattle.judging.proofs.Join.{judged-phases}
 
--- two phases
-in-two : (ts : List Test) (n w : List Test) → sorted ts ≡ sorted n ++ (sorted w ++ []) → judged ts ≡ after (judged n) (judged w)
+-- tests made in two phases; `sorts` is `refl` where all is written out
+pub in-two : (ts : List Test) (n w : List Test) → sorted ts ≡ sorted n ++ (sorted w ++ []) → judged ts ≡ after (judged n) (judged w)
 in-two ts n w e = judged-phases ts (n ∷ w ∷ []) e ∙ ap (after (judged n)) (sym (after-last (judged w)))
 
 module _ (role : Role) (t : Terms) (s : Slot) where

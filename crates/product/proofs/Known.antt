@@ -1,57 +1,31 @@
 -- What is known where tests passed.
---   first-placed                 the numbers of step 1
---   last-received                the numbers of step 3
---   first-known, left-known, last-known   a step that is accepted
---   masks, left-shape, last-shape   what the writers ask
+--   first-known, left-known, last-known, drop-known   a step, and a drop, that is accepted
+--   answering, sharing                                what the writers ask
+--   first-part, second-part                           the parts of a message of kind 2
 -- Assumes nothing.
-use mathlib.Core.Path.{_≡_, sym, _∙_}
-use mathlib.Core.Bool.{true}
-use mathlib.Core.List.{List, [], _∷_}
-use Prim.Native.Nat.{ℕ, _+_, _*_, _≤_}
+use mathlib.Core.Path.{_≡_, refl, sym, _∙_}
+use mathlib.Core.List.{List}
+use Prim.Native.Nat.{ℕ, _+_, _*_}
 use native.Mathlib.Omega.{arith}
-use lib.ListN.{length}
-use borrow.Author.Tests.{leb-true}
+use lib.ListN.{length, take, drop, length-drop}
+use lib.Seq.{take-all}
+use Rattle.algebra.specs.Count.{part, parts}
 use Rattle.protocol.specs.declared.Terms.{Terms}
-use Rattle.protocol.specs.declared.Head.{Head}
 use Rattle.protocol.specs.declared.RightSession.{RightSession}
 use Rattle.protocol.specs.Judge.{done}
-use Rattle.protocol.specs.Bounds.{sidesFit}
-use Rattle.protocol.specs.Tape.{Slot, isSlot, slotAt, Role, right, layout, slotWords}
-use Rattle.tape.specs.Placed.{Placed}
-use Rattle.protocol.specs.Message.{Message}
+use Rattle.protocol.specs.Tape.{Slot, left, right}
+use Rattle.protocol.specs.Message.{Message, messageLayout, messageParts}
+use Rattle.protocol.specs.Step.{openTests}
 use Rattle.protocol.specs.Product.{rightFirstEffect, rightFirstTests, rightFirst, leftEffect, leftTests, leftStep, rightLastEffect, rightLastTests, rightLast}
 use Rattle.protocol.proofs.Judge.{passed}
-use Rattle.algebra.specs.Count.{part}
-use Rattle.algebra.specs.Matrix.{Residues}
-use Rattle.algebra.proofs.Parts.{Fits, _then_}
-use Rattle.protocol.proofs.Tests.{FirstFits}
+use Rattle.protocol.proofs.Tests.{OpenFits, open-tests}
 use Rattle.protocol.proofs.StepTests.{RightFirstFits, right-first, LeftFits, left-step, RightLastFits, right-last}
+use Rattle.protocol.proofs.CompletionLaws.{first-of}
 use Rattle.judging.specs.InOrder.{judged}
 use Rattle.judging.proofs.InOrder.{accepted-by}
-use Rattle.tape.proofs.Sides.{sides}
-use Rattle.tape.proofs.Slots.{left-size, right-size}
-use Rattle.judging.specs.Groups.{modulusTests, numberTests, placeTests}
-use Rattle.judging.specs.Received.{receivedNumbers}
-use Rattle.judging.proofs.Fits.{Received, received-fits}
-use Rattle.product.specs.Groups.{firstNumbers, lastNumbers}
-use Rattle.product.specs.Shape.{Masks, LeftShape, LastShape}
-use Rattle.judging.proofs.Join.{first-passed}
-use Rattle.judging.proofs.KindLaws.{size-1, size-2}
-
-pub first-placed : (t : Terms) (pool : List ℕ) (size index y room : ℕ) → judged (firstNumbers t (length pool) size index y room) ≡ done tt
-    → Placed right t (slotAt pool size index)
-unfolding firstNumbers modulusTests numberTests placeTests isSlot
-first-placed t pool size index y room e =
-    let s = passed (firstNumbers t (length pool) size index y room) e .0 .1 .1 in
-    record { sides = s .1 .0; inside = s .1 .1 .1 .0; room = leb-true _ _ (s .1 .1 .1 .1 .0) }
-
--- ---- with a message
-
-pub last-received : (x : RightSession) (a : Head) (count pool size index share : ℕ) → judged (lastNumbers x a count pool size index share) ≡ done tt
-    → Received right (x .terms) pool size index
-unfolding lastNumbers
-last-received x a count pool size index share e =
-    received-fits right (x .terms) a count pool size index (first-passed (receivedNumbers right (x .terms) a count pool size index) _ e)
+use Rattle.judging.proofs.Fits.{first-placed, open-placed}
+use Rattle.judging.proofs.KindLaws.{size-2}
+use Rattle.product.specs.Shape.{Answering, Sharing}
 
 -- ---- a step that is accepted
 
@@ -69,53 +43,37 @@ pub last-known : (x : RightSession) (s : Slot) (a : Message) (share : ℕ) → j
 unfolding rightLast
 last-known x s a share h = right-last x s a share .means (accepted-by (rightLastTests x s a share) (rightLastEffect x s a) h) .0
 
+pub drop-known : (due : ℕ) (t : Terms) (s : Slot) → judged (openTests right due t s) ≡ done tt → OpenFits right due t s
+drop-known due t s h = open-tests right due t s .0 (record { all = passed (openTests right due t s) h .0 })
+
 -- ---- what the writers ask
 
--- of a half's two matrices, the first
-first-of : {q a b : ℕ} {ls : List (List ℕ)} → Fits q (a ∷ b ∷ []) ls → Residues q a (part 0 ls)
-first-of (r then _) = r
-
-pub masks : (role : Role) (t : Terms) (s : Slot) (a b : ℕ) (input : List ℕ) {words : List ℕ} → layout role (t .m) (t .k) (t .p) ≡ a ∷ b ∷ [] → FirstFits role t s
-    → Residues (t .q) a input → words ≡ slotWords s → Masks role t a input words
-masks role t s a b input sizes f r e = record {
-  small-q = omega (arith, f .terms .small);
-  plain = r;
-  mask = rw (e) (first-of (rw sizes at (f .matrices-fit)));
+pub answering : (t : Terms) (s : Slot) (x words : List ℕ) (a : Message) (room share : ℕ) → LeftFits t s x words a room share → Answering t s x
+answering t s x words a room share f = record {
+  placed = first-placed left t s (f .first);
+  some-q = omega (arith, f .first .terms .big);
+  small-q = omega (arith, f .first .terms .small);
+  plain = f .x-fits;
+  mask = first-of (f .first .matrices-fit);
 }
 
-pub left-shape : (t : Terms) (s : Slot) (x words : List ℕ) (a : Message) (room share slot : ℕ) → LeftFits t s x words a room share → slot ≡ s .size
-    → LeftShape t (length x) (length (a .residues)) slot room
-left-shape t s x words a room share slot f e =
-    let b = sides (t .m) (t .k) (t .p) (f .first .terms .sides) in
+pub sharing : (x : RightSession) (s : Slot) (a : Message) (share : ℕ) → RightLastFits x s a share → Sharing (x .terms) s (length (a .residues)) share
+sharing x s a share f =
+    let o = f .later .session-open in
     record {
-      some-q = omega (arith, f .first .terms .big);
-      small-q = omega (arith, f .first .terms .small);
-      few-k = b .few-k;
-      some-p = b .some-p;
-      few-mk = b .few-mk;
-      few-kp = b .few-kp;
-      few-mp = b .few-mp;
-      half = omega (arith, f .first .half .room, e, left-size (t .m) (t .k) (t .p));
-      full-x = f .x-fits .size;
-      full-y = f .message .residues .size ∙ sym (size-1 t);
-      room = omega (arith, f .message-room, size-2 t);
-    }
-
-pub last-shape : (x : RightSession) (s : Slot) (a : Message) (share slot : ℕ) → RightLastFits x s a share → slot ≡ s .size
-    → LastShape (x .terms) (length (a .residues)) slot share
-last-shape x s a share slot f e =
-    let t = x .terms in
-    let open-fits = f .later .session-open in
-    let b = sides (t .m) (t .k) (t .p) (open-fits .terms .sides) in
-    record {
-      some-q = omega (arith, open-fits .terms .big);
-      small-q = omega (arith, open-fits .terms .small);
-      few-k = b .few-k;
-      some-p = b .some-p;
-      few-mk = b .few-mk;
-      few-kp = b .few-kp;
-      few-mp = b .few-mp;
-      half = omega (arith, open-fits .half .room, e, right-size (t .m) (t .k) (t .p));
-      full = f .message .residues .size ∙ sym (size-2 t);
+      placed = open-placed right (x .terms) s o;
+      some-q = omega (arith, o .terms .big);
+      small-q = omega (arith, o .terms .small);
+      full = f .message .residues .size ∙ sym (size-2 (x .terms));
       room = f .share-room;
     }
+
+-- ---- a message's parts
+
+pub first-part : (t : Terms) (a : Message) → part 0 (messageParts 2 t a) ≡ take (t .m * t .k) (a .residues)
+unfolding messageParts messageLayout parts
+first-part t a = refl
+
+pub second-part : (t : Terms) (a : Message) → length (a .residues) ≡ t .m * t .k + t .m * t .p → part 1 (messageParts 2 t a) ≡ drop (t .m * t .k) (a .residues)
+unfolding messageParts messageLayout parts
+second-part t a e = take-all (t .m * t .p) (drop (t .m * t .k) (a .residues)) (omega (arith, length-drop (t .m * t .k) (a .residues)))

@@ -2,11 +2,10 @@
 use crate::RightAnswer;
 use crate::refused;
 use judging::Check;
-use judging::held::check_body;
-use judging::held::check_tape;
+use judging::check_input;
+use judging::message::has_room;
 use judging::need;
-use judging::numbers::check_modulus;
-use judging::numbers::check_sizes;
+use judging::step::check_first;
 use judging::worst;
 use protocol::Answer;
 use protocol::Head;
@@ -16,51 +15,36 @@ use protocol::Terms;
 use tape::End;
 use tape::change::take_up_at;
 use tape::half::matrix_start;
-use tape::header::READY;
-use vectors::all_below;
 use vectors::subtract_residues;
 use vectors::times;
 ghost use mathlib.Core.Path.{_≡_};
-ghost use mathlib.Core.List.{[]};
+ghost use mathlib.Core.List.{[], _++_};
+ghost use Prim.Native.Nat.{_*_};
 ghost use lib.ListN.{length};
 ghost use Rattle.protocol.specs.Judge.{done};
-ghost use Rattle.protocol.specs.Tape.{right, slotAt, slotWords};
+ghost use Rattle.protocol.specs.Bounds.{inputTests, roomTests};
+ghost use Rattle.protocol.specs.Tape.{slotAt};
+ghost use Rattle.protocol.specs.Message.{messageSize};
 ghost use Rattle.protocol.specs.Product.{noRight, rightFirstEffect, rightFirstTests, rightFirst};
 ghost use Rattle.protocol.specs.Step.{answerReply};
-ghost use Rattle.tape.specs.Placed.{Placed};
 ghost use Rattle.judging.specs.InOrder.{checked, judged};
 ghost use Rattle.judging.specs.Leaves.{Leaves, leaves, Computed, computed};
-ghost use Rattle.product.specs.Groups.{firstNumbers, firstWords};
 
-fn check_numbers(t: Terms, pool: usize, size: usize, index: usize, y: usize, room: usize) -> Check
-    ensures { λ r. ⌜ checked r ≡ judged (firstNumbers t pool size index y room) ⌝ }
+// Y, and room for the message.
+fn check_own(t: Terms, y: &[u32], room: usize) -> Check
+    ensures { λ r. ⌜ checked r ≡ judged (inputTests (t .q) (t .k * t .p) (now (y .entry)) ++ roomTests (messageSize 1 t) room) ⌝ }
 {
-    let kp = times(t.k, t.p);
-    let modulus = check_modulus(End::Right, t.q);
-    let sizes = check_sizes(End::Right, t, pool, size, index);
-    let input = need(Refusal::Size, y == kp);
-    let sent = need(Refusal::Size, kp <= room);
-    worst(modulus, worst(sizes, worst(input, sent)))
-}
-
-fn check_words(t: Terms, y: &[u32], pool: &[u32], size: usize, index: usize) -> Check
-    requires { ⌜ Placed right t (slotAt (now pool) size index) ⌝ }
-    ensures { λ r. ⌜ checked r ≡ judged (firstWords t (now (y .entry)) (slotWords (slotAt (now (pool .entry)) size index))) ⌝ }
-{
-    let tape = check_tape(End::Right, READY, t, pool, size, index);
-    let body = check_body(End::Right, t, pool, size, index);
-    let input = need(Refusal::Residue, all_below(t.q, y));
-    worst(tape, worst(body, input))
+    let input = check_input(t.q, times(t.k, t.p), y);
+    let sent = need(Refusal::Size, has_room(1, t, room));
+    worst(input, sent)
 }
 
 fn check(pool: &[u32], size: usize, index: usize, t: Terms, y: &[u32], room: usize) -> Check
     ensures { λ r. ⌜ checked r ≡ judged (rightFirstTests t (slotAt (now (pool .entry)) size index) (now (y .entry)) room) ⌝ }
 {
-    let numbers = check_numbers(t, pool.len(), size, index, y.len(), room);
-    let Check::Passed = numbers else {
-        return numbers;
-    };
-    check_words(t, y, pool, size, index)
+    let first = check_first(End::Right, t, pool, size, index);
+    let own = check_own(t, y, room);
+    worst(first, own)
 }
 
 // Y1 goes into `out`; the session waits for kind 2.

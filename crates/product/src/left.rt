@@ -3,10 +3,12 @@ use crate::LeftAnswer;
 use drawing::draw;
 use judging::Check;
 use judging::answer_of;
-use judging::message::message_size;
+use judging::check_input;
+use judging::message::has_room;
 use judging::message::no_head;
 use judging::need;
 use judging::received::check_coins;
+use judging::step::check_first_received;
 use judging::worst;
 use matrix::write_reply;
 use protocol::Answer;
@@ -14,47 +16,35 @@ use protocol::Head;
 use protocol::Refusal;
 use protocol::Terms;
 use tape::End;
-use tape::change::spend;
+use tape::change::spend_at;
+use tape::half::matrix_start;
 use vectors::add_residues;
-use vectors::all_below;
 use vectors::times;
 ghost use mathlib.Core.Path.{_≡_};
-ghost use mathlib.Core.Bool.{true};
 ghost use mathlib.Core.List.{[], _++_};
-ghost use Prim.Native.Nat.{_+_, _*_, _≤_, _<_};
+ghost use Prim.Native.Nat.{_+_, _*_, _≤_};
 ghost use lib.ListN.{length};
 ghost use Rattle.algebra.specs.Count.{part};
 ghost use Rattle.algebra.specs.Words.{over};
 ghost use Rattle.algebra.specs.Product.{sendX, sendR};
-ghost use Rattle.protocol.specs.Drawing.{residuesOf, drawn, wordsRead};
-ghost use Rattle.protocol.specs.Bounds.{sidesFit, product};
-ghost use Rattle.protocol.specs.Tape.{left, slotAt, tapeSize, matrices, wordsSpent};
-ghost use Rattle.protocol.specs.Product.{leftTests, leftStep};
-ghost use Rattle.judging.specs.InOrder.{checked, judged};
+ghost use Rattle.protocol.specs.Judge.{done};
+ghost use Rattle.protocol.specs.Bounds.{inputTests, roomTests};
+ghost use Rattle.protocol.specs.Tape.{left, slotAt, slotWords, matrices};
+ghost use Rattle.protocol.specs.Message.{messageSize};
+ghost use Rattle.protocol.specs.Product.{leftEffect, leftTests, leftStep};
 ghost use Rattle.protocol.specs.Step.{answerReply};
-ghost use Rattle.judging.specs.Leaves.{Leaves, leaves};
-ghost use Rattle.product.specs.Groups.{leftLengths, leftWords};
-ghost use Rattle.product.specs.Shape.{Masks, LeftShape};
+ghost use Rattle.judging.specs.InOrder.{checked, judged};
+ghost use Rattle.judging.specs.Leaves.{Leaves, leaves, Computed, computed};
+ghost use Rattle.product.specs.Shape.{Answering};
 
-// The lengths of the input and of the slices that are written; and the message is the one due.
-fn check_lengths(t: Terms, kind: u32, x: usize, room: usize, share: usize) -> Check
-    requires { ⌜ t .m * t .k + t .m * t .p ≤ 4096 ⌝ }
-    ensures { λ r. ⌜ checked r ≡ judged (leftLengths t kind x room share) ⌝ }
+// X, and room for the message and the share.
+fn check_own(t: Terms, x: &[u32], room: usize, share: usize) -> Check
+    ensures { λ r. ⌜ checked r ≡ judged (inputTests (t .q) (t .m * t .k) (now (x .entry)) ++ (roomTests (messageSize 2 t) room ++ roomTests (t .m * t .p) share)) ⌝ }
 {
-    let input = need(Refusal::Size, x == times(t.m, t.k));
-    let sent = need(Refusal::Size, message_size(2, t) <= room);
+    let input = check_input(t.q, times(t.m, t.k), x);
+    let sent = need(Refusal::Size, has_room(2, t, room));
     let result = need(Refusal::Size, times(t.m, t.p) <= share);
-    let due = need(Refusal::Turn, kind == 1);
-    worst(input, worst(sent, worst(result, due)))
-}
-
-fn check_words(t: Terms, x: &[u32], a: Head, residues: &[u32], slot: &[u32]) -> Check
-    requires { ⌜ (sidesFit product (t .m) (t .k) (t .p) ≡ true) × (tapeSize left (t .m) (t .k) (t .p) ≤ length (now slot)) ⌝ }
-    ensures { λ r. ⌜ checked r ≡ judged (leftWords t (now (x .entry)) a (now (residues .entry)) (now (slot .entry))) ⌝ }
-{
-    let received = judging::received::check_words(End::Left, 1, t, a, slot, residues);
-    let input = need(Refusal::Residue, all_below(t.q, x));
-    worst(received, input)
+    worst(input, worst(sent, result))
 }
 
 fn check(
@@ -71,34 +61,41 @@ fn check(
 ) -> Check
     ensures { λ r. ⌜ checked r ≡ judged (leftTests t (slotAt (now (pool .entry)) size index) (now (x .entry)) (now (words .entry)) (record { head = a; residues = now (residues .entry) }) room share) ⌝ }
 {
-    let count = residues.len();
-    let numbers = judging::received::check_numbers(End::Left, t, a, count, pool.len(), size, index);
-    let Check::Passed = numbers else {
-        return numbers;
-    };
-    let lengths = check_lengths(t, a.kind, x.len(), room, share);
-    let Check::Passed = lengths else {
-        return lengths;
-    };
-    let at = index * size;
-    let end = at + size;
-    let held = check_words(t, x, a, residues, &pool[at..end]);
-    let Check::Passed = held else {
-        return held;
+    let first = check_first_received(End::Left, 1, t, a, residues, pool, size, index);
+    let own = check_own(t, x, room, share);
+    let both = worst(first, own);
+    let Check::Passed = both else {
+        return both;
     };
     check_coins(t.q, times(t.m, t.p), words)
 }
 
-// X + X0, and then X × Y1 − U − A0.
-fn write_message(t: Terms, x: &[u32], y1: &[u32], u: &[u32], slot: &[u32], out: &mut [u32])
-    requires { ⌜ LeftShape t (length (now x)) (length (now y1)) (length (now slot)) (length (now out)) × (length (now u) ≡ t .m * t .p) × Masks left t (t .m * t .k) (now x) (now slot) ⌝ }
-    ensures { λ _. ⌜ now (out .exit) ≡ over (sendX (t .q) (t .m) (t .k) (t .p) (now (x .entry)) (part 0 (matrices left t (now (slot .entry))))
-        ++ sendR (t .q) (t .m) (t .k) (t .p) (now (x .entry)) (now (y1 .entry)) (now (u .entry)) (part 1 (matrices left t (now (slot .entry))))) (now (out .entry)) ⌝ }
+// X1 = X + X0.
+fn write_x(t: Terms, x: &[u32], pool: &[u32], size: usize, index: usize, out: &mut [u32])
+    requires { ⌜ Answering t (slotAt (now pool) size index) (now x) × (t .m * t .k ≤ length (now out)) ⌝ }
+    ensures { λ _. ⌜ now (out .exit) ≡ over (sendX (t .q) (t .m) (t .k) (t .p) (now (x .entry)) (part 0 (matrices left t (slotWords (slotAt (now (pool .entry)) size index))))) (now (out .entry)) ⌝ }
 {
-    let mk = times(t.m, t.k);
-    let middle = 7 + mk;
-    let end = middle + times(t.m, t.p);
-    add_residues(t.q, mk, x, &slot[7..middle], out);
+    let from = matrix_start(End::Left, t, 0, pool, size, index);
+    let stop = matrix_start(End::Left, t, 1, pool, size, index);
+    add_residues(t.q, times(t.m, t.k), x, &pool[from..stop], out);
+}
+
+// R1 = X × Y1 − U − A0.
+fn write_r(
+    t: Terms,
+    x: &[u32],
+    y1: &[u32],
+    u: &[u32],
+    pool: &[u32],
+    size: usize,
+    index: usize,
+    out: &mut [u32],
+)
+    requires { ⌜ Answering t (slotAt (now pool) size index) (now x) × (length (now y1) ≡ t .k * t .p) × (length (now u) ≡ t .m * t .p) × (t .m * t .p ≤ length (now out)) ⌝ }
+    ensures { λ _. ⌜ now (out .exit) ≡ over (sendR (t .q) (t .m) (t .k) (t .p) (now (x .entry)) (now (y1 .entry)) (now (u .entry)) (part 1 (matrices left t (slotWords (slotAt (now (pool .entry)) size index))))) (now (out .entry)) ⌝ }
+{
+    let from = matrix_start(End::Left, t, 1, pool, size, index);
+    let stop = matrix_start(End::Left, t, 2, pool, size, index);
     write_reply(
         t.q,
         t.m as usize,
@@ -107,33 +104,57 @@ fn write_message(t: Terms, x: &[u32], y1: &[u32], u: &[u32], slot: &[u32], out: 
         x,
         y1,
         u,
-        &slot[middle..end],
-        &mut out[mk..],
+        &pool[from..stop],
+        out,
     );
 }
 
-// The answer is how many words were read.
-fn write(
+// X1, and then R1.
+fn write_message(
+    t: Terms,
+    x: &[u32],
+    y1: &[u32],
+    u: &[u32],
+    pool: &[u32],
+    size: usize,
+    index: usize,
+    out: &mut [u32],
+)
+    requires { ⌜ Answering t (slotAt (now pool) size index) (now x) × (length (now y1) ≡ t .k * t .p) × (length (now u) ≡ t .m * t .p) × (t .m * t .k + t .m * t .p ≤ length (now out)) ⌝ }
+    ensures { λ _. ⌜ now (out .exit) ≡ over (sendX (t .q) (t .m) (t .k) (t .p) (now (x .entry)) (part 0 (matrices left t (slotWords (slotAt (now (pool .entry)) size index))))
+        ++ sendR (t .q) (t .m) (t .k) (t .p) (now (x .entry)) (now (y1 .entry)) (now (u .entry)) (part 1 (matrices left t (slotWords (slotAt (now (pool .entry)) size index))))) (now (out .entry)) ⌝ }
+{
+    let mk = times(t.m, t.k);
+    write_x(t, x, pool, size, index, out);
+    write_r(t, x, y1, u, pool, size, index, &mut out[mk..]);
+}
+
+// U is drawn into the share; X1 and R1 go into `out`.
+fn compute(
+    pool: &[u32],
+    size: usize,
+    index: usize,
     t: Terms,
     x: &[u32],
     words: &[u32],
-    y1: &[u32],
-    slot: &mut [u32],
+    a: Head,
+    residues: &[u32],
     out: &mut [u32],
     share: &mut [u32],
-) -> usize
-    requires { ⌜ LeftShape t (length (now x)) (length (now y1)) (length (now slot)) (length (now out)) × (sidesFit product (t .m) (t .k) (t .p) ≡ true) × (t .m * t .p ≤ length (residuesOf (t .q) (now words))) × (t .m * t .p ≤ length (now share)) × Masks left t (t .m * t .k) (now x) (now slot) ⌝ }
-    ensures { λ r. ⌜ r ≡ wordsRead (t .q) (t .m * t .p) (now (words .entry)) ⌝ }
-    ensures { λ _. ⌜ now (slot .exit) ≡ wordsSpent left t (now (slot .entry)) ⌝ }
-    ensures { λ _. ⌜ now (out .exit) ≡ over (sendX (t .q) (t .m) (t .k) (t .p) (now (x .entry)) (part 0 (matrices left t (now (slot .entry))))
-        ++ sendR (t .q) (t .m) (t .k) (t .p) (now (x .entry)) (now (y1 .entry)) (drawn (t .q) (t .m * t .p) (now (words .entry))) (part 1 (matrices left t (now (slot .entry))))) (now (out .entry)) ⌝ }
-    ensures { λ _. ⌜ now (share .exit) ≡ over (drawn (t .q) (t .m * t .p) (now (words .entry))) (now (share .entry)) ⌝ }
+) -> LeftAnswer
+    requires { ⌜ judged (leftTests t (slotAt (now pool) size index) (now x) (now words) (record { head = a; residues = now residues }) (length (now out)) (length (now share))) ≡ done tt ⌝ }
+    ensures { λ r. ⌜ _≡_ {A = Computed Unit}
+        (record { answer = answerReply (r .answer); session = tt; head = r .head; scratch = []; sent = now (out .exit); result = now (share .exit) })
+        (computed [] (now (out .entry)) (now (share .entry))
+        (leftEffect t (slotAt (now (pool .entry)) size index) (now (x .entry)) (now (words .entry)) (record { head = a; residues = now (residues .entry) }))) ⌝ }
 {
     let mp = times(t.m, t.p);
     let count = draw(t.q, mp, words, share);
-    write_message(t, x, y1, &share[..mp], slot, out);
-    spend(End::Left, t, slot);
-    count
+    write_message(t, x, residues, &share[..mp], pool, size, index, out);
+    LeftAnswer {
+        answer: Answer::Accepted(count),
+        head: Head { kind: 2, terms: t },
+    }
 }
 
 // Step 2 (RULES 4.3): U is drawn, X1 = X + X0 and R1 = X × Y1 − U − A0; the share is U.
@@ -156,29 +177,15 @@ pub fn left_step(
         (length (now (out .entry))) (length (now (share .entry))))) ⌝ }
 {
     let room = out.len();
-    let checked = check(
-        pool,
-        size,
-        index,
-        t,
-        x,
-        words,
-        a,
-        residues,
-        room,
-        share.len(),
-    );
+    let given = share.len();
+    let checked = check(pool, size, index, t, x, words, a, residues, room, given);
     let Check::Passed = checked else {
         return LeftAnswer {
             answer: answer_of(checked),
             head: no_head(),
         };
     };
-    let at = index * size;
-    let end = at + size;
-    let count = write(t, x, words, residues, &mut pool[at..end], out, share);
-    LeftAnswer {
-        answer: Answer::Accepted(count),
-        head: Head { kind: 2, terms: t },
-    }
+    let done = compute(pool, size, index, t, x, words, a, residues, out, share);
+    spend_at(End::Left, t, pool, size, index);
+    done
 }

@@ -1,13 +1,18 @@
-// The steps of a product, by value: right's first, left's one, and right's last.
+// The steps of a product, by value: right's first, left's one, and right's last; and right's drop.
 //   RightAnswer, LeftAnswer   what a step answers
 //   first, left, last         the three steps: right_first, left_step, right_last
+//   drop                      right_drop
 // A step is given its pool, the size of the pool's slots and the index of its own; its terms or its session; its inputs; the message that
 // it takes, a head and residues; and last the slices that it writes.
-// For hosts: right_first, left_step, right_last.
+// A step judges everything (`check`), computes what it sends and gives from what it was lent (`compute`), and changes its tape.
+// For hosts: right_first, left_step, right_last, right_drop.
+mod drop;
 mod first;
 mod last;
 mod left;
 
+pub use drop::RightDropped;
+pub use drop::right_drop;
 pub use first::right_first;
 use judging::Check;
 use judging::answer_of;

@@ -1,14 +1,14 @@
 -- The sizes of a half's matrices, past the first: the same for every end of one sort.
 --   second-size, later-sizes   the second matrix, and those behind it
 --   half-bound                 no half passes 8,192 words behind its header
---   Stands, matrix-stands      matrix j of a half is one part of its pool
+--   Stands, matrix-stands, matrix-length   matrix j of a half is one part of its pool
 -- Assumes nothing.
 use mathlib.Core.Path.{_≡_, refl, sym, ap, _∙_}
 use mathlib.Core.Bool.{true}
 use mathlib.Core.List.{List}
 use Prim.Native.Nat.{ℕ, zero, suc, _+_, _-_, _*_, _≤_, _<_}
 use native.Mathlib.Omega.{arith}
-use lib.ListN.{length, getD, take, drop}
+use lib.ListN.{length, getD, take, drop, length-take, length-drop}
 use lib.Seq.{drop-drop}
 use Rattle.algebra.specs.Count.{part}
 use Rattle.protocol.specs.declared.Terms.{Terms}
@@ -67,3 +67,11 @@ matrix-stands role t j pool size index {from} {stop} p e f =
           (ap (take (b - a)) (sym (drop-drop a (index * size) pool))
           ∙ (sym (part-of-start (b - a) size a (drop (index * size) pool) inside) ∙ matrix-part role t j (take size (drop (index * size) pool))));
     }
+
+-- how many words it has
+pub matrix-length : (role : Role) (t : Terms) (j : ℕ) (pool : List ℕ) (size index : ℕ) → Placed role t (slotAt pool size index)
+    → length (part j (matrices role t (slotWords (slotAt pool size index)))) ≡ getD (layout role (t .m) (t .k) (t .p)) j 0
+matrix-length role t j pool size index p =
+    let m = matrix-stands role t j pool size index p refl refl in
+    let next = matrix-next role (t .m) (t .k) (t .p) j in
+    ap length (sym (m .is)) ∙ simp (length-take, length-drop) (omega (arith, m .ends))

@@ -1,43 +1,26 @@
 -- `product::first::check` meets its contract. Assumes nothing.
-use mathlib.Core.Path.{sym, ap, _∙_}
+use mathlib.Core.Path.{_∙_}
 use Rattle.protocol.specs.Tape.{slotAt}
-use Rattle.judging.specs.InOrder.{checked}
-use Rattle.judging.proofs.Join.{hands-on, goes-past}
-use Rattle.product.proofs.Known.{first-placed}
-use Rattle.product.proofs.Order.{first-phases}
+use Rattle.product.proofs.Phases.{first-tests-are}
+use Rattle.judging.proofs.Join.{also}
 use borrow.Author.Needs.{needs}
 use Rattle.product.proofs.first.check.Statement.{statement}
 use Rattle.product.proofs.first.check.Tie as tie
 
-check-numbers-requires : tie.Need-check-numbers-requires
-check-numbers-requires c κs = search needs
+check-first-requires : tie.Need-check-first-requires
+check-first-requires c κs = search needs
 
-enum-told : tie.Need-enum-told
-enum-told c = search needs
+check-own-requires : tie.Need-check-own-requires
+check-own-requires c κs = search needs
 
-enum-told-2 : tie.Need-enum-told-2
-enum-told-2 c = search needs
+worst-requires : tie.Need-worst-requires
+worst-requires c κs = search needs
 
 returns : tie.Need-returns
 returns c =
     let a = c .before .before .before .before .before .args in
-    hands-on (c .before .before .check-numbers .result) _ (c .before .before .check-numbers .ensures) (c .enum-told2 .given .1) ∙ sym
-    (first-phases (a .t) (slotAt (a .pool .now) (a .size) (a .index)) (a .y .now) (a .room))
-
-check-words-requires : tie.Need-check-words-requires
-check-words-requires c κs =
-    let a = c .before .before .before .before .before .args in
-    first-placed (a .t) (a .pool .now) (a .size) (a .index) _ _ (sym (c .before .before .check-numbers .ensures) ∙ ap checked (c .enum-told .given .1))
-
-returns-2 : tie.Need-returns-2
-returns-2 c =
-    let a = c .before .before .before .before .before .before .args in
-    let check-numbers = c .before .before .before .check-numbers in
-    c .check-words .ensures ∙ sym
-    (first-phases (a .t) (slotAt (a .pool .now) (a .size) (a .index)) (a .y .now) (a .room)
-    ∙ goes-past (check-numbers .result) (check-numbers .ensures) (c .before .enum-told .given .1))
+    also _ _ (c .worst .ensures) (c .before .before .check-first .ensures) (c .before .check-own .ensures)
+    ∙ first-tests-are (a .t) (slotAt (a .pool .now) (a .size) (a .index)) (a .y .now) (a .room)
 
 pub check-spec : {M : Type 1} → statement M
-check-spec =
-    tie.close
-    (tie.spec check-numbers-requires enum-told enum-told-2 returns check-words-requires returns-2)
+check-spec = tie.close (tie.spec check-first-requires check-own-requires worst-requires returns)

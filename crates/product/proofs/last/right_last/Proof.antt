@@ -1,26 +1,18 @@
 -- `product::last::right_last` meets its contract. Assumes nothing.
 use mathlib.Core.Path.{sym, ap, _∙_}
-use native.Mathlib.Omega.{arith}
-use lib.ListN.{length}
-use borrow.Author.Needs.{needs}
-use Rattle.tape.proofs.Slots.{slot-part, slot-part-length, slot-written, spent-keeps}
-use Rattle.protocol.specs.Tape.{slotAt, right, wordsSpent}
-use Rattle.product.proofs.Known.{last-known, last-shape}
-use Rattle.judging.proofs.Leaving.{refused-leaves}
-use Rattle.product.proofs.Leaving.{last-done}
-use Rattle.protocol.proofs.Slots.{slot-room}
+use mathlib.Core.List.{[]}
+use Rattle.protocol.specs.Tape.{right, slotAt}
 use Rattle.protocol.specs.Product.{rightLastEffect, rightLast}
 use Rattle.judging.specs.InOrder.{checked}
-use Rattle.judging.proofs.KindLaws.{size-2}
-use mathlib.Core.List.{[]}
+use Rattle.judging.proofs.Leaving.{refused-leaves, step-leaves}
+use Rattle.judging.proofs.Fits.{open-placed}
+use Rattle.product.proofs.Known.{last-known}
+use borrow.Author.Needs.{needs}
 use Rattle.product.proofs.last.right_last.Statement.{statement}
 use Rattle.product.proofs.last.right_last.Tie as tie
 
 check-requires : tie.Need-check-requires
 check-requires c κs = search needs
-
-no-head-requires : tie.Need-no-head-requires
-no-head-requires c κs = search needs
 
 enum-told : tie.Need-enum-told
 enum-told c = search needs
@@ -31,59 +23,32 @@ enum-told-2 c = search needs
 answer-of-requires : tie.Need-answer-of-requires
 answer-of-requires c κs = search needs
 
+no-head-requires : tie.Need-no-head-requires
+no-head-requires c κs = search needs
+
 same-length : tie.Need-same-length
 same-length c = search needs
 
 returns : tie.Need-returns
 unfolding rightLast
 returns c =
-    let a = c .before .before .before .before .before .before .before .before .before .args in
+    let told = c .before .before in
+    let a = told .before .before .before .before .before .before .before .args in
     let s = slotAt (a .pool .now) (a .size) (a .index) in
-    rw (c .answer-of .ensures, c .before .enum-told2 .given .1, c .before .before .before .no-head .ensures)
-    (sym (refused-leaves (a .s) s [] [] (a .share .now) _ (rightLastEffect (a .s) s (record { head = a .a; residues = a .residues .now })) (sym (c .before .before .before .before .check .ensures) ∙ ap checked (c .before .enum-told2 .given .1))))
+    let e = told .enum-told2 .given .1 in
+    rw (c .no-head .ensures, c .before .answer-of .ensures, e)
+    (sym (refused-leaves (a .s) s [] [] (a .share .now) _ (rightLastEffect (a .s) s _) (sym (told .before .before .check .ensures) ∙ ap checked e)))
 
-mul-at : tie.Need-mul-at
-mul-at c =
-    let a = c .before .before .before .before .before .before .before .before .before .args in
+compute-requires : tie.Need-compute-requires
+compute-requires c κs = sym (c .before .before .before .before .check .ensures) ∙ ap checked (c .before .before .enum-told .given .1)
+
+spend-at-requires : tie.Need-spend-at-requires
+spend-at-requires c κs =
+    let told = c .before .before .before .before .before .before in
+    let a = told .before .before .before .before .before .before .before .args in
     let s = slotAt (a .pool .now) (a .size) (a .index) in
-    let i = slot-room s (last-known (a .s) s (record { head = a .a; residues = a .residues .now }) (length (a .share .now)) (sym (c .before .before .before .before .check .ensures) ∙ ap checked (c .before .enum-told .given .1)) .later .session-open .half .inside) in
-    search needs
-
-add-end : tie.Need-add-end
-add-end c =
-    let a = c .before .before .before .before .before .before .before .before .before .args in
-    let s = slotAt (a .pool .now) (a .size) (a .index) in
-    let i = slot-room s (last-known (a .s) s (record { head = a .a; residues = a .residues .now }) (length (a .share .now)) (sym (c .before .before .before .before .check .ensures) ∙ ap checked (c .before .enum-told .given .1)) .later .session-open .half .inside) in
-    search needs
-
-mul-write : tie.Need-mul-write
-mul-write c =
-    let a = c .before .before .before .before .before .before .before .before .before .args in
-    let s = slotAt (a .pool .now) (a .size) (a .index) in
-    let i = slot-room s (last-known (a .s) s (record { head = a .a; residues = a .residues .now }) (length (a .share .now)) (sym (c .before .before .before .before .check .ensures) ∙ ap checked (c .before .enum-told .given .1)) .later .session-open .half .inside) in
-    search needs
-
-sub-write : tie.Need-sub-write
-sub-write c = search needs
-
-part-write-start : tie.Need-part-write-start
-part-write-start c = search needs
-
-part-write-end : tie.Need-part-write-end
-part-write-end c =
-    let a = c .before .before .before .before .before .before .before .before .before .args in
-    let s = slotAt (a .pool .now) (a .size) (a .index) in
-    let i = slot-room s (last-known (a .s) s (record { head = a .a; residues = a .residues .now }) (length (a .share .now)) (sym (c .before .before .before .before .check .ensures) ∙ ap checked (c .before .enum-told .given .1)) .later .session-open .half .inside) in
-    search needs
-
-write-requires : tie.Need-write-requires
-write-requires c κs =
-    let a = c .before .before .before .before .before .before .before .before .before .before .before .args in
-    let s = slotAt (a .pool .now) (a .size) (a .index) in
-    let f = last-known (a .s) s (record { head = a .a; residues = a .residues .now }) (length (a .share .now))
-    (sym (c .before .before .before .before .before .before .check .ensures) ∙ ap checked (c .before .before .before .enum-told .given .1)) in
-    let i = slot-room s (f .later .session-open .half .inside) in
-    (last-shape (a .s) s (record { head = a .a; residues = a .residues .now }) (length (a .share .now)) _ f (slot-part-length (a .pool .now) (a .size) (a .index) i), f .later .session-open .terms .sides)
+    let known = last-known (a .s) s _ _ (sym (told .before .before .check .ensures) ∙ ap checked (told .enum-told .given .1)) in
+    open-placed right (a .s .terms) s (known .later .session-open)
 
 same-length-2 : tie.Need-same-length-2
 same-length-2 c = search needs
@@ -92,39 +57,27 @@ same-length-3 : tie.Need-same-length-3
 same-length-3 c = search needs
 
 returns-2 : tie.Need-returns-2
+unfolding rightLast rightLastEffect
 returns-2 c =
-    let a = c .before .before .before .before .before .before .before .before .before .before .before .before .before .before .before .before .args in
-    let check = c .before .before .before .before .before .before .before .before .before .before .before .check in
-    let enum-told = c .before .before .before .before .before .before .before .before .enum-told in
-    let write = c .before .before .before .before .write in
+    let told = c .before .before .before .before .before .before .before .before .before in
+    let a = told .before .before .before .before .before .before .before .args in
     let s = slotAt (a .pool .now) (a .size) (a .index) in
-    let f = last-known (a .s) s (record { head = a .a; residues = a .residues .now }) (length (a .share .now))
-    (sym (check .ensures) ∙ ap checked (enum-told .given .1)) in
-    let i = slot-room s (f .later .session-open .half .inside) in
-    rw (c .before .before .before .before .before .before .before .before .before .before .no-head .ensures)
-    (last-done (a .s) s (record { head = a .a; residues = a .residues .now }) (a .share .now) (sym (check .ensures) ∙ ap checked (enum-told .given .1))
-    (f .message .residues .size ∙ sym (size-2 (a .s .terms)))
-    (slot-written (a .pool .now) _ (a .size) (a .index) (wordsSpent right (a .s .terms)) i (λ ws e. spent-keeps right (a .s .terms) ws (omega (arith, f .later .session-open .half .room, e)) ∙ e) (write .ensures .0))
-    (rw (slot-part (a .pool .now) (a .size) (a .index)) at (write .ensures .1)))
+    step-leaves (a .s) s [] [] (a .share .now) _ (rightLastEffect (a .s) s _) (sym (told .before .before .check .ensures) ∙ ap checked (told .enum-told .given .1))
+    (c .before .before .before .before .before .before .compute .ensures) (c .before .before .spend-at .ensures)
 
 pub right-last-spec : {M : Type 1} → statement M
 right-last-spec =
     tie.close
     (tie.spec
     check-requires
-    no-head-requires
     enum-told
     enum-told-2
     answer-of-requires
+    no-head-requires
     same-length
     returns
-    mul-at
-    add-end
-    mul-write
-    sub-write
-    part-write-start
-    part-write-end
-    write-requires
+    compute-requires
+    spend-at-requires
     same-length-2
     same-length-3
     returns-2)

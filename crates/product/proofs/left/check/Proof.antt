@@ -1,20 +1,21 @@
 -- `product::left::check` meets its contract. Assumes nothing.
 use mathlib.Core.Path.{sym, ap, _∙_}
-use native.Mathlib.Omega.{arith}
-use borrow.Author.Needs.{needs}
-use Rattle.judging.proofs.Join.{hands-on, goes-past}
-use Rattle.tape.proofs.Slots.{slot-part, slot-part-length}
-use Rattle.protocol.specs.Tape.{slotAt, left}
-use Rattle.protocol.specs.Bounds.{product}
-use Rattle.judging.proofs.Fits.{received-fits}
-use Rattle.product.proofs.Order.{left-phases}
+use Rattle.protocol.specs.Tape.{slotAt}
 use Rattle.judging.specs.InOrder.{checked}
-use Rattle.judging.proofs.KindLaws.{few}
+use Rattle.judging.proofs.Join.{also, hands-on, goes-past}
+use Rattle.product.proofs.Phases.{left-phases, left-modulus}
+use borrow.Author.Needs.{needs}
 use Rattle.product.proofs.left.check.Statement.{statement}
 use Rattle.product.proofs.left.check.Tie as tie
 
-check-numbers-requires : tie.Need-check-numbers-requires
-check-numbers-requires c κs = search needs
+check-first-received-requires : tie.Need-check-first-received-requires
+check-first-received-requires c κs = search needs
+
+check-own-requires : tie.Need-check-own-requires
+check-own-requires c κs = search needs
+
+worst-requires : tie.Need-worst-requires
+worst-requires c κs = search needs
 
 enum-told : tie.Need-enum-told
 enum-told c = search needs
@@ -24,126 +25,44 @@ enum-told-2 c = search needs
 
 returns : tie.Need-returns
 returns c =
-    let a = c .before .before .before .before .before .before .before .args in
-    hands-on (c .before .before .check-numbers .result) _ (c .before .before .check-numbers .ensures) (c .enum-told2 .given .1) ∙ sym
+    let a = c .before .before .before .before .before .before .before .before .before .args in
+    let shared = c .before .before .before .before .check-first-received .ensures in
+    let own = c .before .before .before .check-own .ensures in
+    let told = also _ _ (c .before .before .worst .ensures) shared own in
+    hands-on (c .before .before .worst .result) _ told (c .enum-told2 .given .1) ∙ sym
     (left-phases (a .t) (slotAt (a .pool .now) (a .size) (a .index)) (a .x .now) (a .words .now) (a .a) (a .residues .now) (a .room) (a .share))
-
-check-lengths-requires : tie.Need-check-lengths-requires
-check-lengths-requires c κs =
-    let a = c .before .before .before .before .before .before .before .args in
-    let k = received-fits left (a .t) (a .a) _ _ _ _ (sym (c .before .before .check-numbers .ensures) ∙ ap checked (c .enum-told .given .1)) in
-    few product (a .t .m) (a .t .k) (a .t .p) (k .sides-fit)
-
-enum-told-3 : tie.Need-enum-told-3
-enum-told-3 c = search needs
-
-enum-told-4 : tie.Need-enum-told-4
-enum-told-4 c = search needs
-
-returns-2 : tie.Need-returns-2
-returns-2 c =
-    let a = c .before .before .before .before .before .before .before .before .before .before .args in
-    let check-numbers = c .before .before .before .before .before .check-numbers in
-    hands-on (c .before .before .check-lengths .result) _ (c .before .before .check-lengths .ensures) (c .enum-told4 .given .1) ∙ sym
-    (left-phases (a .t) (slotAt (a .pool .now) (a .size) (a .index)) (a .x .now) (a .words .now) (a .a) (a .residues .now) (a .room) (a .share) ∙ goes-past (check-numbers .result) (check-numbers .ensures) (c .before .before .before .enum-told .given .1))
-
-mul-at : tie.Need-mul-at
-mul-at c =
-    let a = c .before .before .before .before .before .before .before .before .before .before .args in
-    let k = received-fits left (a .t) (a .a) _ _ _ _
-    (sym (c .before .before .before .before .before .check-numbers .ensures) ∙ ap checked (c .before .before .before .enum-told .given .1)) .inside in
-    search needs
-
-add-end : tie.Need-add-end
-add-end c =
-    let a = c .before .before .before .before .before .before .before .before .before .before .args in
-    let k = received-fits left (a .t) (a .a) _ _ _ _
-    (sym (c .before .before .before .before .before .check-numbers .ensures) ∙ ap checked (c .before .before .before .enum-told .given .1)) .inside in
-    search needs
-
-mul-check-words : tie.Need-mul-check-words
-mul-check-words c =
-    let a = c .before .before .before .before .before .before .before .before .before .before .args in
-    let k = received-fits left (a .t) (a .a) _ _ _ _
-    (sym (c .before .before .before .before .before .check-numbers .ensures) ∙ ap checked (c .before .before .before .enum-told .given .1)) .inside in
-    search needs
-
-sub-check-words : tie.Need-sub-check-words
-sub-check-words c = search needs
-
-part-check-words-start : tie.Need-part-check-words-start
-part-check-words-start c = search needs
-
-part-check-words-end : tie.Need-part-check-words-end
-part-check-words-end c =
-    let a = c .before .before .before .before .before .before .before .before .before .before .args in
-    let k = received-fits left (a .t) (a .a) _ _ _ _
-    (sym (c .before .before .before .before .before .check-numbers .ensures) ∙ ap checked (c .before .before .before .enum-told .given .1)) .inside in
-    search needs
-
-check-words-requires : tie.Need-check-words-requires
-check-words-requires c κs =
-    let a = c .before .before .before .before .before .before .before .before .before .before .before .args in
-    let k = received-fits left (a .t) (a .a) _ _ _ _
-    (sym (c .before .before .before .before .before .before .check-numbers .ensures) ∙ ap checked (c .before .before .before .before .enum-told .given .1)) in
-    (k .sides-fit, omega (arith, k .half, slot-part-length (a .pool .now) (a .size) (a .index) (k .inside)))
-
-enum-told-5 : tie.Need-enum-told-5
-enum-told-5 c = search needs
-
-enum-told-6 : tie.Need-enum-told-6
-enum-told-6 c = search needs
-
-returns-3 : tie.Need-returns-3
-returns-3 c =
-    let a = c .before .before .before .before .before .before .before .before .before .before .before .before .before .before .args in
-    let check-lengths = c .before .before .before .before .before .before .check-lengths in
-    let check-numbers = c .before .before .before .before .before .before .before .before .before .check-numbers in
-    hands-on (c .before .before .check-words .result) _
-    ((rw (slot-part (a .pool .now) (a .size) (a .index)) at (c .before .before .check-words .ensures))) (c .enum-told6 .given .1) ∙ sym
-    (left-phases (a .t) (slotAt (a .pool .now) (a .size) (a .index)) (a .x .now) (a .words .now) (a .a) (a .residues .now) (a .room) (a .share) ∙ goes-past (check-numbers .result) (check-numbers .ensures) (c .before .before .before .before .before .before .before .enum-told .given .1) ∙ goes-past (check-lengths .result) (check-lengths .ensures) (c .before .before .before .before .enum-told3 .given .1))
 
 times-requires : tie.Need-times-requires
 times-requires c κs = search needs
 
 check-coins-requires : tie.Need-check-coins-requires
 check-coins-requires c κs =
-    let a = c .before .before .before .before .before .before .before .before .before .before .before .before .before .before .before .args in
-    let k = received-fits left (a .t) (a .a) _ _ _ _
-    (sym (c .before .before .before .before .before .before .before .before .before .before .check-numbers .ensures) ∙ ap checked (c .before .before .before .before .before .before .before .before .enum-told .given .1)) in
-    k .modulus-fits .some
+    let a = c .before .before .before .before .before .before .before .before .before .before .args in
+    let shared = c .before .before .before .before .before .check-first-received .ensures in
+    let own = c .before .before .before .before .check-own .ensures in
+    let told = also _ _ (c .before .before .before .worst .ensures) shared own in
+    left-modulus (a .t) (slotAt (a .pool .now) (a .size) (a .index)) (a .a) (a .residues .now) _ (sym told ∙ ap checked (c .before .enum-told .given .1))
 
-returns-4 : tie.Need-returns-4
-returns-4 c =
-    let a = c .before .before .before .before .before .before .before .before .before .before .before .before .before .before .before .before .args in
-    let check-lengths = c .before .before .before .before .before .before .before .before .check-lengths in
-    let check-numbers = c .before .before .before .before .before .before .before .before .before .before .before .check-numbers in
-    let check-words = c .before .before .before .before .check-words in
+returns-2 : tie.Need-returns-2
+returns-2 c =
+    let a = c .before .before .before .before .before .before .before .before .before .before .before .args in
+    let shared = c .before .before .before .before .before .before .check-first-received .ensures in
+    let own = c .before .before .before .before .before .check-own .ensures in
+    let told = also _ _ (c .before .before .before .before .worst .ensures) shared own in
     (rw (c .before .times .ensures) at (c .check-coins .ensures)) ∙ sym
-    (left-phases (a .t) (slotAt (a .pool .now) (a .size) (a .index)) (a .x .now) (a .words .now) (a .a) (a .residues .now) (a .room) (a .share) ∙ goes-past (check-numbers .result) (check-numbers .ensures) (c .before .before .before .before .before .before .before .before .before .enum-told .given .1) ∙ goes-past (check-lengths .result) (check-lengths .ensures) (c .before .before .before .before .before .before .enum-told3 .given .1) ∙ goes-past (check-words .result) ((rw (slot-part (a .pool .now) (a .size) (a .index)) at (check-words .ensures))) (c .before .before .enum-told5 .given .1))
+    (left-phases (a .t) (slotAt (a .pool .now) (a .size) (a .index)) (a .x .now) (a .words .now) (a .a) (a .residues .now) (a .room) (a .share)
+    ∙ goes-past (c .before .before .before .before .worst .result) told (c .before .before .enum-told .given .1))
 
 pub check-spec : {M : Type 1} → statement M
 check-spec =
     tie.close
     (tie.spec
-    check-numbers-requires
+    check-first-received-requires
+    check-own-requires
+    worst-requires
     enum-told
     enum-told-2
     returns
-    check-lengths-requires
-    enum-told-3
-    enum-told-4
-    returns-2
-    mul-at
-    add-end
-    mul-check-words
-    sub-check-words
-    part-check-words-start
-    part-check-words-end
-    check-words-requires
-    enum-told-5
-    enum-told-6
-    returns-3
     times-requires
     check-coins-requires
-    returns-4)
+    returns-2)

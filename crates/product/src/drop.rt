@@ -1,0 +1,41 @@
+// Dropping: right's open session closes, and its half is spent (RULES 3.6).
+use judging::Check;
+use judging::answer_of;
+use judging::step::check_open;
+use protocol::Answer;
+use protocol::RightSession;
+use tape::End;
+use tape::change::spend_at;
+ghost use mathlib.Core.Path.{_≡_};
+ghost use mathlib.Core.List.{[]};
+ghost use Rattle.protocol.specs.Tape.{slotAt};
+ghost use Rattle.protocol.specs.Message.{noMessage};
+ghost use Rattle.protocol.specs.Drop.{dropRight};
+ghost use Rattle.protocol.specs.Step.{answerReply};
+ghost use Rattle.judging.specs.Leaves.{Leaves, leaves};
+
+// What a drop answers, and the session as it then is.
+pub struct RightDropped {
+    pub answer: Answer,
+    pub session: RightSession,
+}
+
+pub fn right_drop(pool: &mut [u32], size: usize, index: usize, s: RightSession) -> RightDropped
+    ensures { λ r. ⌜ _≡_ {A = Leaves RightSession}
+        (record { answer = answerReply (r .answer); session = r .session; head = noMessage .head; pool = now (pool .exit); scratch = []; sent = []; result = [] })
+        (leaves s (slotAt (now (pool .entry)) size index) [] [] [] (dropRight s (slotAt (now (pool .entry)) size index))) ⌝ }
+{
+    let t = s.terms;
+    let checked = check_open(End::Right, s.due, t, pool, size, index);
+    let Check::Passed = checked else {
+        return RightDropped {
+            answer: answer_of(checked),
+            session: s,
+        };
+    };
+    spend_at(End::Right, t, pool, size, index);
+    RightDropped {
+        answer: Answer::Accepted(0),
+        session: RightSession { terms: t, due: 0 },
+    }
+}
