@@ -3,23 +3,13 @@
 //   Matrix   the bounds on sides, residues and unknowns
 //   sum      a sum of products that may pass 64 bits
 //   inner    the inner product
-//   terms    which terms of a row of a product are added together
-//   rests    words times a multiplier modulo q
-//   narrow   a row of a product of words below 2^10
-//   wide     a row of a product of words below 2^31
-//   rows     the product row by row
-//   product  the product of an m by k and a k by p matrix
+//   product  the product of an m by k and a k by p matrix, row by row (the crate `rows`) or from its columns
 //   formula  a product with other matrices added and taken away: what the sessions write
 // No function here is for hosts.
 mod formula;
 mod inner;
-mod narrow;
 mod product;
-mod rests;
-mod rows;
 mod sum;
-mod terms;
-mod wide;
 
 pub use formula::write_deal;
 pub use formula::write_masked;
