@@ -4,7 +4,7 @@ ghost use Prim.Native.Nat.{_*_, _<_, _≤_};
 ghost use lib.ListN.{length};
 ghost use Rattle.rows.specs.Shape.{Shape};
 use field::Field;
-use matrix::Matrix;
+use sides::Matrix;
 
 fn put(n: u32) {
     io::write_all(1, b",");

@@ -1,13 +1,13 @@
 // What the run's calls need of what the lines say, before any of them is made: first the numbers, then the words.
 use checks::Check;
 use checks::times;
-use matrix::Matrix;
 use protocol::Refusal;
 use protocol::Terms;
 use session::End;
 use session::lowest::need;
 use session::lowest::worst;
 use session::numbers::check_modulus;
+use sides::Matrix;
 use steps::check_coins;
 use vectors::all_below;
 ghost use mathlib.Core.Path.{_≡_};

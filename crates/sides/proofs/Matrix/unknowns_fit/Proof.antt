@@ -2,8 +2,8 @@
 use borrow.Author.Tests.{lt-leb, le-leb}
 use Rattle.algebra.specs.Count.{both}
 use Rattle.protocol.specs.Bounds.{within}
-use Rattle.matrix.proofs.Matrix.unknowns_fit.Statement.{statement}
-use Rattle.matrix.proofs.Matrix.unknowns_fit.Tie as tie
+use Rattle.sides.proofs.Matrix.unknowns_fit.Statement.{statement}
+use Rattle.sides.proofs.Matrix.unknowns_fit.Tie as tie
 
 -- a test that passed or failed, as the definition computes it
 ruleset chain = (le-leb, lt-leb)

@@ -8,8 +8,8 @@ use borrow.Author.Tests.{not-true, not-false, leb-true, ne-eqb, eq-eqb}
 use Rattle.algebra.specs.Count.{both}
 use Rattle.algebra.proofs.Count.{and-right}
 use Rattle.protocol.specs.Bounds.{within, mostUnknowns, sidesFit}
-use Rattle.matrix.proofs.Matrix.system_sides_fit.Statement.{statement}
-use Rattle.matrix.proofs.Matrix.system_sides_fit.Tie as tie
+use Rattle.sides.proofs.Matrix.system_sides_fit.Statement.{statement}
+use Rattle.sides.proofs.Matrix.system_sides_fit.Tie as tie
 
 unknowns-fit-requires : tie.Need-unknowns-fit-requires
 unknowns-fit-requires c κs = search needs
