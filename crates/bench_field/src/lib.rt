@@ -9,7 +9,7 @@ ghost use Rattle.algebra.specs.Prime.{isPrime};
 pub extern "C" fn bench_is_prime(q: u32) -> bool
     ensures { λ r. ⌜ r ≡ isPrime q ⌝ }
 {
-    field::is_prime(q)
+    prime::is_prime(q)
 }
 
 // The sum modulo 2³² of the inverses of 1 to n, or 0 where q is no modulus of a system. Inverses from q on are left out.

@@ -1,13 +1,9 @@
 -- Laws for the proofs of the functions.
--- Fill      loops that store one element of an array after the other (`Filled`, `Stored`)
--- Rows      the row operations as stores, the search for a pivot as a loop, and that residues stay residues
 -- Agree     steps on matrices that agree in part; which pivots are found (`found-agreed`)
 -- Turns     forward elimination, turn by turn
 -- Loading   words to the array and back
 -- Shapes    the triangle that forward elimination leads to, and the identity that back substitution does
 -- Solutions row operations keep the solutions of a system
-pub mod Fill
-pub mod Rows
 pub mod Agree
 pub mod Turns
 pub mod Loading

@@ -1,5 +1,5 @@
 -- What the contracts of elimination cite beside the algebra's definitions.
--- Rows    the array of rows as a matrix, and rows cleared in part
+-- Shapes  the shapes that elimination leads to, and the array that holds a system
 -- Solves  the solutions of a system
-pub mod Rows
+pub mod Shapes
 pub mod Solves

@@ -4,11 +4,11 @@
 //   no_head                                  the head where nothing is sent
 use field::Field;
 use field::FieldAnswer;
-use matrix::Matrix;
 use protocol::Head;
 use protocol::SessionId;
 use protocol::TapeId;
 use protocol::Terms;
+use sides::Matrix;
 use vectors::times;
 ghost use mathlib.Core.Path.{_≡_};
 ghost use Prim.Native.Nat.{_+_, _*_, _≤_};

@@ -10,7 +10,7 @@ ghost use Prim.Native.Nat.{_*_, _≤_};
 ghost use lib.ListN.{length};
 ghost use Rattle.algebra.specs.Matrix.{matAdd, matSub, matMul};
 ghost use Rattle.algebra.specs.Words.{over};
-ghost use Rattle.matrix.specs.Inner.{Shape};
+ghost use Rattle.rows.specs.Shape.{Shape};
 
 // x × y + g: the dealer's V = R × Q + G.
 pub fn write_masked(

@@ -1,25 +1,14 @@
 // Matrices modulo q, stored row by row in slices of words. Results are written over the first words of a lent slice;
 // the words past the count keep their value.
-//   Matrix   the bounds on sides, residues and unknowns
 //   sum      a sum of products that may pass 64 bits
 //   inner    the inner product
-//   terms    which terms of a row of a product are added together
-//   rests    words times a multiplier modulo q
-//   narrow   a row of a product of words below 2^10
-//   wide     a row of a product of words below 2^31
-//   rows     the product row by row
-//   product  the product of an m by k and a k by p matrix
+//   product  the product of an m by k and a k by p matrix, row by row (the crate `rows`) or from its columns
 //   formula  a product with other matrices added and taken away: what the sessions write
 // No function here is for hosts.
 mod formula;
 mod inner;
-mod narrow;
 mod product;
-mod rests;
-mod rows;
 mod sum;
-mod terms;
-mod wide;
 
 pub use formula::write_deal;
 pub use formula::write_masked;
@@ -27,79 +16,3 @@ pub use formula::write_reply;
 pub use formula::write_share;
 pub use inner::inner_product;
 pub use product::write_product;
-ghost use mathlib.Core.Path.{_≡_};
-ghost use Rattle.protocol.specs.Bounds.{within, mostUnknowns, sidesFit, product, system};
-
-// What the bounds on matrices belong to.
-pub struct Matrix {}
-
-impl Matrix {
-    // m and p, where an m by k and a k by p matrix are multiplied.
-    pub const LONGEST_SIDE: u32 = 32;
-
-    // k, the inner side.
-    pub const LONGEST_INNER: u32 = 2048;
-
-    // The residues of either matrix.
-    pub const MOST_RESIDUES: u32 = 2048;
-
-    // The unknowns of a system.
-    pub const MOST_UNKNOWNS: u32 = 16;
-
-    // Whether an m by k and a k by p matrix can be multiplied.
-    pub fn sides_fit(m: u32, k: u32, p: u32) -> bool
-        ensures { λ r. ⌜ r ≡ sidesFit product m k p ⌝ }
-    {
-        if m < 1 {
-            return false;
-        }
-        if Matrix::LONGEST_SIDE < m {
-            return false;
-        }
-        if p < 1 {
-            return false;
-        }
-        if Matrix::LONGEST_SIDE < p {
-            return false;
-        }
-        if k < 1 {
-            return false;
-        }
-        if Matrix::LONGEST_INNER < k {
-            return false;
-        }
-        if Matrix::MOST_RESIDUES < m * k {
-            return false;
-        }
-        if Matrix::MOST_RESIDUES < k * p {
-            return false;
-        }
-        true
-    }
-
-    // Whether a system may have n unknowns.
-    pub fn unknowns_fit(n: u32) -> bool
-        ensures { λ r. ⌜ r ≡ within 1 mostUnknowns n ⌝ }
-    {
-        if n < 1 {
-            return false;
-        }
-        if Matrix::MOST_UNKNOWNS < n {
-            return false;
-        }
-        true
-    }
-
-    // Whether these are the sides of a system: n, n and n + 1.
-    pub fn system_sides_fit(m: u32, k: u32, p: u32) -> bool
-        ensures { λ r. ⌜ r ≡ sidesFit system m k p ⌝ }
-    {
-        if !Matrix::unknowns_fit(m) {
-            return false;
-        }
-        if k != m {
-            return false;
-        }
-        p == m + 1
-    }
-}

@@ -2,9 +2,9 @@
 // digest of the whole slice, whose words past the count keep their value. The expected lines were worked out by another program.
 ghost use Prim.Native.Nat.{_*_, _<_, _≤_};
 ghost use lib.ListN.{length};
-ghost use Rattle.matrix.specs.Inner.{Shape};
+ghost use Rattle.rows.specs.Shape.{Shape};
 use field::Field;
-use matrix::Matrix;
+use sides::Matrix;
 
 fn put(n: u32) {
     io::write_all(1, b",");
