@@ -1,6 +1,6 @@
 //! The rules (docs/RULES.md) once more, in plain Rust: what the engine's answers are compared with.
 //!
-//! It is written from the rules, not from the engine. Matrices are rows of `u64`, every call first gathers its faults, lowest number first,
+//! It is written from the rules, not from the engine. Matrices are rows of `u64`, every call first gathers its faults, first of the list first,
 //! and nothing is done for speed.
 
 pub mod calls;

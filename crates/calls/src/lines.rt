@@ -16,7 +16,7 @@ fn received(r: Received, report: &mut [u32]) -> u32 {
         }
         Received::Refused(why) => {
             words::put_count(0, no_head(), report);
-            words::number_of(why)
+            judging::number_of(why)
         }
     }
 }
@@ -57,7 +57,7 @@ pub extern "C" fn call_write(
         }
         Written::Refused(why) => {
             words::put_count(0, no_head(), report);
-            words::number_of(why)
+            judging::number_of(why)
         }
     }
 }
@@ -74,7 +74,7 @@ pub extern "C" fn call_numbers(bytes: &[u8], out: &mut [u32], report: &mut [u32]
         }
         Count::Refused(why) => {
             words::put_count(0, no_head(), report);
-            words::number_of(why)
+            judging::number_of(why)
         }
     }
 }

@@ -5,6 +5,7 @@
 //   solver    the terms, due, s                              23
 //   blinder   the terms, due, M, y                          279
 //   report    words read, then the head of what is sent       8
+use judging::number_of;
 use protocol::Answer;
 use protocol::BlinderSession;
 use protocol::Head;
@@ -18,25 +19,7 @@ use vectors::write_copy;
 ghost use mathlib.Core.Path.{_≡_};
 ghost use Prim.Native.Nat.{_%_, _≤_};
 ghost use lib.ListN.{length};
-ghost use Rattle.protocol.specs.Judge.{refusalNumber};
 ghost use Rattle.protocol.specs.Step.{answerNumber, answerRead};
-
-pub fn number_of(r: Refusal) -> u32
-    ensures { λ n. ⌜ n ≡ refusalNumber r ⌝ }
-{
-    match r {
-        Refusal::Form => 1,
-        Refusal::Modulus => 2,
-        Refusal::Composite => 3,
-        Refusal::Size => 4,
-        Refusal::Turn => 5,
-        Refusal::Mark => 6,
-        Refusal::Stranger => 7,
-        Refusal::Residue => 8,
-        Refusal::Dry => 9,
-        Refusal::Singular => 10,
-    }
-}
 
 // 0, or the number of the refusal.
 pub fn answered(a: Answer) -> u32

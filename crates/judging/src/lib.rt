@@ -20,6 +20,7 @@ pub mod step;
 
 pub use input::check_input;
 pub use order::need;
+pub use order::number_of;
 pub use order::worst;
 use protocol::Answer;
 use protocol::Refusal;

@@ -1,5 +1,6 @@
 // The lines that a rehearsal prints: both messages and both shares, or a refusal.
 //   refusal, result  what is printed, over the start of the bytes that are lent
+use judging::number_of;
 use protocol::Head;
 use protocol::Refusal;
 ghost use mathlib.Core.Path.{_≡_};
@@ -8,7 +9,7 @@ ghost use Prim.Native.Nat.{_+_, _*_, _≤_};
 ghost use lib.ListN.{length};
 ghost use lib.Seq.{sets};
 ghost use Rattle.algebra.specs.Words.{over};
-ghost use Rattle.protocol.specs.Judge.{refusalNumber, refused, done};
+ghost use Rattle.protocol.specs.Judge.{refused, done};
 ghost use Rattle.protocol.specs.Line.{line, messageLine, mostSent};
 ghost use Rattle.protocol.specs.Rehearsal.{printed};
 ghost use Rattle.decimal.specs.Writing.{lineBefore};
@@ -65,24 +66,6 @@ fn put_named(name: &[u8], xs: &[u32], out: &mut [u8], at: usize) -> usize
     put_run(xs, 0, out, behind)
 }
 
-// The number of a refusal (RULES 8.2).
-fn number(r: Refusal) -> u32
-    ensures { λ n. ⌜ n ≡ refusalNumber r ⌝ }
-{
-    match r {
-        Refusal::Form => 1,
-        Refusal::Modulus => 2,
-        Refusal::Composite => 3,
-        Refusal::Size => 4,
-        Refusal::Turn => 5,
-        Refusal::Mark => 6,
-        Refusal::Stranger => 7,
-        Refusal::Residue => 8,
-        Refusal::Dry => 9,
-        Refusal::Singular => 10,
-    }
-}
-
 // What is printed of a refusal (RULES 9.1).
 pub fn refusal(r: Refusal, out: &mut [u8]) -> usize
     requires { ⌜ MOST ≤ length (now out) ⌝ }
@@ -90,7 +73,7 @@ pub fn refusal(r: Refusal, out: &mut [u8]) -> usize
     ensures few { λ n. ⌜ n ≤ MOST ⌝ }
     ensures contents { λ _. ⌜ now (out .exit) ≡ over (printed (refused r)) (now (out .entry)) ⌝ }
 {
-    let words = [number(r)];
+    let words = [number_of(r)];
     put_named(b"refused,", &words, out, 0)
 }
 

@@ -9,8 +9,8 @@ use Rattle.rehearse_lines.proofs.Stores.{refusal-stored}
 use Rattle.rehearse_lines.proofs.print.refusal.Statement.{statement}
 use Rattle.rehearse_lines.proofs.print.refusal.Tie as tie
 
-number-requires : tie.Need-number-requires
-number-requires c κs = search needs
+number-of-requires : tie.Need-number-of-requires
+number-of-requires c κs = search needs
 
 slice-aggregate-put-named : tie.Need-slice-aggregate-put-named
 slice-aggregate-put-named c = search needs
@@ -27,7 +27,7 @@ same-length c = search needs
 returns : tie.Need-returns
 returns c =
     let a = c .before .before .before .before .before .before .before .before .args in
-    let number = c .before .before .before .before .before .before .number in
+    let number = c .before .before .before .before .before .before .number-of in
     let z = refusal-stored (a .r) (a .out .now) (number .result) (c .before .before .put-named .result) _ (number .ensures)
     (c .before .before .put-named .ensures .0)
     (omega (arith, c .before .before .put-named .ensures .1 .0, c .before .before .before .before .before .before .before .before .pre))
@@ -38,7 +38,7 @@ pub refusal-spec : {M : Type 1} → statement M
 refusal-spec =
     tie.close
     (tie.spec
-    number-requires
+    number-of-requires
     slice-aggregate-put-named
     slice-aggregate-put-named-2
     put-named-requires
