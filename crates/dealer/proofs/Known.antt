@@ -1,124 +1,173 @@
--- What is known where a dealing's tests passed.
--- Placed, Numbers    the slots, and the bounds on modulus and sides of a product
--- deal-enough        enough words are kept
+-- What is known where a dealing's tests passed, and what it says of the writers' numbers.
+--   Numbers, numbers-fit        the tests on numbers
+--   Known, deal-known           all tests
+--   masks-of, mask-of, unknowns-of   the bounds that functions ask
+--   enough-masks, first-start, second-start   raw words and room for the masks
+--   more-count, first-more, second-more       and for a system's other matrices
+--   coins-enough, drawn-residues, no-mask     the tests on raw words
 -- Assumes nothing.
-use mathlib.Core.Path.{_≡_, refl, sym, _∙_}
-use mathlib.Core.Bool.{true}
+use mathlib.Core.Path.{_≡_, refl, sym, ap, _∙_}
 use mathlib.Core.List.{List}
-use Prim.Native.Nat.{ℕ, _+_, _*_, _≤_}
+use Prim.Native.Nat.{ℕ, _+_, _*_, _≤_, _<_}
+use native.Mathlib.Nat.{mul-le-mul}
 use native.Mathlib.Omega.{arith}
-use lib.Dec.{leb}
 use lib.ListN.{length}
-use borrow.Author.Tests.{leb-true}
-use Rattle.algebra.specs.Count.{both}
-use Rattle.algebra.proofs.Count.{and-left, and-right}
-use Rattle.protocol.specs.declared.TapeId.{TapeId}
-use Rattle.protocol.specs.Judge.{Judged, done}
-use Rattle.protocol.specs.Bounds.{Sort, product, system, within, fieldFits, sidesFit, shapeTests}
-use Rattle.protocol.specs.Drawing.{residuesOf}
-use Rattle.protocol.specs.Tape.{left, right, blinder, solver, tapeSize, bodySize, slotAt}
-use Rattle.protocol.specs.Deal.{Request, productRequest, systemRequest, firstRole, secondRole, drawSize, dealTests, maskFits, drawnParts}
-use Rattle.judging.specs.InOrder.{verdict, judged, after, inGroups}
-use Rattle.checks.specs.Groups.{placeTests}
-use Rattle.judging.proofs.InOrder.{verdict-all, after-first, after-second}
-use Rattle.tape.proofs.Sides.{sides, modulus}
-use Rattle.tape.proofs.Slots.{slot-inside}
-use Rattle.dealer.specs.Groups.{dealNumbers, markTests, drawnTests, dealWords}
-use Rattle.halves.specs.Shape.{Masks, Mask}
-use Rattle.dealer.proofs.Sorted.{Numbers, OnWords, deal-judged}
+use borrow.Author.Tests.{leb-true, le-leb}
+use Rattle.algebra.specs.Matrix.{Residues}
+use Rattle.protocol.specs.declared.Terms.{Terms}
+use Rattle.protocol.specs.declared.Refusal.the-variants.{Singular}
+use Rattle.protocol.specs.Judge.{done}
+use Rattle.protocol.specs.Bounds.{Sort, product, system, fieldFits}
+use Rattle.protocol.specs.Drawing.{residuesOf, drawn, drawTests}
+use Rattle.protocol.specs.Tape.{headerSize, blinder, solver, matrixAt, tapeSize, bodySize, slotAt}
+use Rattle.protocol.specs.Deal.{firstRole, secondRole, drawSize, dealTests, dealtEffect, deal}
+use Rattle.protocol.proofs.Judge.{passed}
+use Rattle.protocol.proofs.Dealing.{DealFits, deal-step}
+use Rattle.protocol.proofs.Residues.{residues-drawn}
+use Rattle.judging.specs.InOrder.{judged}
+use Rattle.judging.specs.Groups.{modulusTests, numberTests, placeTests}
+use Rattle.judging.proofs.InOrder.{accepted-by}
+use Rattle.judging.proofs.Join.{judged-true}
+use Rattle.tape.proofs.Sides.{sides-of, unknowns, modulus}
+use Rattle.tape.proofs.Slots.{slot-inside, slot-room}
+use Rattle.dealer.specs.Sorts.{sort, drawCount, request}
+use Rattle.dealer.specs.declared.sort.Sort as code
+use Rattle.dealer.specs.declared.sort.Sort.the-variants.{Product}
+use Rattle.dealer.specs.Groups.{sizeTests, dealNumbers, maskTests}
+use Rattle.dealer.proofs.Order.{first-sort}
+use Rattle.dealer.specs.Shape.{Fits, Mask, Masks, Unknowns, Room}
 
-pub record Placed (half pool size index : ℕ) : Type 0 where
-  pub inside : index * size + size ≤ pool
-  pub room : half ≤ size
+-- ---- numbers
 
-pub place-passed : (length size index half : ℕ) → verdict (placeTests length size index half) ≡ done tt → Placed half length size index
-unfolding placeTests
-place-passed length size index half e =
-    let a = verdict-all _ e in
-    record { inside = slot-inside length size index (a .0); room = leb-true _ _ (a .1 .0) }
+pub record Numbers (s : Sort) (t : Terms) (first second size index : ℕ) : Type 0 where
+  pub fits : Fits s t
+  pub first-inside : index * size + size ≤ first
+  pub second-inside : index * size + size ≤ second
+  pub room : headerSize ≤ size
 
--- the modulus and the sides of a product
-pub shape-masks : (tape q m k p : ℕ) → verdict (shapeTests product tape q m k p) ≡ done tt → Masks q m k p
-unfolding shapeTests
-shape-masks tape q m k p e =
-    let a = verdict-all _ e in
-    let n = modulus q (a .0) in
-    let s = sides m k p (a .1 .1 .0) in
+pub numbers-fit : (s : Sort) (t : Terms) (first second size index : ℕ) → judged (dealNumbers s t first second size index) ≡ done tt
+    → Numbers s t first second size index
+unfolding dealNumbers sizeTests modulusTests numberTests placeTests tapeSize
+numbers-fit s t first second size index e =
+    let a = passed (dealNumbers s t first second size index) e .0 in
+    let b = a .1 .1 .1 .1 .1 in
+    let n = modulus (t .q) (a .0) in
     record {
-      some-q = n .some;
-      small-q = n .small;
-      some-p = s .some-p;
-      few-k = s .few-k;
-      few-mk = s .few-mk;
-      few-kp = s .few-kp;
-      few-mp = s .few-mp;
+      fits = record {
+        some-q = n .some;
+        small-q = n .small;
+        field = rw (first-sort s) at (a .1 .0);
+        sides = rw (first-sort s) at (a .1 .1 .1 .0);
+      };
+      first-inside = slot-inside first size index (b .0);
+      second-inside = slot-inside second size index (b .1 .1 .1 .1 .1 .0);
+      room = omega (arith, leb-true (tapeSize (firstRole s) (t .m) (t .k) (t .p)) size (b .1 .0));
     }
 
--- the modulus and the unknowns of a system
-pub shape-mask : (tape q n : ℕ) → verdict (shapeTests system tape q n n (n + 1)) ≡ done tt → Mask q n
-unfolding shapeTests fieldFits sidesFit within
-shape-mask tape q n e =
-    let a = verdict-all _ e in
-    let s = modulus q (a .0) in
-    let w : both (leb 1 n) (leb n 16) ≡ true = and-left _ _ (a .1 .1 .0) in
+-- ---- all tests
+
+pub record Known (s : Sort) (t : Terms) (first second : List ℕ) (size index : ℕ) (words : List ℕ) : Type 0 where
+  pub room : Room s t words size size
+  pub first-inside : index * size + size ≤ length first
+  pub second-inside : index * size + size ≤ length second
+
+pub deal-known : (s : Sort) (t : Terms) (first second : List ℕ) (size index : ℕ) (words : List ℕ)
+    → judged (dealTests (slotAt first size index) (slotAt second size index) (request s t words)) ≡ done tt → Known s t first second size index words
+unfolding deal drawSize drawCount
+deal-known s t first second size index words e =
+    let r = request s t words in
+    let d : DealFits r (slotAt first size index) (slotAt second size index) = deal-step first second size index r .means (accepted-by _ (dealtEffect first second size index r) e) .0 in
     record {
-      prime = a .1 .0;
-      some-q = s .some;
-      small-q = s .small;
-      some-n = leb-true 1 n (and-left _ _ w);
-      few-n = leb-true n 16 (and-right _ _ w);
+      room = record {
+        fits = record { some-q = omega (arith, d .big); small-q = omega (arith, d .small); field = d .field; sides = d .sides };
+        enough = d .enough;
+        first-room = d .first-room;
+        second-room = d .second-room;
+      };
+      first-inside = slot-room first size index (d .first-slot);
+      second-inside = slot-room second size index (d .second-slot);
     }
 
--- the numbers' three groups
-pub record Fitting (sort : Sort) (tape q m k p first second size index : ℕ) : Type 0 where
-  pub shape : verdict (shapeTests sort tape q m k p) ≡ done tt
-  pub left : Placed (tapeSize (firstRole sort) m k p) first size index
-  pub right : Placed (tapeSize (secondRole sort) m k p) second size index
+-- ---- bounds
 
-pub numbers-passed : (sort : Sort) (tape q m k p first second size index : ℕ) → inGroups (dealNumbers sort tape q m k p first second size index) ≡ done tt
-    → Fitting sort tape q m k p first second size index
-unfolding dealNumbers
-numbers-passed sort tape q m k p first second size index e =
-    let s : Judged Unit = verdict (shapeTests sort tape q m k p) in
-    let one : Judged Unit = verdict (placeTests first size index (tapeSize (firstRole sort) m k p)) in
-    let two : Judged Unit = verdict (placeTests second size index (tapeSize (secondRole sort) m k p)) in
-    let rest = after-second s (after one (after two (done tt))) e in
-    record {
-      shape = after-first s (after one (after two (done tt))) e;
-      left = place-passed _ _ _ _ (after-first one (after two (done tt)) rest);
-      right = place-passed _ _ _ _ (after-first two (done tt) (after-second one (after two (done tt)) rest));
-    }
+module _ {s : Sort} {t : Terms} (f : Fits s t) where
+  pub masks-of : Masks (t .q) (t .m) (t .k) (t .p)
+  masks-of =
+      let b = sides-of s (t .m) (t .k) (t .p) (f .sides) in
+      record {
+        some-q = f .some-q;
+        small-q = f .small-q;
+        some-p = b .some-p;
+        few-k = b .few-k;
+        few-mk = b .few-mk;
+        few-kp = b .few-kp;
+        few-mp = b .few-mp;
+      }
 
-pub words-passed : (first second : ℕ) (r : Request) → inGroups (dealWords first second r) ≡ done tt → drawSize r ≤ length (residuesOf (r .q) (r .words))
-unfolding dealWords drawnTests
-words-passed first second r e =
-    leb-true _ _
-    (verdict-all (drawnTests (r .q) (drawSize r) (r .words) (maskFits (r .sort) (r .q) (r .m) (drawnParts r)))
-    (after-first _ _ (after-second (verdict (markTests first second)) _ e)) .0)
+module _ {t : Terms} (f : Fits system t) where
+  pub square : t .k ≡ t .m
+  square = unknowns (t .m) (t .k) (t .p) (f .sides) .square
 
-module _ (first second : List ℕ) (size index : ℕ) (r : Request)
-    (ok : judged (dealTests (slotAt first size index) (slotAt second size index) r) ≡ done tt) where
-  pub deal-fits : Fitting (r .sort) (r .tape .0) (r .q) (r .m) (r .k) (r .p) (length first) (length second) size index
-  deal-fits = numbers-passed _ _ _ _ _ _ _ _ _ _ (after-first _ (OnWords first second size index r) (sym (deal-judged first second size index r) ∙ ok))
+  pub unknowns-of : Unknowns (t .q) (t .m)
+  unknowns-of =
+      let u = unknowns (t .m) (t .k) (t .p) (f .sides) in
+      record { some-q = f .some-q; small-q = f .small-q; some-n = u .some; few-n = u .few }
 
-  pub deal-enough : drawSize r ≤ length (residuesOf (r .q) (r .words))
-  deal-enough = words-passed _ _ r (after-second (Numbers first second size index r) _ (sym (deal-judged first second size index r) ∙ ok))
+  pub mask-of : Mask (t .q) (t .m)
+  unfolding fieldFits
+  mask-of = record { prime = f .field; some-q = f .some-q; small-q = f .small-q; few-n = unknowns (t .m) (t .k) (t .p) (f .sides) .few }
 
 -- ---- counts
 
-pub product-count : (tape : TapeId) (q m k p : ℕ) (words : List ℕ) → m * k + (k * p + m * p) ≡ drawSize (productRequest tape q m k p words)
-unfolding drawSize
-product-count tape q m k p words = refl
+pub enough-masks : (s : Sort) (m k p : ℕ) {n : ℕ} → drawCount s m k p ≤ n → m * k + (k * p + m * p) ≤ n
+unfolding drawCount
+enough-masks product m k p h = h
+enough-masks system m k p h = omega arith
 
-pub blinder-count : (n : ℕ) → 7 + n * n + n * (n + 1) + n * n + n * n ≡ tapeSize blinder n n (n + 1)
+pub first-start : (s : Sort) (m k p : ℕ) {n : ℕ} → tapeSize (firstRole s) m k p ≤ n → headerSize + m * k + m * p ≤ n
 unfolding tapeSize bodySize
-blinder-count n = omega arith
+first-start product m k p h = omega arith
+first-start system m k p h = omega arith
 
-pub solver-count : (n : ℕ) → 7 + n * (n + 1) + n * (n + 1) + n * n + n * n ≡ tapeSize solver n n (n + 1)
+pub second-start : (s : Sort) (m k p : ℕ) {n : ℕ} → tapeSize (secondRole s) m k p ≤ n → headerSize + k * p + m * p ≤ n
 unfolding tapeSize bodySize
-solver-count n = omega arith
+second-start product m k p h = omega arith
+second-start system m k p h = omega arith
 
-pub system-count : (tape : TapeId) (q n : ℕ) (words : List ℕ)
-    → n * n + (n * (n + 1) + n * (n + 1)) + (n * n + (n * n + n * n)) ≡ drawSize (systemRequest tape q n words)
-unfolding drawSize
-system-count tape q n words = omega arith
+-- Q, R and G are squares
+module _ {t : Terms} (f : Fits system t) where
+  abbrev N : ℕ
+  N = t .m * t .m
+
+  squared : t .m * t .k ≡ N
+  squared = ap (λ (n : ℕ). t .m * n) (square f)
+
+  pub more-count : t .m * t .k + (t .k * t .p + t .m * t .p) + (N + (N + N)) ≡ drawCount system (t .m) (t .k) (t .p)
+  unfolding drawCount
+  more-count = omega (arith, squared)
+
+  pub first-more : matrixAt blinder (t .m) (t .k) (t .p) 2 + N + N ≡ tapeSize blinder (t .m) (t .k) (t .p)
+  unfolding matrixAt tapeSize bodySize
+  first-more = omega (arith, squared)
+
+  pub second-more : matrixAt solver (t .m) (t .k) (t .p) 2 + N + N ≡ tapeSize solver (t .m) (t .k) (t .p)
+  unfolding matrixAt tapeSize bodySize
+  second-more = omega (arith, squared)
+
+pub square-few : (n : ℕ) → n ≤ 16 → n * n ≤ 256
+square-few n h = mul-le-mul {n₁ = n} {m₁ = n} {n₂ = 16} {m₂ = 16} h h
+
+-- ---- raw words
+
+pub coins-enough : (q n : ℕ) (words : List ℕ) → judged (drawTests q n words) ≡ done tt → n ≤ length (residuesOf q words)
+unfolding drawTests
+coins-enough q n words e = leb-true _ _ (passed (drawTests q n words) e .0 .0)
+
+pub drawn-residues : (q n : ℕ) (words : List ℕ) → 0 < q → n ≤ length (residuesOf q words) → Residues q n (drawn q n words)
+unfolding drawTests
+drawn-residues q n words h k = residues-drawn q n words h (le-leb n (length (residuesOf q words)) k, tt)
+
+-- a product has no mask
+pub no-mask : {s : code.Sort} (t : Terms) (words : List ℕ) → s ≡ Product → done tt ≡ judged (maskTests (sort s) t words)
+unfolding maskTests
+no-mask t words e = rw e (judged-true Singular refl)

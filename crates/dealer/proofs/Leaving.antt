@@ -1,35 +1,64 @@
--- What the dealer's code leaves is what the definition of dealing says, for both sorts: `deal-refused`, `deal-done`. Assumes nothing.
+-- What the dealer's code leaves is what the definition of dealing says, for both sorts.
+--   deal-refused, deal-checked   a refusal changes nothing
+--   half-back                    a half that was written over a lent slot
+--   deal-done                    both pools with their halves
+-- Assumes nothing.
 use mathlib.Core.Path.{_≡_, refl, sym, ap, _∙_}
 use mathlib.Core.List.{List}
-use Prim.Native.Nat.{ℕ, _+_, _*_, _≤_}
-use lib.ListN.{length}
-use Rattle.algebra.specs.Words.{over, writtenAt}
+use Prim.Native.Nat.{ℕ, _+_, _-_, _*_, _≤_}
+use native.Mathlib.Omega.{arith}
+use lib.Dec.{ltb}
+use mathlib.Core.Bool.{Bool, true, false, cond}
+use lib.ListN.{length, take, drop}
+use borrow.Rule.Slice.PartMut.{putMid}
+use Rattle.algebra.specs.Words.{over}
 use Rattle.protocol.specs.declared.Refusal.{Refusal}
-use Rattle.protocol.specs.declared.Answer.the-variants.{Accepted, Refused}
-use Rattle.protocol.specs.Judge.{refused, done}
+use Rattle.protocol.specs.declared.Answer.the-variants as answer
+use Rattle.protocol.specs.Judge.{placeOf, Judged, refused, done}
+use Rattle.protocol.proofs.Judge.{refused≢done}
+use Rattle.judging.specs.Lowest.{lower}
 use Rattle.protocol.specs.Drawing.{wordsRead}
 use Rattle.protocol.specs.Tape.{slotAt, slotWords, poolWith}
-use Rattle.protocol.specs.Deal.{Request, firstHalf, secondHalf, drawSize, drawnParts, dealtB, dealtV, dealTests, dealtOver, dealtEffect, deal}
+use Rattle.protocol.specs.Deal.{Request, drawSize, dealTests, dealtOver, dealtEffect, deal}
 use Rattle.protocol.specs.Step.{answerReply}
-use Rattle.judging.specs.InOrder.{judged}
+use Rattle.protocol.proofs.Residues.{over-length}
+use Rattle.judging.specs.declared.Check.{Check}
+use Rattle.judging.specs.declared.Check.the-variants.{Passed, Refused}
+use Rattle.judging.specs.InOrder.{checked, answerOf, judged}
 use Rattle.judging.proofs.InOrder.{refused-by, accepted-by}
-use Rattle.halves.specs.Dealt.{Pools, pools, firstHalfWords, secondHalfWords}
-use Rattle.halves.proofs.Words.{slot-over}
+use Rattle.tape.proofs.Slots.{slot-written}
+use Rattle.dealer.specs.Dealt.{Pools, pools, firstHalfWords, secondHalfWords}
+
+pub half-back : (pool ys half : List ℕ) (size index : ℕ) → index * size + size ≤ length pool → length half ≤ size
+    → ys ≡ over half (take (index * size + size - index * size) (drop (index * size) pool))
+    → putMid (index * size) (index * size + size - index * size) pool ys ≡ poolWith (slotAt pool size index) (over half (slotWords (slotAt pool size index)))
+half-back pool ys half size index inside fits e = slot-written pool ys size index (over half) inside (λ ws n. over-length half ws (omega (arith, n)) ∙ n) e
+
+never : (v : Judged Unit) (e : Refusal) → lower v (refused e) ≡ done tt → ⊥
+never (done u) e h = refused≢done h
+never (refused x) e h = go (ltb (placeOf e) (placeOf x)) h
+  where
+    go : (b : Bool) → _≡_ {A = Judged Unit} (cond b (refused e) (refused x)) (done tt) → ⊥
+    go true h = refused≢done h
+    go false h = refused≢done h
 
 module _ (first second : List ℕ) (size index : ℕ) (r : Request) where
   pub deal-refused : {e : Refusal} → judged (dealTests (slotAt first size index) (slotAt second size index) r) ≡ refused e
-      → _≡_ {A = Pools} (record { answer = answerReply (Refused e); first = first; second = second }) (pools first second (deal first second size index r))
+      → _≡_ {A = Pools} (record { answer = answerReply (answer.Refused e); first = first; second = second }) (pools first second (deal first second size index r))
   unfolding deal
   deal-refused h = ap (pools first second) (sym (refused-by _ _ h))
 
-  -- both slots lie in their pools, and have room for the halves
+  -- a check with a test that fails
+  pub deal-checked : (c : Check) (v : Judged Unit) (e : Refusal) → checked c ≡ lower v (refused e)
+      → judged (dealTests (slotAt first size index) (slotAt second size index) r) ≡ lower v (refused e)
+      → _≡_ {A = Pools} (record { answer = answerReply (answerOf c); first = first; second = second }) (pools first second (deal first second size index r))
+  deal-checked Passed v e told h = absurd (never v e (sym told))
+  deal-checked (Refused x) v e told h = deal-refused (h ∙ sym told)
+
   pub deal-done : {read : ℕ} {first′ second′ : List ℕ} → judged (dealTests (slotAt first size index) (slotAt second size index) r) ≡ done tt
-      → index * size + size ≤ length first → index * size + size ≤ length second → length (firstHalfWords r) ≤ size → length (secondHalfWords r) ≤ size
       → read ≡ wordsRead (r .q) (drawSize r) (r .words)
-      → first′ ≡ writtenAt (index * size) (firstHalfWords r) first
-      → second′ ≡ writtenAt (index * size) (secondHalfWords r) second
-      → _≡_ {A = Pools} (record { answer = answerReply (Accepted read); first = first′; second = second′ }) (pools first second (deal first second size index r))
+      → first′ ≡ poolWith (slotAt first size index) (over (firstHalfWords r) (slotWords (slotAt first size index)))
+      → second′ ≡ poolWith (slotAt second size index) (over (secondHalfWords r) (slotWords (slotAt second size index)))
+      → _≡_ {A = Pools} (record { answer = answerReply (answer.Accepted read); first = first′; second = second′ }) (pools first second (deal first second size index r))
   unfolding deal dealtEffect dealtOver firstHalfWords secondHalfWords
-  deal-done h in-first in-second fits-first fits-second e f s =
-      rw (e, f ∙ sym (slot-over first size index (firstHalfWords r) in-first fits-first), s ∙ sym (slot-over second size index (secondHalfWords r) in-second fits-second))
-      (sym (ap (pools first second) (accepted-by _ _ h)))
+  deal-done h e f s = rw (e, f, s) (sym (ap (pools first second) (accepted-by _ _ h)))

@@ -1,33 +1,39 @@
--- The dealer's tests, in the order in which its code makes them: those on numbers, and then those on words. Assumes nothing.
-use mathlib.Core.Bool.{Bool}
-use mathlib.Core.List.{List, [], _∷_}
+-- The dealer's tests, in the groups in which its code makes them. Assumes nothing.
+--   dealNumbers                     those on numbers
+--   markTests, maskTests, rawTests  those on words
+--   dealWords                       the same together
+use mathlib.Core.List.{List, [], _∷_, _++_}
 use Prim.Native.Nat.{ℕ}
-use lib.Dec.{leb}
-use lib.ListN.{length}
-use Rattle.protocol.specs.declared.Refusal.the-variants.{Mark, Dry, Singular}
+use Rattle.protocol.specs.declared.Terms.{Terms}
+use Rattle.protocol.specs.declared.Refusal.the-variants.{Mark, Singular}
 use Rattle.protocol.specs.Judge.{Test, needs}
-use Rattle.protocol.specs.Bounds.{Sort, shapeTests}
-use Rattle.protocol.specs.Drawing.{residuesOf}
-use Rattle.protocol.specs.Tape.{tapeSize, slotWords, slotAt, statusOf}
-use Rattle.protocol.specs.Deal.{Request, firstRole, secondRole, isFree, maskFits, drawSize, drawnParts}
-use Rattle.checks.specs.Groups.{placeTests}
+use Rattle.protocol.specs.Bounds.{Sort}
+use Rattle.protocol.specs.Drawing.{drawTests}
+use Rattle.protocol.specs.Tape.{Role, sortOf, statusOf}
+use Rattle.protocol.specs.Deal.{firstRole, secondRole, isFree, maskFits, drawnParts}
+use Rattle.judging.specs.Groups.{modulusTests, numberTests, placeTests}
+use Rattle.dealer.specs.Sorts.{drawCount, request}
 
--- the pools' lengths are handed over
-unfoldable pub dealNumbers : Sort → (tape q m k p first second size index : ℕ) → List (List Test)
-dealNumbers sort tape q m k p first second size index =
-    shapeTests sort tape q m k p
-    ∷ placeTests first size index (tapeSize (firstRole sort) m k p)
-    ∷ placeTests second size index (tapeSize (secondRole sort) m k p)
-    ∷ []
+-- the terms, and a role's half in its slot
+unfoldable pub sizeTests : Role → Terms → (pool size index : ℕ) → List Test
+sizeTests role t pool size index = numberTests (sortOf role) t ++ placeTests role t pool size index
+
+-- the pools' lengths are handed over; the terms are tested with each half
+unfoldable pub dealNumbers : Sort → Terms → (first second size index : ℕ) → List Test
+dealNumbers s t first second size index =
+    modulusTests (sortOf (firstRole s)) (t .q) ++ (sizeTests (firstRole s) t first size index ++ sizeTests (secondRole s) t second size index)
 
 -- the two slots' statuses
 unfoldable pub markTests : (first second : ℕ) → List Test
 markTests first second = needs Mark (isFree first) ∷ needs Mark (isFree second) ∷ []
 
--- n residues from the raw words, and a mask with an inverse
-unfoldable pub drawnTests : (q n : ℕ) (words : List ℕ) → Bool → List Test
-drawnTests q n words fits = needs Dry (leb n (length (residuesOf q words))) ∷ needs Singular fits ∷ []
+-- a mask with an inverse
+unfoldable pub maskTests : Sort → Terms → (words : List ℕ) → List Test
+maskTests s t words = needs Singular (maskFits s (t .q) (t .m) (drawnParts (request s t words))) ∷ []
 
-unfoldable pub dealWords : (first second : ℕ) → Request → List (List Test)
-dealWords first second r =
-    markTests first second ∷ drawnTests (r .q) (drawSize r) (r .words) (maskFits (r .sort) (r .q) (r .m) (drawnParts r)) ∷ []
+-- and enough raw words
+unfoldable pub rawTests : Sort → Terms → (words : List ℕ) → List Test
+rawTests s t words = drawTests (t .q) (drawCount s (t .m) (t .k) (t .p)) words ++ maskTests s t words
+
+unfoldable pub dealWords : Sort → Terms → (first second words : List ℕ) → List Test
+dealWords s t first second words = markTests (statusOf first) (statusOf second) ++ rawTests s t words

@@ -1,19 +1,61 @@
-// Tapes: the words of a half, and the dealer, who writes both halves of a tape into one slot of two pools.
+// The dealer, who writes both halves of a tape into one slot of two pools: everything is judged, and then everything is written.
 //   deal_product  the halves of left and right
 //   deal_system   the halves of blinder and solver
-//   tests         the dealer's tests
+//   deal          both, over the sort and the sides
+//   sort          the two sorts
+//   check         the dealer's tests
+//   halves        its writers
 // For hosts: deal_product, deal_system.
-mod tests;
+mod check;
+mod halves;
+mod sort;
 
+use check::check;
+use halves::write_halves;
 use judging::Check;
+use judging::answer_of;
+use judging::numbers::check_modulus;
+use judging::worst;
+use matrix::Matrix;
 use protocol::Answer;
+use protocol::Refusal;
+use protocol::SessionId;
 use protocol::TapeId;
+use protocol::Terms;
+use sort::Sort;
+use tape::End;
 ghost use mathlib.Core.Path.{_≡_};
+ghost use Prim.Native.Nat.{_≤_};
 ghost use Rattle.protocol.specs.Deal.{productRequest, systemRequest, deal};
 ghost use Rattle.protocol.specs.Step.{answerReply};
-ghost use Rattle.halves.specs.Dealt.{Pools, pools};
+ghost use Rattle.dealer.specs.Sorts.{sort, request};
+ghost use Rattle.dealer.specs.Dealt.{Pools, pools};
 
-// One slot size and one index serve both pools. Left's half goes into the first, right's into the second.
+// One slot size and one index serve both pools. The session's number in the terms is of no account.
+fn deal(
+    s: Sort,
+    t: Terms,
+    first: &mut [u32],
+    second: &mut [u32],
+    size: usize,
+    index: usize,
+    words: &[u32],
+) -> Answer
+    requires { ⌜ 1 ≤ t .session .0 ⌝ }
+    ensures { λ r. ⌜ _≡_ {A = Pools} (record { answer = answerReply r; first = now (first .exit); second = now (second .exit) })
+        (pools (now (first .entry)) (now (second .entry)) (deal (now (first .entry)) (now (second .entry)) size index (request (sort s) t (now (words .entry))))) ⌝ }
+{
+    let checked = check(s, t, first, second, size, index, words);
+    let Check::Passed = checked else {
+        return answer_of(checked);
+    };
+    let at = index * size;
+    let stop = at + size;
+    let read = write_halves(s, t, words, &mut first[at..stop], &mut second[at..stop]);
+    Answer::Accepted(read)
+}
+
+// Left's half goes into the first pool, right's into the second.
 pub fn deal_product(
     first: &mut [u32],
     second: &mut [u32],
@@ -29,13 +71,16 @@ pub fn deal_product(
     ensures { λ r. ⌜ _≡_ {A = Pools} (record { answer = answerReply r; first = now (first .exit); second = now (second .exit) })
         (pools (now (first .entry)) (now (second .entry)) (deal (now (first .entry)) (now (second .entry)) size index (productRequest tape q m k p (now (words .entry))))) ⌝ }
 {
-    let checked = tests::product(first, second, size, index, tape, q, m, k, p, words);
-    let Check::Passed = checked else {
-        return judging::answer_of(checked);
+    let session = SessionId(1);
+    let t = Terms {
+        session,
+        tape,
+        q,
+        m,
+        k,
+        p,
     };
-    let at = index * size;
-    let read = halves::product(tape, q, m, k, p, words, &mut first[at..], &mut second[at..]);
-    Answer::Accepted(read)
+    deal(Sort::Product, t, first, second, size, index, words)
 }
 
 // A system of n unknowns: blinder's half goes into the first pool, solver's into the second.
@@ -52,11 +97,19 @@ pub fn deal_system(
     ensures { λ r. ⌜ _≡_ {A = Pools} (record { answer = answerReply r; first = now (first .exit); second = now (second .exit) })
         (pools (now (first .entry)) (now (second .entry)) (deal (now (first .entry)) (now (second .entry)) size index (systemRequest tape q n (now (words .entry))))) ⌝ }
 {
-    let checked = tests::system(first, second, size, index, tape, q, n, words);
-    let Check::Passed = checked else {
-        return judging::answer_of(checked);
+    // n + 1 may not be a number of 32 bits
+    if !Matrix::unknowns_fit(n) {
+        let modulus = check_modulus(End::Blinder, q);
+        return answer_of(worst(modulus, Check::Refused(Refusal::Size)));
+    }
+    let session = SessionId(1);
+    let t = Terms {
+        session,
+        tape,
+        q,
+        m: n,
+        k: n,
+        p: n + 1,
     };
-    let at = index * size;
-    let read = halves::system(tape, q, n, words, &mut first[at..], &mut second[at..]);
-    Answer::Accepted(read)
+    deal(Sort::System, t, first, second, size, index, words)
 }
