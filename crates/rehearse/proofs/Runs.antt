@@ -30,7 +30,7 @@ use Rattle.protocol.proofs.RehearsalRight.{RehearsalFits, rehearsal-tests, runC
 use Rattle.judging.specs.InOrder.{judged}
 use Rattle.tape.proofs.Sides.{Sides, sides}
 use Rattle.judging.specs.Leaves.{Leaves, leaves}
-use Rattle.halves.specs.Dealt.{Pools, pools}
+use Rattle.dealer.specs.Dealt.{Pools, pools}
 use Rattle.protocol.specs.Message.{messageWith}
 use Rattle.rehearse_lines.specs.Prints.{runOf}
 use Rattle.rehearse.specs.Order.{inputOf}
