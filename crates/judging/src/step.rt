@@ -4,6 +4,7 @@
 //   check_later            a later step, which takes one too
 //   check_open             a drop: `openTests`
 //   check_room             room that an open session asks for
+//   check_input            a slice of exactly n residues
 use crate::Check;
 use crate::held::check_arrived;
 use crate::held::check_body;
@@ -20,11 +21,13 @@ use tape::End;
 use tape::header::IN_USE;
 use tape::header::READY;
 use tape::is_slot;
+use vectors::all_below;
 ghost use mathlib.Core.Path.{_≡_};
 ghost use mathlib.Core.List.{[], _∷_, _++_};
 ghost use Rattle.protocol.specs.declared.Refusal.the-variants.{Size};
 ghost use Rattle.protocol.specs.Judge.{needs, given};
 ghost use lib.ListN.{length};
+ghost use Rattle.protocol.specs.Bounds.{inputTests};
 ghost use Rattle.protocol.specs.Tape.{slotAt, slotWords, tapeTests, bodyTests};
 ghost use Rattle.protocol.specs.Message.{messageWith, messageTests, dueTests};
 ghost use Rattle.protocol.specs.Step.{firstTests, isOpen, openTests, laterTests};
@@ -179,4 +182,13 @@ pub fn check_room(due: u32, fits: bool) -> Check
         return Check::Passed;
     }
     need(Refusal::Size, fits)
+}
+
+// A slice that is read: exactly n residues.
+pub fn check_input(q: u32, n: usize, words: &[u32]) -> Check
+    ensures { λ r. ⌜ checked r ≡ judged (inputTests q n (now (words .entry))) ⌝ }
+{
+    let count = need(Refusal::Size, words.len() == n);
+    let below = need(Refusal::Residue, all_below(q, words));
+    worst(count, below)
 }

@@ -1,8 +1,6 @@
--- Known    what is known where tests passed
--- Order    each step's tests, judged by the groups in which its code makes them
--- Halves   a half's matrices as parts of its slot, and words at the start of an array
--- Leaving  what each step's code leaves
+-- Known     what is known where tests passed
+-- Order     each step's tests, judged in the phases in which its code makes them
+-- Formulas  what the code wrote, by the definitions' formulas
 pub mod Known
 pub mod Order
-pub mod Halves
-pub mod Leaving
+pub mod Formulas

@@ -1,13 +1,14 @@
--- What the solver computes at its later steps, by the words of its slot and a message's residues. Assumes nothing.
+-- What the solver computes at its later steps, by its slot and a message's residues. Assumes nothing.
+--   sentPart                           a part of a message, by its residues
 --   shareOf                            S = X1 × Y0 + R1 − B0
 --   sumOf, sideOf                      W + V, and c + s
 --   lastAnswer, lastHead, closedTerms  what the last step answers, by whether W + V has an inverse
 use mathlib.Core.Bool.{Bool, cond}
 use mathlib.Core.List.{List}
-use Prim.Native.Nat.{ℕ, _*_}
-use lib.ListN.{take, drop}
+use Prim.Native.Nat.{ℕ}
+use lib.ListN.{take}
 use Rattle.algebra.specs.Matrix.{zeros, matAdd}
-use Rattle.algebra.specs.Count.{part}
+use Rattle.algebra.specs.Count.{part, parts}
 use Rattle.algebra.specs.System.{solverShare, sumMatrix}
 use Rattle.protocol.specs.declared.Terms.{Terms}
 use Rattle.protocol.specs.declared.Head.{Head}
@@ -16,20 +17,23 @@ use Rattle.protocol.specs.declared.Answer.the-variants.{Accepted, Refused}
 use Rattle.protocol.specs.declared.Refusal.the-variants.{Singular}
 use Rattle.protocol.specs.declared.SolverSession.{SolverSession}
 use Rattle.protocol.specs.Bounds.{columns}
-use Rattle.protocol.specs.Tape.{solver, matrices}
-use Rattle.protocol.specs.Message.{noMessage}
+use Rattle.protocol.specs.Tape.{Slot, slotWords, solver, matrices}
+use Rattle.protocol.specs.Message.{noMessage, messageLayout}
 use Rattle.protocol.specs.System.{sideSize}
 
-unfoldable pub shareOf : Terms → (slot residues : List ℕ) → List ℕ
-shareOf t slot residues =
-    solverShare (t .q) (t .m) (columns (t .m) (t .p)) (take (t .m * t .m) residues) (part 0 (matrices solver t slot)) (drop (t .m * t .m) residues)
-    (part 1 (matrices solver t slot))
+unfoldable pub sentPart : (kind : ℕ) → Terms → (j : ℕ) (residues : List ℕ) → List ℕ
+sentPart kind t j residues = part j (parts (messageLayout kind (t .m) (t .k) (t .p)) residues)
 
-unfoldable pub sumOf : Terms → (slot residues : List ℕ) → List ℕ
-sumOf t slot residues = sumMatrix (t .q) (t .m) (take (t .m * t .m) residues) (part 3 (matrices solver t slot))
+unfoldable pub shareOf : Terms → Slot → (residues : List ℕ) → List ℕ
+shareOf t s residues =
+    solverShare (t .q) (t .m) (columns (t .m) (t .p)) (sentPart 2 t 0 residues) (part 0 (matrices solver t (slotWords s))) (sentPart 2 t 1 residues)
+    (part 1 (matrices solver t (slotWords s)))
+
+unfoldable pub sumOf : Terms → Slot → (residues : List ℕ) → List ℕ
+sumOf t s residues = sumMatrix (t .q) (t .m) (sentPart 4 t 0 residues) (part 3 (matrices solver t (slotWords s)))
 
 unfoldable pub sideOf : Terms → (residues kept : List ℕ) → List ℕ
-sideOf t residues kept = matAdd (t .q) (sideSize t) (drop (t .m * t .m) residues) (take (sideSize t) kept)
+sideOf t residues kept = matAdd (t .q) (sideSize t) (sentPart 4 t 1 residues) (take (sideSize t) kept)
 
 abbrev pub lastAnswer : Bool → Answer
 lastAnswer found = cond found (Accepted 0) (Refused Singular)

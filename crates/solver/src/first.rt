@@ -1,15 +1,18 @@
 // Step 1: the solver sends Y1 = [L, x] − Y0, and its half is in use.
+//   check          the tests
+//   compute        the message and the session
+//   solver_first   the step
 use crate::SolverAnswer;
 use crate::no_session;
 use crate::refused;
+use crate::session_of;
 use elimination::has_inverse;
 use judging::Check;
-use judging::half::check_body;
-use judging::half::check_tape;
+use judging::message::has_room;
 use judging::message::side_size;
 use judging::need;
-use judging::numbers::check_modulus;
-use judging::numbers::check_sizes;
+use judging::step::check_first;
+use judging::step::check_input;
 use judging::worst;
 use protocol::Answer;
 use protocol::Head;
@@ -17,57 +20,46 @@ use protocol::Refusal;
 use protocol::SolverSession;
 use protocol::Terms;
 use tape::End;
-use tape::change::take_up;
-use vectors::all_below;
+use tape::change::take_up_at;
+use tape::half::matrix_start;
 use vectors::times;
 use vectors::write_beside;
 use vectors::write_difference;
 ghost use mathlib.Core.Path.{_≡_};
 ghost use mathlib.Core.Bool.{true};
-ghost use mathlib.Core.List.{[]};
-ghost use Prim.Native.Nat.{_≤_};
+ghost use mathlib.Core.List.{[], _++_};
+ghost use Prim.Native.Nat.{_*_, _≤_, _<_};
 ghost use lib.ListN.{length};
-ghost use Rattle.algebra.specs.Count.{part};
 ghost use Rattle.algebra.specs.Columns.{beside};
 ghost use Rattle.algebra.specs.Words.{over};
 ghost use Rattle.algebra.specs.Product.{sendY};
-ghost use Rattle.protocol.specs.Bounds.{sidesFit, system, columns};
-ghost use Rattle.protocol.specs.Tape.{solver, slotAt, tapeSize, matrices, wordsInUse};
-ghost use Rattle.protocol.specs.System.{noSolver, solverFirstTests, solverFirst};
+ghost use Rattle.protocol.specs.Judge.{done};
+ghost use Rattle.protocol.specs.Bounds.{sidesFit, system, columns, inputTests, roomTests};
+ghost use Rattle.protocol.specs.Tape.{solver, slotAt};
+ghost use Rattle.protocol.specs.Message.{messageSize};
+ghost use Rattle.protocol.specs.Step.{answerReply, firstTests};
+ghost use Rattle.protocol.specs.System.{noSolver, sideSize, solverFirstEffect, solverFirstTests, solverFirst};
 ghost use Rattle.judging.specs.InOrder.{checked, judged};
-ghost use Rattle.protocol.specs.Step.{answerReply};
-ghost use Rattle.judging.specs.Leaves.{Leaves, leaves};
-ghost use Rattle.solver.specs.Groups.{firstNumbers, firstWords};
-ghost use Rattle.solver.specs.Shape.{FirstShape};
+ghost use Rattle.judging.specs.Leaves.{Leaves, leaves, Computed, computed};
 
-fn check_numbers(
-    t: Terms,
-    pool: usize,
+// All tests but that L has an inverse.
+fn check_inputs(
+    pool: &[u32],
     size: usize,
     index: usize,
-    l: usize,
-    x: usize,
+    t: Terms,
+    l: &[u32],
+    x: &[u32],
     room: usize,
 ) -> Check
-    ensures { λ r. ⌜ checked r ≡ judged (firstNumbers t pool size index l x room) ⌝ }
+    ensures { λ r. ⌜ checked r ≡ judged (firstTests solver t (slotAt (now (pool .entry)) size index) ++ inputTests (t .q) (t .m * t .m) (now (l .entry))
+        ++ inputTests (t .q) (sideSize t) (now (x .entry)) ++ roomTests (messageSize 1 t) room) ⌝ }
 {
-    let modulus = check_modulus(End::Solver, t.q);
-    let sizes = check_sizes(End::Solver, t, pool, size, index);
-    let matrix = need(Refusal::Size, l == times(t.m, t.m));
-    let vector = need(Refusal::Size, x == side_size(t));
-    let sent = need(Refusal::Size, times(t.k, t.p) <= room);
-    worst(modulus, worst(sizes, worst(matrix, worst(vector, sent))))
-}
-
-fn check_words(t: Terms, l: &[u32], x: &[u32], slot: &[u32]) -> Check
-    requires { ⌜ (sidesFit system (t .m) (t .k) (t .p) ≡ true) × (tapeSize solver (t .m) (t .k) (t .p) ≤ length (now slot)) ⌝ }
-    ensures { λ r. ⌜ checked r ≡ judged (firstWords t (now (l .entry)) (now (x .entry)) (now (slot .entry))) ⌝ }
-{
-    let tape = check_tape(End::Solver, 1, t, slot);
-    let body = check_body(End::Solver, t, slot);
-    let matrix = need(Refusal::Residue, all_below(t.q, l));
-    let vector = need(Refusal::Residue, all_below(t.q, x));
-    worst(tape, worst(body, worst(matrix, vector)))
+    let shared = check_first(End::Solver, t, pool, size, index);
+    let matrix = check_input(t.q, times(t.m, t.m), l);
+    let vector = check_input(t.q, side_size(t), x);
+    let sent = need(Refusal::Size, has_room(1, t, room));
+    worst(worst(worst(shared, matrix), vector), sent)
 }
 
 fn check(
@@ -81,33 +73,50 @@ fn check(
 ) -> Check
     ensures { λ r. ⌜ checked r ≡ judged (solverFirstTests t (slotAt (now (pool .entry)) size index) (now (l .entry)) (now (x .entry)) room) ⌝ }
 {
-    let numbers = check_numbers(t, pool.len(), size, index, l.len(), x.len(), room);
-    let Check::Passed = numbers else {
-        return numbers;
-    };
-    let at = index * size;
-    let end = at + size;
-    let words = check_words(t, l, x, &pool[at..end]);
-    let Check::Passed = words else {
-        return words;
+    let inputs = check_inputs(pool, size, index, t, l, x, room);
+    let Check::Passed = inputs else {
+        return inputs;
     };
     need(Refusal::Singular, has_inverse(t.q, t.m as usize, l))
 }
 
-fn write(t: Terms, l: &[u32], x: &[u32], slot: &mut [u32], out: &mut [u32])
-    requires { ⌜ FirstShape t (length (now l)) (length (now x)) (length (now slot)) (length (now out)) ⌝ }
-    ensures { λ _. ⌜ now (slot .exit) ≡ wordsInUse (now (slot .entry)) ⌝ }
-    ensures { λ _. ⌜ now (out .exit) ≡ over (sendY (t .q) (t .m) (t .m) (t .p) (beside (t .m) (t .m) (columns (t .m) (t .p)) (now (l .entry)) (now (x .entry)))
-        (part 0 (matrices solver t (now (slot .entry))))) (now (out .entry)) ⌝ }
+// Y1, by Y0.
+fn write_y1(t: Terms, l: &[u32], x: &[u32], y0: &[u32], out: &mut [u32])
+    requires { ⌜ (0 < t .q) × (sidesFit system (t .m) (t .k) (t .p) ≡ true) × (length (now l) ≡ t .m * t .m) × (length (now x) ≡ sideSize t)
+        × (length (now y0) ≡ t .k * t .p) × (t .k * t .p ≤ length (now out)) ⌝ }
+    ensures { λ _. ⌜ now (out .exit) ≡ over (sendY (t .q) (t .m) (t .m) (t .p)
+        (beside (t .m) (t .m) (columns (t .m) (t .p)) (now (l .entry)) (now (x .entry))) (now (y0 .entry))) (now (out .entry)) ⌝ }
 {
     let n = t.m as usize;
-    let rhs = (t.p - t.m) as usize;
     let size = times(t.m, t.p);
-    let end = 7 + size;
     let mut y = [0u32; 272];
-    write_beside(n, n, rhs, l, x, &mut y);
-    write_difference(t.q, size, &y[..size], &slot[7..end], out);
-    take_up(slot);
+    write_beside(n, n, (t.p - t.m) as usize, l, x, &mut y);
+    write_difference(t.q, size, &y[..size], y0, out);
+}
+
+// Y1 goes into `out`; the session waits for kind 2.
+fn compute(
+    pool: &[u32],
+    size: usize,
+    index: usize,
+    t: Terms,
+    l: &[u32],
+    x: &[u32],
+    out: &mut [u32],
+) -> SolverAnswer
+    requires { ⌜ judged (solverFirstTests t (slotAt (now pool) size index) (now l) (now x) (length (now out))) ≡ done tt ⌝ }
+    ensures { λ r. ⌜ _≡_ {A = Computed SolverSession}
+        (record { answer = answerReply (r .answer); session = r .session; head = r .head; scratch = []; sent = now (out .exit); result = [] })
+        (computed [] (now (out .entry)) [] (solverFirstEffect t (slotAt (now (pool .entry)) size index) (now (l .entry)) (now (x .entry)))) ⌝ }
+{
+    let from = matrix_start(End::Solver, t, 0, pool, size, index);
+    let stop = matrix_start(End::Solver, t, 1, pool, size, index);
+    write_y1(t, l, x, &pool[from..stop], out);
+    SolverAnswer {
+        answer: Answer::Accepted(0),
+        session: session_of(t, 2),
+        head: Head { kind: 1, terms: t },
+    }
 }
 
 // Step 1 (RULES 5.3): Y1 = [L, x] − Y0.
@@ -129,17 +138,7 @@ pub fn solver_first(
     let Check::Passed = checked else {
         return refused(checked, no_session());
     };
-    let s = [0u32; 16];
-    let at = index * size;
-    let end = at + size;
-    write(t, l, x, &mut pool[at..end], out);
-    SolverAnswer {
-        answer: Answer::Accepted(0),
-        session: SolverSession {
-            terms: t,
-            due: 2,
-            s: s,
-        },
-        head: Head { kind: 1, terms: t },
-    }
+    let done = compute(pool, size, index, t, l, x, out);
+    take_up_at(End::Solver, t, pool, size, index);
+    done
 }

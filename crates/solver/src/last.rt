@@ -1,7 +1,10 @@
 // Step 5: the solver solves (W + V) t = c + s and sends t. Its half is spent and its session closes, also where W + V has no inverse.
+//   compute       the message and the session, by write_joint and find_t
+//   solver_last   the step
 use crate::SolverAnswer;
 use crate::later::check;
 use crate::refused;
+use crate::session_of;
 use elimination::solve;
 use judging::Check;
 use judging::message::no_head;
@@ -12,66 +15,70 @@ use protocol::Refusal;
 use protocol::SolverSession;
 use protocol::Terms;
 use tape::End;
-use tape::change::spend;
+use tape::change::spend_at;
+use tape::half::matrix_start;
 use vectors::times;
 use vectors::write_sum;
 ghost use mathlib.Core.Path.{_≡_};
 ghost use mathlib.Core.Bool.{true, cond};
 ghost use mathlib.Core.List.{[]};
-ghost use Prim.Native.Nat.{_+_, _*_, _≤_};
+ghost use Prim.Native.Nat.{_+_, _*_, _≤_, _<_};
 ghost use lib.ListN.{length};
+ghost use Rattle.algebra.specs.Matrix.{Residues};
 ghost use Rattle.algebra.specs.Elimination.{regular, solution};
 ghost use Rattle.algebra.specs.Prime.{isPrime};
 ghost use Rattle.algebra.specs.Words.{over};
-ghost use Rattle.protocol.specs.Tape.{solver, slotAt, wordsSpent};
-ghost use Rattle.protocol.specs.System.{solverLast};
+ghost use Rattle.protocol.specs.Judge.{done};
+ghost use Rattle.protocol.specs.Bounds.{sidesFit, system};
+ghost use Rattle.protocol.specs.Tape.{solver, slotAt};
+ghost use Rattle.protocol.specs.Message.{messageWith};
+ghost use Rattle.protocol.specs.System.{sideSize, solverLastEffect, solverLastTests, solverLast};
 ghost use Rattle.protocol.specs.Step.{answerReply};
-ghost use Rattle.judging.specs.Leaves.{Leaves, leaves};
+ghost use Rattle.tape.specs.Placed.{Placed};
+ghost use Rattle.judging.specs.InOrder.{judged};
+ghost use Rattle.judging.specs.Leaves.{Leaves, leaves, Computed, computed};
 ghost use Rattle.solver.specs.Formulas.{sumOf, sideOf, lastAnswer, lastHead, closedTerms};
-ghost use Rattle.solver.specs.Shape.{LaterShape};
 
-// Whether W + V has an inverse, and t, written where it has.
-fn write_t(t: Terms, slot: &[u32], residues: &[u32], kept: &[u32], out: &mut [u32]) -> bool
-    requires { ⌜ LaterShape t (length (now slot)) × (isPrime (t .q) ≡ true) × (length (now residues) ≡ t .m * t .m + t .m) × (16 ≤ length (now kept)) × (t .m ≤ length (now out)) ⌝ }
-    ensures { λ r. ⌜ (r ≡ regular (t .q) (t .m) (sumOf t (now (slot .entry)) (now (residues .entry))))
-        × (now (out .exit) ≡ cond (regular (t .q) (t .m) (sumOf t (now (slot .entry)) (now (residues .entry))))
-        (over (solution (t .q) (t .m) (sumOf t (now (slot .entry)) (now (residues .entry))) (sideOf t (now (residues .entry)) (now (kept .entry)))) (now (out .entry)))
-        (now (out .entry))) ⌝ }
+// W + V, by the message's residues and the half.
+fn write_joint(pool: &[u32], size: usize, index: usize, t: Terms, residues: &[u32], out: &mut [u32])
+    requires { ⌜ Placed solver t (slotAt (now pool) size index) × (0 < t .q) × (t .m * t .k ≤ length (now residues)) × (t .m * t .k ≤ length (now out)) ⌝ }
+    ensures { λ _. ⌜ now (out .exit) ≡ over (sumOf t (slotAt (now (pool .entry)) size index) (now (residues .entry))) (now (out .entry)) ⌝ }
 {
-    let size = times(t.m, t.m);
-    let side = side_size(t);
-    let from = 7 + times(t.m, t.p) + times(t.m, t.p) + size;
-    let end = from + size;
-    let mut sum = [0u32; 256];
-    write_sum(t.q, size, &residues[..size], &slot[from..end], &mut sum);
-    let mut right = [0u32; 16];
-    write_sum(t.q, side, &residues[size..], &kept[..side], &mut right);
-    solve(t.q, t.m as usize, &sum[..size], &right[..side], out)
+    let n = times(t.m, t.k);
+    let from = matrix_start(End::Solver, t, 3, pool, size, index);
+    let stop = matrix_start(End::Solver, t, 4, pool, size, index);
+    write_sum(t.q, n, &residues[..n], &pool[from..stop], out);
 }
 
-fn write(t: Terms, slot: &mut [u32], residues: &[u32], kept: &[u32], out: &mut [u32]) -> bool
-    requires { ⌜ LaterShape t (length (now slot)) × (isPrime (t .q) ≡ true) × (length (now residues) ≡ t .m * t .m + t .m) × (16 ≤ length (now kept)) × (t .m ≤ length (now out)) ⌝ }
-    ensures { λ r. ⌜ (r ≡ regular (t .q) (t .m) (sumOf t (now (slot .entry)) (now (residues .entry))))
-        × (now (slot .exit) ≡ wordsSpent solver t (now (slot .entry)))
-        × (now (out .exit) ≡ cond (regular (t .q) (t .m) (sumOf t (now (slot .entry)) (now (residues .entry))))
-        (over (solution (t .q) (t .m) (sumOf t (now (slot .entry)) (now (residues .entry))) (sideOf t (now (residues .entry)) (now (kept .entry)))) (now (out .entry)))
-        (now (out .entry))) ⌝ }
+// c + s, by the message's residues and what the session keeps.
+fn write_side(t: Terms, residues: &[u32], kept: &[u32], out: &mut [u32])
+    requires { ⌜ (0 < t .q) × (length (now residues) ≡ t .m * t .k + sideSize t) × (sideSize t ≤ length (now kept)) × (sideSize t ≤ length (now out)) ⌝ }
+    ensures { λ _. ⌜ now (out .exit) ≡ over (sideOf t (now (residues .entry)) (now (kept .entry))) (now (out .entry)) ⌝ }
 {
-    let found = write_t(t, slot, residues, kept, out);
-    spend(End::Solver, t, slot);
-    found
+    let from = times(t.m, t.k);
+    let side = side_size(t);
+    write_sum(t.q, side, &residues[from..], &kept[..side], out);
+}
+
+// Whether W + V has an inverse, and t, written where it has.
+fn find_t(t: Terms, sum: &[u32], residues: &[u32], kept: &[u32], out: &mut [u32]) -> bool
+    requires { ⌜ (isPrime (t .q) ≡ true) × (1 < t .q) × (t .q < 2147483648) × (sidesFit system (t .m) (t .k) (t .p) ≡ true) × Residues (t .q) (t .m * t .m) (now sum)
+        × (length (now residues) ≡ t .m * t .k + sideSize t) × (length (now kept) ≡ 16) × (t .m ≤ length (now out)) ⌝ }
+    ensures { λ r. ⌜ (r ≡ regular (t .q) (t .m) (now (sum .entry)))
+        × (now (out .exit) ≡ cond (regular (t .q) (t .m) (now (sum .entry)))
+        (over (solution (t .q) (t .m) (now (sum .entry)) (sideOf t (now (residues .entry)) (now (kept .entry)))) (now (out .entry))) (now (out .entry))) ⌝ }
+{
+    let side = side_size(t);
+    let mut right = [0u32; 16];
+    write_side(t, residues, kept, &mut right);
+    solve(t.q, t.m as usize, sum, &right[..side], out)
 }
 
 // What the last step answers: t is sent, or W + V has no inverse. The session is closed.
 fn answer(t: Terms, found: bool) -> SolverAnswer
-    ensures { λ r. ⌜ (r .answer ≡ lastAnswer found) × (r .session ≡ closedTerms t) × (r .head ≡ lastHead t found) ⌝ }
+    ensures { λ r. ⌜ r ≡ record { answer = lastAnswer found; session = closedTerms t; head = lastHead t found } ⌝ }
 {
-    let s = [0u32; 16];
-    let session = SolverSession {
-        terms: t,
-        due: 0,
-        s: s,
-    };
+    let session = session_of(t, 0);
     if found {
         return SolverAnswer {
             answer: Answer::Accepted(0),
@@ -84,6 +91,29 @@ fn answer(t: Terms, found: bool) -> SolverAnswer
         session: session,
         head: no_head(),
     }
+}
+
+fn compute(
+    pool: &[u32],
+    size: usize,
+    index: usize,
+    s: SolverSession,
+    a: Head,
+    residues: &[u32],
+    out: &mut [u32],
+) -> SolverAnswer
+    requires { ⌜ judged (solverLastTests s (slotAt (now pool) size index) (messageWith a (now residues)) (length (now out))) ≡ done tt ⌝ }
+    ensures { λ r. ⌜ _≡_ {A = Computed SolverSession}
+        (record { answer = answerReply (r .answer); session = r .session; head = r .head; scratch = []; sent = now (out .exit); result = [] })
+        (computed [] (now (out .entry)) [] (solverLastEffect s (slotAt (now (pool .entry)) size index) (messageWith a (now (residues .entry))))) ⌝ }
+{
+    let t = s.terms;
+    let n = times(t.m, t.m);
+    let mut sum = [0u32; 256];
+    write_joint(pool, size, index, t, residues, &mut sum);
+    let kept = s.s;
+    let found = find_t(t, &sum[..n], residues, &kept, out);
+    answer(t, found)
 }
 
 // Step 5 (RULES 5.7): the t with (W + V) t = c + s.
@@ -101,15 +131,11 @@ pub fn solver_last(
         (leaves s (slotAt (now (pool .entry)) size index) [] (now (out .entry)) []
         (solverLast s (slotAt (now (pool .entry)) size index) (record { head = a; residues = now (residues .entry) }) (length (now (out .entry))))) ⌝ }
 {
-    let t = s.terms;
-    let sent = side_size(t);
-    let checked = check(pool, size, index, 4, s, a, residues, sent, out.len());
+    let checked = check(pool, size, index, 4, 5, s, a, residues, out.len());
     let Check::Passed = checked else {
         return refused(checked, s);
     };
-    let at = index * size;
-    let end = at + size;
-    let kept = s.s;
-    let found = write(t, &mut pool[at..end], residues, &kept, out);
-    answer(t, found)
+    let done = compute(pool, size, index, s, a, residues, out);
+    spend_at(End::Solver, s.terms, pool, size, index);
+    done
 }

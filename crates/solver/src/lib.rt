@@ -1,16 +1,20 @@
-// The solver's three steps, by value: it hands over L and x at its first, and sends Y1, F and t.
-//   SolverAnswer   what a step answers
-//   first          step 1: solver_first
-//   later          what steps 3 and 5 check
-//   second, last   steps 3 and 5: solver_second, solver_last
+// The solver's three steps and its drop, by value: it hands over L and x at its first, and sends Y1, F and t. A step checks everything, then computes,
+// and then the tape's status changes.
+//   SolverAnswer, SolverDropped   what a step answers, and what the drop does
+//   first                         step 1: solver_first
+//   later                         what steps 3 and 5 check
+//   second, last                  steps 3 and 5: solver_second, solver_last
+//   drop                          solver_drop
 // A step is given its pool, the size of the pool's slots and the index of its own; its terms or its session; its inputs; the message that
 // it takes, a head and residues; and last the slice that it writes.
-// For hosts: solver_first, solver_second, solver_last.
+// For hosts: solver_first, solver_second, solver_last, solver_drop.
+mod drop;
 mod first;
 mod last;
 mod later;
 mod second;
 
+pub use drop::solver_drop;
 pub use first::solver_first;
 use judging::Check;
 use judging::message::no_head;
@@ -21,6 +25,7 @@ use protocol::SolverSession;
 use protocol::Terms;
 pub use second::solver_second;
 ghost use mathlib.Core.Path.{_≡_};
+ghost use Rattle.algebra.specs.Matrix.{zeros};
 ghost use Rattle.protocol.specs.Message.{noMessage};
 ghost use Rattle.judging.specs.InOrder.{answerOf};
 ghost use Rattle.protocol.specs.System.{noSolver};
@@ -32,23 +37,35 @@ pub struct SolverAnswer {
     pub head: Head,
 }
 
+// What its drop answers, and the session as it then is.
+pub struct SolverDropped {
+    pub answer: Answer,
+    pub session: SolverSession,
+}
+
+// A session that keeps no s.
+fn session_of(t: Terms, due: u32) -> SolverSession
+    ensures { λ r. ⌜ r ≡ record { terms = t; due = due; s = zeros 16 } ⌝ }
+{
+    let s = [0u32; 16];
+    SolverSession {
+        terms: t,
+        due: due,
+        s: s,
+    }
+}
+
 // The session where a first step is refused.
 fn no_session() -> SolverSession
     ensures { λ r. ⌜ r ≡ noSolver ⌝ }
 {
     let head = no_head();
-    let terms = head.terms;
-    let s = [0u32; 16];
-    SolverSession {
-        terms: terms,
-        due: 0,
-        s: s,
-    }
+    session_of(head.terms, 0)
 }
 
 // A refused step answers the session as it was.
 fn refused(c: Check, session: SolverSession) -> SolverAnswer
-    ensures { λ r. ⌜ (r .answer ≡ answerOf c) × (r .session ≡ session) × (r .head ≡ noMessage .head) ⌝ }
+    ensures { λ r. ⌜ r ≡ record { answer = answerOf c; session = session; head = noMessage .head } ⌝ }
 {
     SolverAnswer {
         answer: judging::answer_of(c),

@@ -1,4 +1,6 @@
 // Step 3: the solver finds S = X1 × Y0 + R1 − B0, keeps its last column s, and sends F = R − S', S' being its other columns.
+//   compute         the message and the session, by find_share and finish
+//   solver_second   the step
 use crate::SolverAnswer;
 use crate::later::check;
 use crate::refused;
@@ -8,60 +10,75 @@ use protocol::Answer;
 use protocol::Head;
 use protocol::SolverSession;
 use protocol::Terms;
+use tape::End;
+use tape::half::matrix_start;
 use vectors::times;
 use vectors::write_cols;
 use vectors::write_difference;
 ghost use mathlib.Core.Path.{_≡_};
 ghost use mathlib.Core.Bool.{true};
 ghost use mathlib.Core.List.{[]};
-ghost use Prim.Native.Nat.{_+_, _*_, _≤_};
+ghost use Prim.Native.Nat.{_+_, _*_, _≤_, _<_};
 ghost use lib.ListN.{length};
 ghost use Rattle.algebra.specs.Count.{part};
-ghost use Rattle.algebra.specs.System.{lastCols, sendF};
+ghost use Rattle.algebra.specs.System.{lastCols, solverShare, sendF};
 ghost use Rattle.algebra.specs.Words.{over};
+ghost use Rattle.protocol.specs.declared.Answer.the-variants.{Accepted};
+ghost use Rattle.protocol.specs.Judge.{done};
 ghost use Rattle.protocol.specs.Bounds.{columns, sidesFit, system};
-ghost use Rattle.protocol.specs.Tape.{solver, slotAt, matrices};
-ghost use Rattle.protocol.specs.System.{padded, solverSecond};
+ghost use Rattle.protocol.specs.Tape.{solver, slotAt, slotWords, matrices};
+ghost use Rattle.protocol.specs.Message.{messageWith};
+ghost use Rattle.protocol.specs.System.{padded, solverSecondEffect, solverSecondTests, solverSecond};
 ghost use Rattle.protocol.specs.Step.{answerReply};
-ghost use Rattle.judging.specs.Leaves.{Leaves, leaves};
-ghost use Rattle.solver.specs.Formulas.{shareOf};
-ghost use Rattle.solver.specs.Shape.{LaterShape};
+ghost use Rattle.tape.specs.Placed.{Placed};
+ghost use Rattle.judging.specs.InOrder.{judged};
+ghost use Rattle.judging.specs.Leaves.{Leaves, leaves, Computed, computed};
+ghost use Rattle.solver.specs.Formulas.{sentPart, shareOf};
 
-// S, by the message's residues and the half.
-fn find_share(t: Terms, slot: &[u32], residues: &[u32], out: &mut [u32])
-    requires { ⌜ LaterShape t (length (now slot)) × (length (now residues) ≡ t .m * t .m + t .m * t .p) × (t .m * t .p ≤ length (now out)) ⌝ }
-    ensures { λ _. ⌜ now (out .exit) ≡ over (shareOf t (now (slot .entry)) (now (residues .entry))) (now (out .entry)) ⌝ }
+// S, by the message's residues, Y0 and B0.
+fn join_share(t: Terms, residues: &[u32], y0: &[u32], b0: &[u32], out: &mut [u32])
+    requires { ⌜ (0 < t .q) × (t .q < 2147483648) × (sidesFit system (t .m) (t .k) (t .p) ≡ true) × (length (now residues) ≡ t .m * t .k + t .m * t .p)
+        × (length (now y0) ≡ t .k * t .p) × (length (now b0) ≡ t .m * t .p) × (t .m * t .p ≤ length (now out)) ⌝ }
+    ensures { λ _. ⌜ now (out .exit) ≡ over (solverShare (t .q) (t .m) (columns (t .m) (t .p)) (sentPart 2 t 0 (now (residues .entry))) (now (y0 .entry))
+        (sentPart 2 t 1 (now (residues .entry))) (now (b0 .entry))) (now (out .entry)) ⌝ }
 {
-    let x1 = times(t.m, t.m);
-    let size = times(t.m, t.p);
-    let middle = 7 + size;
-    let end = middle + size;
-    let n = t.m as usize;
+    let x1 = times(t.m, t.k);
     write_share(
         t.q,
-        n,
-        n,
+        t.m as usize,
+        t.k as usize,
         t.p as usize,
         &residues[..x1],
-        &slot[7..middle],
+        y0,
         &residues[x1..],
-        &slot[middle..end],
+        b0,
         out,
     );
 }
 
-// F, by S.
-fn write_f(t: Terms, slot: &[u32], share: &[u32], out: &mut [u32])
-    requires { ⌜ LaterShape t (length (now slot)) × (length (now share) ≡ t .m * t .p) × (t .m * t .m ≤ length (now out)) ⌝ }
-    ensures { λ _. ⌜ now (out .exit) ≡ over (sendF (t .q) (t .m) (columns (t .m) (t .p)) (part 2 (matrices solver t (now (slot .entry)))) (now (share .entry))) (now (out .entry)) ⌝ }
+// The same, by the message's residues and the half.
+fn find_share(pool: &[u32], size: usize, index: usize, t: Terms, residues: &[u32], out: &mut [u32])
+    requires { ⌜ Placed solver t (slotAt (now pool) size index) × (0 < t .q) × (t .q < 2147483648)
+        × (length (now residues) ≡ t .m * t .k + t .m * t .p) × (t .m * t .p ≤ length (now out)) ⌝ }
+    ensures { λ _. ⌜ now (out .exit) ≡ over (shareOf t (slotAt (now (pool .entry)) size index) (now (residues .entry))) (now (out .entry)) ⌝ }
+{
+    let y0 = matrix_start(End::Solver, t, 0, pool, size, index);
+    let b0 = matrix_start(End::Solver, t, 1, pool, size, index);
+    let end = matrix_start(End::Solver, t, 2, pool, size, index);
+    join_share(t, residues, &pool[y0..b0], &pool[b0..end], out);
+}
+
+// F, by R and S.
+fn write_f(t: Terms, r: &[u32], share: &[u32], out: &mut [u32])
+    requires { ⌜ (0 < t .q) × (sidesFit system (t .m) (t .k) (t .p) ≡ true) × (length (now r) ≡ t .m * t .k)
+        × (length (now share) ≡ t .m * t .p) × (t .m * t .k ≤ length (now out)) ⌝ }
+    ensures { λ _. ⌜ now (out .exit) ≡ over (sendF (t .q) (t .m) (columns (t .m) (t .p)) (now (r .entry)) (now (share .entry))) (now (out .entry)) ⌝ }
 {
     let n = t.m as usize;
     let size = times(t.m, t.m);
-    let from = 7 + times(t.m, t.p) + times(t.m, t.p);
-    let end = from + size;
     let mut first = [0u32; 256];
     write_cols(n, t.p as usize, 0, n, share, &mut first);
-    write_difference(t.q, size, &slot[from..end], &first[..size], out);
+    write_difference(t.q, size, r, &first[..size], out);
 }
 
 // s, by S.
@@ -70,22 +87,63 @@ fn last_column(t: Terms, share: &[u32]) -> [u32; 16]
     ensures { λ r. ⌜ r ≡ padded 16 (lastCols (t .m) (columns (t .m) (t .p)) (now (share .entry))) ⌝ }
 {
     let n = t.m as usize;
-    let rhs = (t.p - t.m) as usize;
     let mut s = [0u32; 16];
-    write_cols(n, t.p as usize, n, rhs, share, &mut s);
+    write_cols(n, t.p as usize, n, (t.p - t.m) as usize, share, &mut s);
     s
 }
 
-fn write(t: Terms, slot: &[u32], residues: &[u32], out: &mut [u32]) -> [u32; 16]
-    requires { ⌜ LaterShape t (length (now slot)) × (length (now residues) ≡ t .m * t .m + t .m * t .p) × (t .m * t .m ≤ length (now out)) ⌝ }
-    ensures { λ r. ⌜ r ≡ padded 16 (lastCols (t .m) (columns (t .m) (t .p)) (shareOf t (now (slot .entry)) (now (residues .entry)))) ⌝ }
-    ensures { λ _. ⌜ now (out .exit) ≡ over (sendF (t .q) (t .m) (columns (t .m) (t .p)) (part 2 (matrices solver t (now (slot .entry)))) (shareOf t (now (slot .entry)) (now (residues .entry)))) (now (out .entry)) ⌝ }
+// F goes into `out`; the session keeps s and waits for kind 4.
+fn finish(
+    pool: &[u32],
+    size: usize,
+    index: usize,
+    t: Terms,
+    share: &[u32],
+    out: &mut [u32],
+) -> SolverAnswer
+    requires { ⌜ Placed solver t (slotAt (now pool) size index) × (0 < t .q) × (length (now share) ≡ t .m * t .p) × (t .m * t .k ≤ length (now out)) ⌝ }
+    ensures { λ r. ⌜ r ≡ record {
+      answer = Accepted 0;
+      session = record { terms = t; due = 4; s = padded 16 (lastCols (t .m) (columns (t .m) (t .p)) (now (share .entry))) };
+      head = record { kind = 3; terms = t };
+    } ⌝ }
+    ensures { λ _. ⌜ now (out .exit) ≡ over (sendF (t .q) (t .m) (columns (t .m) (t .p))
+        (part 2 (matrices solver t (slotWords (slotAt (now (pool .entry)) size index)))) (now (share .entry))) (now (out .entry)) ⌝ }
 {
-    let size = times(t.m, t.p);
+    let from = matrix_start(End::Solver, t, 2, pool, size, index);
+    let stop = matrix_start(End::Solver, t, 3, pool, size, index);
+    write_f(t, &pool[from..stop], share, out);
+    let s = last_column(t, share);
+    SolverAnswer {
+        answer: Answer::Accepted(0),
+        session: SolverSession {
+            terms: t,
+            due: 4,
+            s: s,
+        },
+        head: Head { kind: 3, terms: t },
+    }
+}
+
+fn compute(
+    pool: &[u32],
+    size: usize,
+    index: usize,
+    s: SolverSession,
+    a: Head,
+    residues: &[u32],
+    out: &mut [u32],
+) -> SolverAnswer
+    requires { ⌜ judged (solverSecondTests s (slotAt (now pool) size index) (messageWith a (now residues)) (length (now out))) ≡ done tt ⌝ }
+    ensures { λ r. ⌜ _≡_ {A = Computed SolverSession}
+        (record { answer = answerReply (r .answer); session = r .session; head = r .head; scratch = []; sent = now (out .exit); result = [] })
+        (computed [] (now (out .entry)) [] (solverSecondEffect s (slotAt (now (pool .entry)) size index) (messageWith a (now (residues .entry))))) ⌝ }
+{
+    let t = s.terms;
+    let n = times(t.m, t.p);
     let mut share = [0u32; 272];
-    find_share(t, slot, residues, &mut share);
-    write_f(t, slot, &share[..size], out);
-    last_column(t, &share[..size])
+    find_share(pool, size, index, t, residues, &mut share);
+    finish(pool, size, index, t, &share[..n], out)
 }
 
 // Step 3 (RULES 5.5): S = X1 × Y0 + R1 − B0, its last column s is kept, and F = R − S' is sent. The pool stays as it is.
@@ -103,22 +161,9 @@ pub fn solver_second(
         (leaves s (slotAt (now (pool .entry)) size index) [] (now (out .entry)) []
         (solverSecond s (slotAt (now (pool .entry)) size index) (record { head = a; residues = now (residues .entry) }) (length (now (out .entry))))) ⌝ }
 {
-    let t = s.terms;
-    let sent = times(t.m, t.k);
-    let checked = check(pool, size, index, 2, s, a, residues, sent, out.len());
+    let checked = check(pool, size, index, 2, 3, s, a, residues, out.len());
     let Check::Passed = checked else {
         return refused(checked, s);
     };
-    let at = index * size;
-    let end = at + size;
-    let kept = write(t, &pool[at..end], residues, out);
-    SolverAnswer {
-        answer: Answer::Accepted(0),
-        session: SolverSession {
-            terms: t,
-            due: 4,
-            s: kept,
-        },
-        head: Head { kind: 3, terms: t },
-    }
+    compute(pool, size, index, s, a, residues, out)
 }

@@ -1,112 +1,81 @@
 -- `solver::second::find_share` meets its contract. Assumes nothing.
-use mathlib.Core.Path.{refl, sym, ap, _∙_}
-use Prim.Native.Nat.{ℕ, _+_}
+use mathlib.Core.Path.{ap, _∙_}
 use native.Mathlib.Omega.{arith}
-use lib.ListN.{take, drop, length-take, length-drop}
-use borrow.Author.Needs.{needs}
-use Rattle.solver.proofs.Known.{few, solver-size}
-use Rattle.solver.proofs.Halves.{y0-part, b0-part, share-found}
-use lib.Seq.{length-take-le}
-use Rattle.protocol.specs.Bounds.{columns}
+use lib.ListN.{length}
+use Rattle.protocol.specs.Tape.{solver, slotAt}
+use Rattle.tape.proofs.Matrices.{matrix-stands}
 use Rattle.solver.specs.Formulas.{shareOf}
-use Rattle.vectors.proofs.Written.{tail-part}
+use Rattle.solver.proofs.Formulas.{y0-size, b0-size}
+use borrow.Author.Needs.{needs}
 use Rattle.solver.proofs.second.find_share.Statement.{statement}
 use Rattle.solver.proofs.second.find_share.Tie as tie
 
-times-requires : tie.Need-times-requires
-times-requires c κs = search needs
+matrix-start-requires : tie.Need-matrix-start-requires
+matrix-start-requires c κs = (c .before .before .before .pre .0, omega arith)
 
-times-requires-2 : tie.Need-times-requires-2
-times-requires-2 c κs = search needs
+matrix-start-requires-2 : tie.Need-matrix-start-requires-2
+matrix-start-requires-2 c κs = (c .before .before .before .before .pre .0, omega arith)
 
-add-middle : tie.Need-add-middle
-add-middle c =
-    let p = c .before .before .before .before .before .pre .0 in
-    let f = few (c .before .before .before .before .before .args .t) (p .sides) in
-    omega (arith, c .before .times .ensures, c .times2 .ensures, f .mp)
+matrix-start-requires-3 : tie.Need-matrix-start-requires-3
+matrix-start-requires-3 c κs = (c .before .before .before .before .before .pre .0, omega arith)
 
-add-end : tie.Need-add-end
-add-end c =
-    let p = c .before .before .before .before .before .pre .0 in
-    let f = few (c .before .before .before .before .before .args .t) (p .sides) in
-    omega (arith, c .before .times .ensures, c .times2 .ensures, f .mp)
+mul-join-share : tie.Need-mul-join-share
+mul-join-share c =
+    let a = c .before .before .before .before .before .before .args in
+    let m = matrix-stands solver (a .t) 0 (a .pool .now) (a .size) (a .index) (c .before .before .before .before .before .before .pre .0) (c .before .before .matrix-start .ensures) (c .before .matrix-start2 .ensures) in
+    search needs
 
-cast-n : tie.Need-cast-n
-cast-n c = search needs
+sub-join-share : tie.Need-sub-join-share
+sub-join-share c =
+    let a = c .before .before .before .before .before .before .args in
+    let m = matrix-stands solver (a .t) 0 (a .pool .now) (a .size) (a .index) (c .before .before .before .before .before .before .pre .0) (c .before .before .matrix-start .ensures) (c .before .matrix-start2 .ensures) in
+    search needs
 
-cast-write-share : tie.Need-cast-write-share
-cast-write-share c = search needs
+part-join-share-start : tie.Need-part-join-share-start
+part-join-share-start c =
+    let a = c .before .before .before .before .before .before .args in
+    let m = matrix-stands solver (a .t) 0 (a .pool .now) (a .size) (a .index) (c .before .before .before .before .before .before .pre .0) (c .before .before .matrix-start .ensures) (c .before .matrix-start2 .ensures) in
+    search needs
 
-slice-aggregate-write-share : tie.Need-slice-aggregate-write-share
-slice-aggregate-write-share c =
-    let a = c .before .before .before .before .before .before .before .before .args in
-    let h = c .before .before .before .before .before .before .before .before .pre in
-    let p = h .0 in
-    let f = few (a .t) (p .sides) in
-    sym (length-take-le _ (a .residues .now) (omega (arith, c .before .before .before .before .times .ensures, h .1)))
+part-join-share-end : tie.Need-part-join-share-end
+part-join-share-end c =
+    let a = c .before .before .before .before .before .before .args in
+    let m = matrix-stands solver (a .t) 0 (a .pool .now) (a .size) (a .index) (c .before .before .before .before .before .before .pre .0) (c .before .before .matrix-start .ensures) (c .before .matrix-start2 .ensures) in
+    search needs
 
-sub-write-share : tie.Need-sub-write-share
-sub-write-share c = search needs
+mul-join-share-2 : tie.Need-mul-join-share-2
+mul-join-share-2 c =
+    let a = c .before .before .before .before .before .before .before .args in
+    let m = matrix-stands solver (a .t) 1 (a .pool .now) (a .size) (a .index) (c .before .before .before .before .before .before .before .pre .0) (c .before .before .matrix-start2 .ensures) (c .before .matrix-start3 .ensures) in
+    search needs
 
-part-write-share-start : tie.Need-part-write-share-start
-part-write-share-start c = search needs
+sub-join-share-2 : tie.Need-sub-join-share-2
+sub-join-share-2 c =
+    let a = c .before .before .before .before .before .before .before .args in
+    let m = matrix-stands solver (a .t) 1 (a .pool .now) (a .size) (a .index) (c .before .before .before .before .before .before .before .pre .0) (c .before .before .matrix-start2 .ensures) (c .before .matrix-start3 .ensures) in
+    search needs
 
-part-write-share-end : tie.Need-part-write-share-end
-part-write-share-end c =
-    let a = c .before .before .before .before .before .before .before .before .args in
-    let p = c .before .before .before .before .before .before .before .before .pre .0 in
-    let f = few (a .t) (p .sides) in
-    omega (arith, solver-size (a .t .m) (a .t .k) (a .t .p), f .kp-is, c .before .before .before .before .times .ensures, c .before .before .before .times2 .ensures, p .half)
+part-join-share-start-2 : tie.Need-part-join-share-start-2
+part-join-share-start-2 c =
+    let a = c .before .before .before .before .before .before .before .args in
+    let m = matrix-stands solver (a .t) 1 (a .pool .now) (a .size) (a .index) (c .before .before .before .before .before .before .before .pre .0) (c .before .before .matrix-start2 .ensures) (c .before .matrix-start3 .ensures) in
+    search needs
 
-mul-write-share : tie.Need-mul-write-share
-mul-write-share c = search needs
+part-join-share-end-2 : tie.Need-part-join-share-end-2
+part-join-share-end-2 c =
+    let a = c .before .before .before .before .before .before .before .args in
+    let m = matrix-stands solver (a .t) 1 (a .pool .now) (a .size) (a .index) (c .before .before .before .before .before .before .before .pre .0) (c .before .before .matrix-start2 .ensures) (c .before .matrix-start3 .ensures) in
+    search needs
 
-sub-write-share-2 : tie.Need-sub-write-share-2
-sub-write-share-2 c = search needs
-
-part-write-share-start-2 : tie.Need-part-write-share-start-2
-part-write-share-start-2 c = search needs
-
-part-write-share-end-2 : tie.Need-part-write-share-end-2
-part-write-share-end-2 c = search needs
-
-mul-write-share-2 : tie.Need-mul-write-share-2
-mul-write-share-2 c = search needs
-
-sub-write-share-3 : tie.Need-sub-write-share-3
-sub-write-share-3 c = search needs
-
-part-write-share-start-3 : tie.Need-part-write-share-start-3
-part-write-share-start-3 c = search needs
-
-part-write-share-end-3 : tie.Need-part-write-share-end-3
-part-write-share-end-3 c =
-    let a = c .before .before .before .before .before .before .before .before .before .before .args in
-    let p = c .before .before .before .before .before .before .before .before .before .before .pre .0 in
-    let f = few (a .t) (p .sides) in
-    omega (arith, solver-size (a .t .m) (a .t .k) (a .t .p), f .kp-is, c .before .before .before .before .before .before .times .ensures, c .before .before .before .before .before .times2 .ensures, p .half)
-
-write-share-requires : tie.Need-write-share-requires
-write-share-requires c κs =
-    let a = c .before .before .before .before .before .before .before .before .before .before .before .before .args in
-    let h = c .before .before .before .before .before .before .before .before .before .before .before .before .pre in
-    let times = c .before .before .before .before .before .before .before .before .times in
-    let times2 = c .before .before .before .before .before .before .before .times2 in
-    let p = h .0 in let f = few (a .t) (p .sides) in (
-      record {
-        some-q = p .some-q;
-        small-q = p .small-q;
-        some-p = omega (arith, f .wide);
-        few-k = omega (arith, f .few);
-        few-y = omega (arith, f .mp);
-        full-x = simp length-take (omega (arith, times .ensures, times2 .ensures, h .1));
-        full-y = simp (length-take, length-drop)
-            (omega (arith, times .ensures, times2 .ensures, solver-size (a .t .m) (a .t .k) (a .t .p), f .kp-is, p .half));
-        room = h .2;
-      },
-      simp (length-take, length-drop) (omega (arith, times .ensures, times2 .ensures, h .1)),
-      simp (length-take, length-drop) (omega (arith, times .ensures, times2 .ensures, solver-size (a .t .m) (a .t .k) (a .t .p), f .kp-is, p .half)),
-    )
+join-share-requires : tie.Need-join-share-requires
+join-share-requires c κs =
+    let a = c .before .before .before .before .before .before .before .before .before .args in
+    let h = c .before .before .before .before .before .before .before .before .before .pre in
+    let s = slotAt (a .pool .now) (a .size) (a .index) in
+    let second = c .before .before .before .before .matrix-start2 .ensures in
+    let y = matrix-stands solver (a .t) 0 (a .pool .now) (a .size) (a .index) (h .0) (c .before .before .before .before .before .matrix-start .ensures) second in
+    let b = matrix-stands solver (a .t) 1 (a .pool .now) (a .size) (a .index) (h .0) second (c .before .before .before .matrix-start3 .ensures) in
+    (h .1, h .2, h .0 .sides, h .3, ap length (y .is) ∙ y0-size (a .t) s (h .0), ap length (b .is) ∙ b0-size (a .t) s (h .0), h .4)
 
 same-length : tie.Need-same-length
 same-length c = search needs
@@ -114,40 +83,28 @@ same-length c = search needs
 returns : tie.Need-returns
 unfolding shareOf
 returns c =
-    let a = c .before .before .before .before .before .before .before .before .before .before .before .before .before .before .before .args in
-    let times = c .before .before .before .before .before .before .before .before .before .before .before .times in
-    let times2 = c .before .before .before .before .before .before .before .before .before .before .times2 in
-    let p = c .before .before .before .before .before .before .before .before .before .before .before .before .before .before .before .pre .0 in
-    let f = few (a .t) (p .sides) in
-    share-found (a .t .q) (a .t .m) (a .t .p) (columns (a .t .m) (a .t .p)) _ _ _ _ (a .out .now) (c .before .before .write-share .ensures)
-    (ap (λ (n : ℕ). take n (a .residues .now)) (times .ensures))
-    (y0-part (a .t) (a .slot .now) 7 (7 + times2 .result) refl (omega (arith, times2 .ensures, f .kp-is)))
-    (tail-part (times .result) (a .residues .now) ∙ ap (λ (n : ℕ). drop n (a .residues .now)) (times .ensures))
-    (b0-part (a .t) (a .slot .now) (7 + times2 .result) (7 + times2 .result + times2 .result) (omega (arith, times2 .ensures, f .kp-is)) (omega (arith, times2 .ensures)))
-    (f .whole)
+    let a = c .before .before .before .before .before .before .before .before .before .before .before .before .args in
+    let h = c .before .before .before .before .before .before .before .before .before .before .before .before .pre in
+    let second = c .before .before .before .before .before .before .before .matrix-start2 .ensures in
+    let y = matrix-stands solver (a .t) 0 (a .pool .now) (a .size) (a .index) (h .0) (c .before .before .before .before .before .before .before .before .matrix-start .ensures) second in
+    let b = matrix-stands solver (a .t) 1 (a .pool .now) (a .size) (a .index) (h .0) second (c .before .before .before .before .before .before .matrix-start3 .ensures) in
+    rw (y .is, b .is) at (c .before .before .join-share .ensures)
 
 pub find-share-spec : {M : Type 1} → statement M
 find-share-spec =
     tie.close
     (tie.spec
-    times-requires
-    times-requires-2
-    add-middle
-    add-end
-    cast-n
-    cast-write-share
-    slice-aggregate-write-share
-    sub-write-share
-    part-write-share-start
-    part-write-share-end
-    mul-write-share
-    sub-write-share-2
-    part-write-share-start-2
-    part-write-share-end-2
-    mul-write-share-2
-    sub-write-share-3
-    part-write-share-start-3
-    part-write-share-end-3
-    write-share-requires
+    matrix-start-requires
+    matrix-start-requires-2
+    matrix-start-requires-3
+    mul-join-share
+    sub-join-share
+    part-join-share-start
+    part-join-share-end
+    mul-join-share-2
+    sub-join-share-2
+    part-join-share-start-2
+    part-join-share-end-2
+    join-share-requires
     same-length
     returns)

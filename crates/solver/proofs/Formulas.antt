@@ -1,0 +1,139 @@
+-- What the code wrote is what the definitions' formulas say.
+--   y0-size, b0-size, r-size, v-size   the matrices of a half that has its place
+--   y1-sent                            what step 1 sends
+--   x1-part, r1-part, w-part, c-part   a message's parts, as slices of its residues
+--   share-found, f-sent, kept-column   S, F and s; share-length
+--   joint-sum, joint-side              W + V and c + s; sum-residues, side-residues
+--   last-left                          what step 5 computes, by whether W + V has an inverse
+-- Assumes nothing.
+use mathlib.Core.Path.{_≡_, refl, sym, ap, _∙_}
+use mathlib.Core.Bool.{Bool, true, false, cond}
+use mathlib.Core.List.{List, [], append-nil}
+use Prim.Native.Nat.{ℕ, suc, _+_, _-_, _*_, _<_}
+use native.Mathlib.Omega.{arith}
+use lib.ListN.{length, getD, take, drop, length-take, length-drop}
+use Rattle.algebra.specs.Matrix.{zeros, Residues, matAdd, matSub, matMul}
+use Rattle.algebra.specs.Count.{part, parts, join}
+use Rattle.algebra.specs.Elimination.{regular, solution}
+use Rattle.algebra.specs.Product.{sendY, rightShare}
+use Rattle.algebra.specs.System.{cols, lastCols, solverShare, sendF, sumMatrix}
+use Rattle.algebra.specs.Words.{over}
+use Rattle.algebra.proofs.Lists.{length-tabulate, add-residues}
+use Rattle.protocol.specs.declared.Terms.{Terms}
+use Rattle.protocol.specs.declared.SolverSession.{SolverSession}
+use Rattle.protocol.specs.Bounds.{columns}
+use Rattle.protocol.specs.Tape.{Slot, slotWords, solver, layout, matrices}
+use Rattle.protocol.specs.Message.{Message, messageLayout, messageParts}
+use Rattle.protocol.specs.System.{padded, sideSize, keptS, jointSum, solverLastEffect}
+use Rattle.protocol.specs.Step.{answerReply}
+use Rattle.protocol.proofs.Matrices.{matrix-next, matrix-within, matrix-part}
+use Rattle.protocol.proofs.Slots.{slot-length}
+use Rattle.tape.specs.Placed.{Placed}
+use Rattle.judging.specs.Leaves.{Computed, computed}
+use Rattle.solver.specs.Formulas.{sentPart, shareOf, sumOf, sideOf, lastAnswer, lastHead, closedTerms}
+
+-- ---- the matrices of a half that has its place
+
+part-full : (t : Terms) (s : Slot) (j : ℕ) → Placed solver t s
+    → length (part j (matrices solver t (slotWords s))) ≡ getD (layout solver (t .m) (t .k) (t .p)) j 0
+part-full t s j p =
+    let next = matrix-next solver (t .m) (t .k) (t .p) j in
+    let within = matrix-within solver (t .m) (t .k) (t .p) (suc j) in
+    ap length (sym (matrix-part solver t j (slotWords s)))
+    ∙ simp (length-take, length-drop) (omega (arith, next, within, p .room, slot-length s (p .inside)))
+
+module _ (t : Terms) (s : Slot) (p : Placed solver t s) where
+  pub y0-size : length (part 0 (matrices solver t (slotWords s))) ≡ t .k * t .p
+  y0-size = part-full t s 0 p
+
+  pub b0-size : length (part 1 (matrices solver t (slotWords s))) ≡ t .m * t .p
+  b0-size = part-full t s 1 p
+
+  pub r-size : length (part 2 (matrices solver t (slotWords s))) ≡ t .m * t .k
+  r-size = part-full t s 2 p
+
+  pub v-size : length (part 3 (matrices solver t (slotWords s))) ≡ t .m * t .k
+  v-size = part-full t s 3 p
+
+-- ---- step 1
+
+pub y1-sent : (q m p size : ℕ) {y : List ℕ} (b y0 out : List ℕ) {sent : List ℕ}
+    → sent ≡ over (matSub q size y y0) out → y ≡ b → size ≡ m * p → sent ≡ over (sendY q m m p b y0) out
+unfolding sendY
+y1-sent q m p size b y0 out e f h = e ∙ rw (f, h) refl
+
+-- ---- a message's parts
+
+module _ (t : Terms) (residues : List ℕ) (n : ℕ) (e : n ≡ t .m * t .k) where
+  pub x1-part : take n residues ≡ sentPart 2 t 0 residues
+  unfolding sentPart messageLayout parts
+  x1-part = ap (λ (i : ℕ). take i residues) e
+
+  pub r1-part : length residues ≡ t .m * t .k + t .m * t .p → take (length residues - n) (drop n residues) ≡ sentPart 2 t 1 residues
+  unfolding sentPart messageLayout parts
+  r1-part h =
+      let z : length residues - n ≡ t .m * t .p = omega arith in
+      rw (z, e) refl
+
+  pub w-part : take n residues ≡ sentPart 4 t 0 residues
+  unfolding sentPart messageLayout parts
+  w-part = ap (λ (i : ℕ). take i residues) e
+
+  pub c-part : length residues ≡ t .m * t .k + sideSize t → take (length residues - n) (drop n residues) ≡ sentPart 4 t 1 residues
+  unfolding sentPart messageLayout parts sideSize
+  c-part h =
+      let z : length residues - n ≡ t .m * columns (t .m) (t .p) = omega arith in
+      rw (z, e) refl
+
+-- ---- step 3
+
+pub share-found : (q m k p rhs : ℕ) {x y r b : List ℕ} (x1 y0 r1 b0 out : List ℕ) {found : List ℕ}
+    → found ≡ over (matSub q (m * p) (matAdd q (m * p) (matMul q m k p x y) r) b) out → x ≡ x1 → y ≡ y0 → r ≡ r1 → b ≡ b0 → k ≡ m → m + rhs ≡ p
+    → found ≡ over (solverShare q m rhs x1 y0 r1 b0) out
+unfolding solverShare rightShare
+share-found q m k p rhs x1 y0 r1 b0 out e ex ey er eb s w = e ∙ rw (ex, ey, er, eb, s, w) refl
+
+pub share-length : (t : Terms) (s : Slot) (residues : List ℕ) → t .m + columns (t .m) (t .p) ≡ t .p → length (shareOf t s residues) ≡ t .m * t .p
+unfolding shareOf solverShare rightShare matSub
+share-length t s residues w = length-tabulate (t .m * (t .m + columns (t .m) (t .p))) _ ∙ ap (λ (n : ℕ). t .m * n) w
+
+pub f-sent : (q m p rhs size : ℕ) {c : List ℕ} (r share out : List ℕ) {sent : List ℕ}
+    → sent ≡ over (matSub q size r c) out → size ≡ m * m → c ≡ cols m p 0 m share → m + rhs ≡ p → sent ≡ over (sendF q m rhs r share) out
+unfolding sendF
+f-sent q m p rhs size r share out e en ec w = e ∙ rw (en, ec, w) refl
+
+pub kept-column : (m p rhs : ℕ) (share : List ℕ) {s d : List ℕ} → s ≡ over (cols m p m rhs share) d → d ≡ zeros 16 → m + rhs ≡ p
+    → s ≡ padded 16 (lastCols m rhs share)
+unfolding padded
+kept-column m p rhs share e z w = e ∙ rw (z, w) refl
+
+-- ---- step 5
+
+pub joint-sum : (t : Terms) (s : Slot) (residues : List ℕ) (n : ℕ) {w v : List ℕ} (out : List ℕ) {sum : List ℕ} → sum ≡ over (matAdd (t .q) n w v) out
+    → n ≡ t .m * t .m → w ≡ sentPart 4 t 0 residues → v ≡ part 3 (matrices solver t (slotWords s)) → sum ≡ over (sumOf t s residues) out
+unfolding sumOf sumMatrix
+joint-sum t s residues n out e en ew ev = e ∙ rw (en, ew, ev) refl
+
+pub joint-side : (t : Terms) (residues kept : List ℕ) (n : ℕ) {c k : List ℕ} (out : List ℕ) {side : List ℕ} → side ≡ over (matAdd (t .q) n c k) out
+    → n ≡ sideSize t → c ≡ sentPart 4 t 1 residues → k ≡ take (sideSize t) kept → side ≡ over (sideOf t residues kept) out
+unfolding sideOf
+joint-side t residues kept n out e en ec ek = e ∙ rw (en, ec, ek) refl
+
+pub sum-residues : (t : Terms) (s : Slot) (residues : List ℕ) → 0 < t .q → Residues (t .q) (t .m * t .m) (sumOf t s residues)
+unfolding sumOf sumMatrix
+sum-residues t s residues h = add-residues h (t .m * t .m) _ _
+
+pub side-residues : (t : Terms) (residues kept : List ℕ) → 0 < t .q → Residues (t .q) (sideSize t) (sideOf t residues kept)
+unfolding sideOf
+side-residues t residues kept h = add-residues h (sideSize t) _ _
+
+pub last-left : (x : SolverSession) (s : Slot) (a : Message) (out : List ℕ) (found : Bool) {sent : List ℕ}
+    → found ≡ regular (x .terms .q) (x .terms .m) (sumOf (x .terms) s (a .residues))
+    → sent ≡ cond (regular (x .terms .q) (x .terms .m) (sumOf (x .terms) s (a .residues)))
+    (over (solution (x .terms .q) (x .terms .m) (sumOf (x .terms) s (a .residues)) (sideOf (x .terms) (a .residues) (x .s))) out) out
+    → _≡_ {A = Computed SolverSession}
+    (record { answer = answerReply (lastAnswer found); session = closedTerms (x .terms); head = lastHead (x .terms) found; scratch = []; sent = sent; result = [] })
+    (computed [] out [] (solverLastEffect x s a))
+unfolding solverLastEffect jointSum sumOf sideOf sentPart messageParts keptS sideSize join over
+last-left x s a out true r o = rw (o, sym r) (simp append-nil)
+last-left x s a out false r o = rw (o, sym r) (simp append-nil)

@@ -1,0 +1,90 @@
+-- `solver::second::join_share` meets its contract. Assumes nothing.
+use mathlib.Core.Path.{refl, sym}
+use native.Mathlib.Omega.{arith}
+use lib.ListN.{length-take, length-drop}
+use lib.Seq.{length-take-le}
+use Rattle.protocol.specs.Bounds.{columns}
+use Rattle.solver.proofs.Known.{few}
+use Rattle.solver.proofs.Formulas.{x1-part, r1-part, share-found}
+use borrow.Author.Needs.{needs}
+use Rattle.solver.proofs.second.join_share.Statement.{statement}
+use Rattle.solver.proofs.second.join_share.Tie as tie
+
+times-requires : tie.Need-times-requires
+times-requires c κs = search needs
+
+cast-write-share : tie.Need-cast-write-share
+cast-write-share c = search needs
+
+cast-write-share-2 : tie.Need-cast-write-share-2
+cast-write-share-2 c = search needs
+
+cast-write-share-3 : tie.Need-cast-write-share-3
+cast-write-share-3 c = search needs
+
+slice-aggregate-write-share : tie.Need-slice-aggregate-write-share
+slice-aggregate-write-share c =
+    sym (length-take-le _ _ (omega (arith, c .before .before .before .before .times .ensures, c .before .before .before .before .before .before .before .before .before .pre .3)))
+
+mul-write-share : tie.Need-mul-write-share
+mul-write-share c = search needs
+
+sub-write-share : tie.Need-sub-write-share
+sub-write-share c = search needs
+
+part-write-share-start : tie.Need-part-write-share-start
+part-write-share-start c = search needs
+
+part-write-share-end : tie.Need-part-write-share-end
+part-write-share-end c = search needs
+
+write-share-requires : tie.Need-write-share-requires
+write-share-requires c κs =
+    let h = c .before .before .before .before .before .before .before .before .before .before .before .pre in
+    let n = c .before .before .before .before .before .before .times .ensures in
+    let f = few (c .before .before .before .before .before .before .before .before .before .before .before .args .t) (h .2) in (
+      record {
+        some-q = h .0;
+        small-q = h .1;
+        some-p = omega (arith, f .least, f .some);
+        few-k = omega (arith, f .square, f .few);
+        few-y = omega (arith, f .kp-is, f .mp);
+        full-x = simp length-take (omega (arith, n, h .3));
+        full-y = omega (arith, h .4);
+        room = h .6;
+      },
+      simp (length-take, length-drop) (omega (arith, n, h .3)),
+      omega (arith, h .5),
+    )
+
+same-length : tie.Need-same-length
+same-length c = search needs
+
+returns : tie.Need-returns
+returns c =
+    let far = c .before .before .before .before .before .before .before .before .before .before in
+    let a = far .before .before .before .before .args in
+    let h = far .before .before .before .before .pre in
+    let f = few (a .t) (h .2) in
+    let times = c .before .before .before .before .before .before .before .before .before .times in
+    let x1 = x1-part (a .t) (a .residues .now) (times .result) (times .ensures) in
+    let r1 = r1-part (a .t) (a .residues .now) (times .result) (times .ensures) (h .3) in
+    share-found (a .t .q) (a .t .m) (a .t .k) (a .t .p) (columns (a .t .m) (a .t .p)) _ (a .y0 .now) _ (a .b0 .now) (a .out .now) (c .before .before .write-share .ensures)
+    x1 refl r1 refl (f .square) (f .whole)
+
+pub join-share-spec : {M : Type 1} → statement M
+join-share-spec =
+    tie.close
+    (tie.spec
+    times-requires
+    cast-write-share
+    cast-write-share-2
+    cast-write-share-3
+    slice-aggregate-write-share
+    mul-write-share
+    sub-write-share
+    part-write-share-start
+    part-write-share-end
+    write-share-requires
+    same-length
+    returns)

@@ -1,0 +1,37 @@
+// The solver's drop: an open session closes, and its tape is spent.
+use crate::SolverDropped;
+use crate::session_of;
+use judging::Check;
+use judging::answer_of;
+use judging::step::check_open;
+use protocol::Answer;
+use protocol::SolverSession;
+use tape::End;
+use tape::change::spend_at;
+ghost use mathlib.Core.Path.{_≡_};
+ghost use mathlib.Core.List.{[]};
+ghost use Rattle.protocol.specs.Tape.{slotAt};
+ghost use Rattle.protocol.specs.Message.{noMessage};
+ghost use Rattle.protocol.specs.Drop.{dropSolver};
+ghost use Rattle.protocol.specs.Step.{answerReply};
+ghost use Rattle.judging.specs.Leaves.{Leaves, leaves};
+
+pub fn solver_drop(pool: &mut [u32], size: usize, index: usize, s: SolverSession) -> SolverDropped
+    ensures { λ r. ⌜ _≡_ {A = Leaves SolverSession}
+        (record { answer = answerReply (r .answer); session = r .session; head = noMessage .head; pool = now (pool .exit); scratch = []; sent = []; result = [] })
+        (leaves s (slotAt (now (pool .entry)) size index) [] [] [] (dropSolver s (slotAt (now (pool .entry)) size index))) ⌝ }
+{
+    let t = s.terms;
+    let checked = check_open(End::Solver, s.due, t, pool, size, index);
+    let Check::Passed = checked else {
+        return SolverDropped {
+            answer: answer_of(checked),
+            session: s,
+        };
+    };
+    spend_at(End::Solver, t, pool, size, index);
+    SolverDropped {
+        answer: Answer::Accepted(0),
+        session: session_of(t, 0),
+    }
+}
