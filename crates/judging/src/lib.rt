@@ -5,25 +5,23 @@
 //   message            a message's kind and size
 //   numbers            the numbers of a session, of its slot and of a message
 //   half, held         the words of a half, in its slot and in its pool
-//   input              an input
 //   received           what every step checks that takes a message
 //   step               what steps and drops check, whatever their end
 // No function here is for hosts.
 pub mod half;
 pub mod held;
-pub mod input;
 pub mod message;
 pub mod numbers;
 pub mod order;
 pub mod received;
 pub mod step;
 
-pub use input::check_input;
 pub use order::need;
 pub use order::number_of;
 pub use order::worst;
 use protocol::Answer;
 use protocol::Refusal;
+pub use step::check_input;
 ghost use mathlib.Core.Path.{_≡_};
 ghost use Rattle.judging.specs.InOrder.{answerOf};
 
