@@ -38,39 +38,32 @@ draw-requires c κs =
 
 array-share-prefix-mask : tie.Need-array-share-prefix-mask
 array-share-prefix-mask c =
-    let times = c .before .before .before .before .times in
     let a = c .before .before .before .before .before .before .args in
     let h = c .before .before .before .before .before .before .pre in
-    omega (arith, times .ensures, square-few (a .n) (h .0 .few-n))
+    omega (arith, c .before .before .before .before .times .ensures, square-few (a .n) (h .0 .few-n))
 
 slice-aggregate-has-inverse : tie.Need-slice-aggregate-has-inverse
 slice-aggregate-has-inverse c =
-    let times = c .before .before .before .before .before .times in
     let a = c .before .before .before .before .before .before .before .args in
     let h = c .before .before .before .before .before .before .before .pre in
-    simp length-take (omega (arith, times .ensures, square-few (a .n) (h .0 .few-n)))
+    simp length-take (omega (arith, c .before .before .before .before .before .times .ensures, square-few (a .n) (h .0 .few-n)))
 
 has-inverse-requires : tie.Need-has-inverse-requires
 has-inverse-requires c κs =
-    let times = c .before .before .before .before .before .times in
     let a = c .before .before .before .before .before .before .before .args in
-    let draw = c .before .before .draw in
     let h = c .before .before .before .before .before .before .before .pre in
-    let nn = times .ensures in
-    let drawn = rw (tail-part (a .at) (a .words .now), nn) at (draw .ensures .1) in
+    let nn = c .before .before .before .before .before .times .ensures in
+    let drawn = rw (tail-part (a .at) (a .words .now), nn) at (c .before .before .draw .ensures .1) in
     let mask = coins-part (a .q) (a .n * a .n) (drop (a .at) (a .words .now)) _ _ (h .2) drawn in
     (h .0 .prime, h .0 .small-q, h .0 .few-n, rw (nn, mask) (drawn-residues (a .q) (a .n * a .n) (drop (a .at) (a .words .now)) (h .0 .some-q) (h .2)))
 
 returns : tie.Need-returns
 returns c =
-    let times = c .before .before .before .before .before .before .times in
     let a = c .before .before .before .before .before .before .before .before .args in
-    let draw = c .before .before .before .draw in
-    let has-inverse = c .has-inverse in
     let h = c .before .before .before .before .before .before .before .before .pre in
-    let nn = times .ensures in
-    let drawn = rw (tail-part (a .at) (a .words .now), nn) at (draw .ensures .1) in
-    has-inverse .ensures
+    let nn = c .before .before .before .before .before .before .times .ensures in
+    let drawn = rw (tail-part (a .at) (a .words .now), nn) at (c .before .before .before .draw .ensures .1) in
+    c .has-inverse .ensures
     ∙ ap (regular (a .q) (a .n)) (rw nn (coins-part (a .q) (a .n * a .n) (drop (a .at) (a .words .now)) _ _ (h .2) drawn))
 
 pub has-inverse-at-spec : {M : Type 1} → statement M

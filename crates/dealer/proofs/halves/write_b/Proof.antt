@@ -85,10 +85,8 @@ returns c =
     let far = c .before .before .before .before .before .before .before .before .before .before in
     let a = far .before .before .before .before .args in
     let h = far .before .before .before .before .pre in
-    let write-deal = c .before .before .before .before .before .before .write-deal in
-    let write-copy = c .before .before .write-copy in
     b-written (a .q) (a .m) (a .k) (a .p) (a .first .now) (a .second .now) _ _ _ (omega (arith, h .0 .few-mp)) (omega (arith, h .2))
-    (write-deal .ensures) (write-copy .ensures)
+    (c .before .before .before .before .before .before .write-deal .ensures) (c .before .before .write-copy .ensures)
 
 pub write-b-spec : {M : Type 1} → statement M
 write-b-spec =
