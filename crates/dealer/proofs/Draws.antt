@@ -4,16 +4,16 @@
 -- Assumes nothing.
 use mathlib.Core.Path.{_≡_, refl, sym, ap, ap₂, _∙_}
 use mathlib.Core.List.{List, [], _∷_}
-use Prim.Native.Nat.{ℕ, zero, suc, _+_, _*_, _≤_}
+use Prim.Native.Nat.{ℕ, zero, suc, _+_, _≤_}
 use native.Mathlib.Omega.{arith}
-use lib.ListN.{length, take, drop, length-drop}
+use lib.ListN.{length, take, drop}
 use lib.Seq.{take-take, take-nil, drop-drop, length-take-le}
 use Rattle.algebra.specs.Count.{part, parts, total}
 use Rattle.algebra.specs.Words.{writtenAt}
 use Rattle.algebra.proofs.Parts.{total-cons}
 use Rattle.protocol.specs.Drawing.{residuesOf, drawn, wordsRead}
 use Rattle.protocol.specs.Deal.{Request, drawLayout, drawSize, drawnParts}
-use Rattle.drawing.proofs.Then.{next-drawn, drawn-count}
+use Rattle.drawing.proofs.Then.{next-drawn}
 use Rattle.dealer.specs.Written.{firstAndThird}
 use Rattle.dealer.proofs.Words.{written-then}
 

@@ -1,7 +1,7 @@
 -- What is known where a dealing's tests passed, and what it says of the writers' numbers.
 --   numbers-fit                 the tests on numbers
 --   Known, deal-known           all tests
---   masks-of, mask-of, unknowns-of   the bounds that functions ask
+--   masks-of, unknowns-of, prime-of   the bounds that functions ask
 --   enough-masks, first-start, second-start   raw words and room for the masks
 --   more-count, first-more, second-more       and for a system's other matrices
 --   coins-enough, never-dry, drawn-residues, no-mask     the tests on raw words
@@ -14,6 +14,8 @@ use native.Mathlib.Omega.{arith}
 use lib.ListN.{length}
 use borrow.Author.Tests.{leb-true, leb-false, le-leb}
 use Rattle.algebra.specs.Matrix.{Residues}
+use Rattle.algebra.specs.Prime.{isPrime}
+use mathlib.Core.Bool.{true}
 use Rattle.protocol.specs.declared.Terms.{Terms}
 use Rattle.protocol.specs.declared.Refusal.the-variants.{Singular}
 use Rattle.protocol.specs.Judge.{done}
@@ -40,7 +42,7 @@ use Rattle.dealer.specs.declared.sort.Sort as code
 use Rattle.dealer.specs.declared.sort.Sort.the-variants.{Product}
 use Rattle.dealer.specs.Groups.{sizeTests, dealNumbers, maskTests}
 use Rattle.dealer.proofs.Order.{first-sort}
-use Rattle.dealer.specs.Shape.{Fits, Numbers, Mask, Masks, Unknowns, Room}
+use Rattle.dealer.specs.Shape.{Fits, Numbers, Masks, Unknowns, Room}
 
 -- ---- numbers
 
@@ -114,9 +116,9 @@ module _ {t : Terms} (f : Fits system t) where
       let u = unknowns (t .m) (t .k) (t .p) (f .sides) in
       record { some-q = f .some-q; small-q = f .small-q; some-n = u .some; few-n = u .few }
 
-  pub mask-of : Mask (t .q) (t .m)
+  pub prime-of : isPrime (t .q) ≡ true
   unfolding fieldFits
-  mask-of = record { prime = f .field; some-q = f .some-q; small-q = f .small-q; few-n = unknowns (t .m) (t .k) (t .p) (f .sides) .few }
+  prime-of = f .field
 
 -- ---- counts
 

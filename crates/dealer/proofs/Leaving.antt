@@ -3,10 +3,9 @@
 --   half-back                    a half that was written over a lent slot
 --   deal-done                    both pools with their halves
 -- Assumes nothing.
-use mathlib.Core.Path.{_≡_, refl, sym, ap, _∙_}
+use mathlib.Core.Path.{_≡_, sym, ap, _∙_}
 use mathlib.Core.List.{List}
-use Prim.Native.Nat.{ℕ, _+_, _-_, _*_, _≤_}
-use native.Mathlib.Omega.{arith}
+use Prim.Native.Nat.{ℕ, _+_, _-_, _*_}
 use lib.Dec.{ltb}
 use mathlib.Core.Bool.{Bool, true, false, cond}
 use lib.ListN.{length, take, drop}
@@ -21,7 +20,6 @@ use Rattle.protocol.specs.Drawing.{wordsRead}
 use Rattle.protocol.specs.Tape.{slotAt, slotWords, poolWith}
 use Rattle.protocol.specs.Deal.{Request, drawSize, dealTests, dealtOver, dealtEffect, deal}
 use Rattle.protocol.specs.Step.{answerReply}
-use Rattle.protocol.proofs.Residues.{over-length}
 use Rattle.judging.specs.declared.Check.{Check}
 use Rattle.judging.specs.declared.Check.the-variants.{Passed, Refused}
 use Rattle.judging.specs.InOrder.{checked, answerOf, judged}

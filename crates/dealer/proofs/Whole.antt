@@ -97,7 +97,7 @@ masks-over s t x first one e f = f ∙ (ap (writtenAt headerSize x) e ∙ over-t
 
 module _ (q n : ℕ) (l : List ℕ) (enough : n * n + (n * n + n * n) ≤ length l) where
   pub more-filled : (f s : ℕ) (first second one two : List ℕ) {three : List ℕ} → f ≤ length first → s ≤ length second
-      → one ≡ writtenAt f (qg q n l) first → two ≡ writtenAt s (part 1 (moreOf q n l)) second
+      → one ≡ writtenAt f (qg n l) first → two ≡ writtenAt s (part 1 (moreOf n l)) second
       → three ≡ writtenAt (s + n * n) (vFrom q n f s one two) two → three ≡ writtenAt s (rv q n l) second
   unfolding qg rv vFrom
   more-filled f s first second one two hf hs e1 e2 e3 =
@@ -121,7 +121,7 @@ module _ (t : Terms) (words : List ℕ) where
   R = residuesOf (t .q) words
 
   abbrev E : List (List ℕ)
-  E = moreOf (t .q) (t .m) (restOf t words)
+  E = moreOf (t .m) (restOf t words)
 
   drop-masks : drop (t .m * t .p) (drop (t .k * t .p) (drop (t .m * t .k) R)) ≡ restOf t words
   drop-masks =

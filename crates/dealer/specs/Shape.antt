@@ -1,7 +1,6 @@
 -- What the dealer's tests and writers ask of numbers and lengths. Assumes nothing.
 --   Fits       a request's modulus and sides
 --   Numbers    the same, and two slots that lie in their pools
---   Mask       the modulus and the unknowns of a mask that is tested
 --   Masks      the modulus and the sides of X0, Y0 and A0
 --   Unknowns   the modulus and the unknowns of Q, R and G
 --   Room       a request that fits, enough raw words, and room for both halves
@@ -10,7 +9,6 @@ use mathlib.Core.Bool.{true}
 use mathlib.Core.List.{List}
 use Prim.Native.Nat.{ℕ, _+_, _*_, _≤_, _<_}
 use lib.ListN.{length}
-use Rattle.algebra.specs.Prime.{isPrime}
 use Rattle.protocol.specs.declared.Terms.{Terms}
 use Rattle.protocol.specs.Bounds.{Sort, fieldFits, sidesFit}
 use Rattle.protocol.specs.Drawing.{residuesOf}
@@ -30,12 +28,6 @@ pub record Numbers (s : Sort) (t : Terms) (first second size index : ℕ) : Type
   pub first-inside : index * size + size ≤ first
   pub second-inside : index * size + size ≤ second
   pub room : headerSize ≤ size
-
-pub record Mask (q n : ℕ) : Type 0 where
-  pub prime : isPrime q ≡ true
-  pub some-q : 0 < q
-  pub small-q : q < 2147483648
-  pub few-n : n ≤ 16
 
 pub record Masks (q m k p : ℕ) : Type 0 where
   pub some-q : 0 < q

@@ -22,10 +22,12 @@ use protocol::Terms;
 use tape::header::is_free;
 use vectors::times;
 ghost use mathlib.Core.Path.{_≡_};
+ghost use mathlib.Core.Bool.{true};
 ghost use Prim.Native.Nat.{_+_, _*_, _≤_};
 ghost use lib.ListN.{length, drop};
 ghost use Rattle.algebra.specs.Count.{part};
 ghost use Rattle.algebra.specs.Elimination.{regular};
+ghost use Rattle.algebra.specs.Prime.{isPrime};
 ghost use Rattle.protocol.specs.Bounds.{system};
 ghost use Rattle.protocol.specs.Drawing.{residuesOf, drawn};
 ghost use Rattle.protocol.specs.Tape.{headerSize, slotAt};
@@ -33,7 +35,7 @@ ghost use Rattle.protocol.specs.Deal.{drawnParts, dealTests};
 ghost use Rattle.judging.specs.InOrder.{checked, judged};
 ghost use Rattle.dealer.specs.Sorts.{sort, drawCount, request};
 ghost use Rattle.dealer.specs.Groups.{dealNumbers, markTests, maskTests, rawTests, dealWords};
-ghost use Rattle.dealer.specs.Shape.{Fits, Mask, Numbers};
+ghost use Rattle.dealer.specs.Shape.{Fits, Numbers, Unknowns};
 
 // Of the pools' words it is told how many there are. The sides are tested with each half.
 fn check_numbers(s: Sort, t: Terms, first: usize, second: usize, size: usize, index: usize) -> Check
@@ -59,7 +61,7 @@ fn check_mark(pool: &[u32], size: usize, index: usize) -> Check
 
 // Whether the n by n mask that is drawn from the word at `at` on has an inverse.
 fn has_inverse_at(q: u32, n: u32, words: &[u32], at: usize) -> bool
-    requires { ⌜ Mask q n × (at ≤ length (now words)) × (n * n ≤ length (residuesOf q (drop at (now words)))) ⌝ }
+    requires { ⌜ (isPrime q ≡ true) × Unknowns q n × (at ≤ length (now words)) × (n * n ≤ length (residuesOf q (drop at (now words)))) ⌝ }
     ensures { λ r. ⌜ r ≡ regular q n (drawn q (n * n) (drop at (now (words .entry)))) ⌝ }
 {
     let nn = times(n, n);

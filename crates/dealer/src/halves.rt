@@ -15,7 +15,7 @@ use tape::header::write_header;
 use vectors::times;
 use vectors::write_copy;
 ghost use mathlib.Core.Path.{_≡_};
-ghost use mathlib.Core.List.{_++_, [], _∷_};
+ghost use mathlib.Core.List.{[], _∷_};
 ghost use Prim.Native.Nat.{_+_, _*_, _≤_, _<_};
 ghost use lib.ListN.{length, drop};
 ghost use Rattle.algebra.specs.Count.{part, parts};
@@ -81,8 +81,9 @@ fn write_b(q: u32, m: usize, k: usize, p: usize, first: &[u32], second: &mut [u3
     ensures { λ _. ⌜ now (second .exit) ≡ writtenAt (headerSize + k * p) (bFrom q m k p (now (first .entry)) (now (second .entry))) (now (second .entry)) ⌝ }
 {
     let n = m * p;
-    let a = header::SIZE + m * k;
-    let b = header::SIZE + k * p;
+    let start = header::SIZE;
+    let a = start + m * k;
+    let b = start + k * p;
     let end = a + n;
     let mut b0 = [0u32; 1024];
     write_deal(
@@ -90,8 +91,8 @@ fn write_b(q: u32, m: usize, k: usize, p: usize, first: &[u32], second: &mut [u3
         m,
         k,
         p,
-        &first[header::SIZE..a],
-        &second[header::SIZE..b],
+        &first[start..a],
+        &second[start..b],
         &first[a..end],
         &mut b0,
     );
@@ -171,7 +172,7 @@ fn fill_more(
     requires { ⌜ Unknowns q n × (n * n + (n * n + n * n) ≤ length (residuesOf q (now words)))
         × («first_at» + n * n + n * n ≤ length (now first)) × («second_at» + n * n + n * n ≤ length (now second)) ⌝ }
     ensures { λ r. ⌜ r ≡ wordsRead q (n * n + (n * n + n * n)) (now (words .entry)) ⌝ }
-    ensures { λ _. ⌜ now (first .exit) ≡ writtenAt «first_at» (qg q n (residuesOf q (now (words .entry)))) (now (first .entry)) ⌝ }
+    ensures { λ _. ⌜ now (first .exit) ≡ writtenAt «first_at» (qg n (residuesOf q (now (words .entry)))) (now (first .entry)) ⌝ }
     ensures { λ _. ⌜ now (second .exit) ≡ writtenAt «second_at» (rv q n (residuesOf q (now (words .entry)))) (now (second .entry)) ⌝ }
 {
     let nn = times(n, n);

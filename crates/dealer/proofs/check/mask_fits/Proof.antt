@@ -7,7 +7,7 @@ use Rattle.algebra.specs.Elimination.{regular}
 use Rattle.protocol.specs.Bounds.{system}
 use Rattle.drawing.proofs.Then.{enough-many, next-inside, next-left}
 use Rattle.dealer.specs.Sorts.{masksCount}
-use Rattle.dealer.proofs.Known.{masks-of, mask-of, square, enough-masks, more-count, never-dry}
+use Rattle.dealer.proofs.Known.{masks-of, unknowns-of, prime-of, square, enough-masks, more-count, never-dry}
 use Rattle.dealer.proofs.Whole.{mask-part}
 use Rattle.dealer.proofs.check.mask_fits.Statement.{statement}
 use Rattle.dealer.proofs.check.mask_fits.Tie as tie
@@ -42,7 +42,8 @@ has-inverse-at-requires c κs =
     let n = masksCount (t .m) (t .k) (t .p) in
     let told = rw (c .before .before .before .before .masks-count .ensures) at (c .before .before .before .read .ensures) in
     let here = enough-many (t .q) n (a .words .now) (sym told ∙ at .given .1) .1 in (
-      mask-of (h .0),
+      prime-of (h .0),
+      unknowns-of (h .0),
       next-inside (t .q) n (a .words .now) _ here,
       next-left (t .q) n (a .words .now) _ here (t .m * t .m) (omega (arith, h .1, more-count (h .0))),
     )
