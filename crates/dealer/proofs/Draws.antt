@@ -3,17 +3,18 @@
 -- three-first, three-second   three matrices in their places
 -- Assumes nothing.
 use mathlib.Core.Path.{_≡_, refl, sym, ap, ap₂, _∙_}
-use mathlib.Core.List.{List, [], _∷_, _++_}
-use Prim.Native.Nat.{ℕ, zero, suc, _+_, _*_, _≤_}
+use mathlib.Core.List.{List, [], _∷_}
+use Prim.Native.Nat.{ℕ, zero, suc, _+_, _≤_}
 use native.Mathlib.Omega.{arith}
-use lib.ListN.{length, take, drop, length-drop}
+use lib.ListN.{length, take, drop}
 use lib.Seq.{take-take, take-nil, drop-drop, length-take-le}
 use Rattle.algebra.specs.Count.{part, parts, total}
 use Rattle.algebra.specs.Words.{writtenAt}
 use Rattle.algebra.proofs.Parts.{total-cons}
 use Rattle.protocol.specs.Drawing.{residuesOf, drawn, wordsRead}
 use Rattle.protocol.specs.Deal.{Request, drawLayout, drawSize, drawnParts}
-use Rattle.drawing.proofs.Then.{next-drawn, drawn-count}
+use Rattle.drawing.proofs.Then.{next-drawn}
+use Rattle.dealer.specs.Written.{firstAndThird}
 use Rattle.dealer.proofs.Words.{written-then}
 
 drop-take : (a n : ℕ) (l : List ℕ) → drop a (take (a + n) l) ≡ take n (drop a l)
@@ -35,13 +36,15 @@ drawn-parts r = parts-take (drawLayout (r .sort) (r .m) (r .k) (r .p)) (residues
 module _ (q a b c : ℕ) (words : List ℕ) (enough : a + (b + c) ≤ length (residuesOf q words)) where
   pub three-first : (at : ℕ) (first one : List ℕ) {two : List ℕ} (i : ℕ) → i ≡ wordsRead q (a + b) words → at ≤ length first
       → one ≡ writtenAt at (drawn q a words) first → two ≡ writtenAt (at + a) (drawn q c (drop i words)) one
-      → two ≡ writtenAt at (part 0 (parts (a ∷ b ∷ c ∷ []) (residuesOf q words)) ++ part 2 (parts (a ∷ b ∷ c ∷ []) (residuesOf q words))) first
-  unfolding parts drawn
+      → two ≡ writtenAt at (firstAndThird a b c (residuesOf q words)) first
+  unfolding parts drawn firstAndThird
   three-first at first one i here h e f =
-      let few : a + b ≤ length (residuesOf q words) = omega arith in
+      let r = residuesOf q words in
+      let few : a + b ≤ length r = omega arith in
+      let next = next-drawn q (a + b) words i here c few ∙ ap (take c) (sym (drop-drop b a r)) in
       f
-      ∙ (ap₂ (λ (l d : List ℕ). writtenAt (at + a) l d) (next-drawn q (a + b) words i here c few ∙ ap (take c) (sym (drop-drop b a (residuesOf q words)))) e
-      ∙ written-then at a (take a (residuesOf q words)) (take c (drop b (drop a (residuesOf q words)))) first (length-take-le a (residuesOf q words) (omega arith)) h)
+      ∙ (ap₂ (λ (l d : List ℕ). writtenAt (at + a) l d) next e
+      ∙ written-then at a (take a r) (take c (drop b (drop a r))) first (length-take-le a r (omega arith)) h)
 
   pub three-second : (at : ℕ) (second : List ℕ) {one : List ℕ} (i : ℕ) → i ≡ wordsRead q a words → one ≡ writtenAt at (drawn q b (drop i words)) second
       → one ≡ writtenAt at (part 1 (parts (a ∷ b ∷ c ∷ []) (residuesOf q words))) second

@@ -1,10 +1,10 @@
 -- What is known where a dealing's tests passed, and what it says of the writers' numbers.
---   Numbers, numbers-fit        the tests on numbers
+--   numbers-fit                 the tests on numbers
 --   Known, deal-known           all tests
---   masks-of, mask-of, unknowns-of   the bounds that functions ask
+--   masks-of, unknowns-of, prime-of   the bounds that functions ask
 --   enough-masks, first-start, second-start   raw words and room for the masks
 --   more-count, first-more, second-more       and for a system's other matrices
---   coins-enough, drawn-residues, no-mask     the tests on raw words
+--   coins-enough, never-dry, drawn-residues, no-mask     the tests on raw words
 -- Assumes nothing.
 use mathlib.Core.Path.{_≡_, refl, sym, ap, _∙_}
 use mathlib.Core.List.{List}
@@ -12,8 +12,10 @@ use Prim.Native.Nat.{ℕ, _+_, _*_, _≤_, _<_}
 use native.Mathlib.Nat.{mul-le-mul}
 use native.Mathlib.Omega.{arith}
 use lib.ListN.{length}
-use borrow.Author.Tests.{leb-true, le-leb}
+use borrow.Author.Tests.{leb-true, leb-false, le-leb}
 use Rattle.algebra.specs.Matrix.{Residues}
+use Rattle.algebra.specs.Prime.{isPrime}
+use mathlib.Core.Bool.{true}
 use Rattle.protocol.specs.declared.Terms.{Terms}
 use Rattle.protocol.specs.declared.Refusal.the-variants.{Singular}
 use Rattle.protocol.specs.Judge.{done}
@@ -24,32 +26,31 @@ use Rattle.protocol.specs.Deal.{firstRole, secondRole, drawSize, dealTests, dea
 use Rattle.protocol.proofs.Judge.{passed}
 use Rattle.protocol.proofs.Dealing.{DealFits, deal-step}
 use Rattle.protocol.proofs.Residues.{residues-drawn}
-use Rattle.judging.specs.InOrder.{judged}
+use Rattle.judging.specs.declared.Check.{Check}
+use Rattle.judging.specs.declared.Check.the-variants.{Passed}
+use Rattle.judging.specs.InOrder.{checked, judged}
 use Rattle.judging.specs.Groups.{modulusTests, numberTests, placeTests}
 use Rattle.judging.proofs.InOrder.{accepted-by}
 use Rattle.judging.proofs.Join.{judged-true}
 use Rattle.tape.proofs.Sides.{sides-of, unknowns, modulus}
 use Rattle.tape.proofs.Slots.{slot-inside, slot-room}
-use Rattle.dealer.specs.Sorts.{sort, drawCount, request}
+use Rattle.drawing.specs.declared.Reading.the-variants.{Dry}
+use Rattle.drawing.specs.Extent.{readFor}
+use Rattle.drawing.proofs.Then.{dry-few}
+use Rattle.dealer.specs.Sorts.{sort, masksCount, drawCount, request}
 use Rattle.dealer.specs.declared.sort.Sort as code
 use Rattle.dealer.specs.declared.sort.Sort.the-variants.{Product}
 use Rattle.dealer.specs.Groups.{sizeTests, dealNumbers, maskTests}
 use Rattle.dealer.proofs.Order.{first-sort}
-use Rattle.dealer.specs.Shape.{Fits, Mask, Masks, Unknowns, Room}
+use Rattle.dealer.specs.Shape.{Fits, Numbers, Masks, Unknowns, Room}
 
 -- ---- numbers
 
-pub record Numbers (s : Sort) (t : Terms) (first second size index : ℕ) : Type 0 where
-  pub fits : Fits s t
-  pub first-inside : index * size + size ≤ first
-  pub second-inside : index * size + size ≤ second
-  pub room : headerSize ≤ size
-
-pub numbers-fit : (s : Sort) (t : Terms) (first second size index : ℕ) → judged (dealNumbers s t first second size index) ≡ done tt
+pub numbers-fit : (s : Sort) (t : Terms) (first second size index : ℕ) {x : Check} → checked x ≡ judged (dealNumbers s t first second size index) → x ≡ Passed
     → Numbers s t first second size index
 unfolding dealNumbers sizeTests modulusTests numberTests placeTests tapeSize
-numbers-fit s t first second size index e =
-    let a = passed (dealNumbers s t first second size index) e .0 in
+numbers-fit s t first second size index told e =
+    let a = passed (dealNumbers s t first second size index) (sym told ∙ ap checked e) .0 in
     let b = a .1 .1 .1 .1 .1 in
     let n = modulus (t .q) (a .0) in
     record {
@@ -71,12 +72,14 @@ pub record Known (s : Sort) (t : Terms) (first second : List ℕ) (size index : 
   pub first-inside : index * size + size ≤ length first
   pub second-inside : index * size + size ≤ length second
 
-pub deal-known : (s : Sort) (t : Terms) (first second : List ℕ) (size index : ℕ) (words : List ℕ)
-    → judged (dealTests (slotAt first size index) (slotAt second size index) (request s t words)) ≡ done tt → Known s t first second size index words
+pub deal-known : (s : Sort) (t : Terms) (first second : List ℕ) (size index : ℕ) (words : List ℕ) {x : Check}
+    → checked x ≡ judged (dealTests (slotAt first size index) (slotAt second size index) (request s t words)) → x ≡ Passed
+    → Known s t first second size index words
 unfolding deal drawSize drawCount
-deal-known s t first second size index words e =
+deal-known s t first second size index words told e =
     let r = request s t words in
-    let d : DealFits r (slotAt first size index) (slotAt second size index) = deal-step first second size index r .means (accepted-by _ (dealtEffect first second size index r) e) .0 in
+    let accepted = accepted-by _ (dealtEffect first second size index r) (sym told ∙ ap checked e) in
+    let d : DealFits r (slotAt first size index) (slotAt second size index) = deal-step first second size index r .means accepted .0 in
     record {
       room = record {
         fits = record { some-q = omega (arith, d .big); small-q = omega (arith, d .small); field = d .field; sides = d .sides };
@@ -113,13 +116,13 @@ module _ {t : Terms} (f : Fits system t) where
       let u = unknowns (t .m) (t .k) (t .p) (f .sides) in
       record { some-q = f .some-q; small-q = f .small-q; some-n = u .some; few-n = u .few }
 
-  pub mask-of : Mask (t .q) (t .m)
+  pub prime-of : isPrime (t .q) ≡ true
   unfolding fieldFits
-  mask-of = record { prime = f .field; some-q = f .some-q; small-q = f .small-q; few-n = unknowns (t .m) (t .k) (t .p) (f .sides) .few }
+  prime-of = f .field
 
 -- ---- counts
 
-pub enough-masks : (s : Sort) (m k p : ℕ) {n : ℕ} → drawCount s m k p ≤ n → m * k + (k * p + m * p) ≤ n
+pub enough-masks : (s : Sort) (m k p : ℕ) {n : ℕ} → drawCount s m k p ≤ n → masksCount m k p ≤ n
 unfolding drawCount
 enough-masks product m k p h = h
 enough-masks system m k p h = omega arith
@@ -142,7 +145,7 @@ module _ {t : Terms} (f : Fits system t) where
   squared : t .m * t .k ≡ N
   squared = ap (λ (n : ℕ). t .m * n) (square f)
 
-  pub more-count : t .m * t .k + (t .k * t .p + t .m * t .p) + (N + (N + N)) ≡ drawCount system (t .m) (t .k) (t .p)
+  pub more-count : masksCount (t .m) (t .k) (t .p) + (N + (N + N)) ≡ drawCount system (t .m) (t .k) (t .p)
   unfolding drawCount
   more-count = omega (arith, squared)
 
@@ -159,9 +162,13 @@ square-few n h = mul-le-mul {n₁ = n} {m₁ = n} {n₂ = 16} {m₂ = 16} h h
 
 -- ---- raw words
 
-pub coins-enough : (q n : ℕ) (words : List ℕ) → judged (drawTests q n words) ≡ done tt → n ≤ length (residuesOf q words)
+pub coins-enough : (q n : ℕ) (words : List ℕ) {x : Check} → checked x ≡ judged (drawTests q n words) → x ≡ Passed → n ≤ length (residuesOf q words)
 unfolding drawTests
-coins-enough q n words e = leb-true _ _ (passed (drawTests q n words) e .0 .0)
+coins-enough q n words told e = leb-true _ _ (passed (drawTests q n words) (sym told ∙ ap checked e) .0 .0)
+
+-- a reading where enough words are kept
+pub never-dry : (q n : ℕ) (words : List ℕ) → readFor q n words ≡ Dry → n ≤ length (residuesOf q words) → ⊥
+never-dry q n words e h = let few = leb-false n (length (residuesOf q words)) (dry-few q n words e) in omega arith
 
 pub drawn-residues : (q n : ℕ) (words : List ℕ) → 0 < q → n ≤ length (residuesOf q words) → Residues q n (drawn q n words)
 unfolding drawTests

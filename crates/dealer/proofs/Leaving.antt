@@ -3,10 +3,9 @@
 --   half-back                    a half that was written over a lent slot
 --   deal-done                    both pools with their halves
 -- Assumes nothing.
-use mathlib.Core.Path.{_≡_, refl, sym, ap, _∙_}
+use mathlib.Core.Path.{_≡_, sym, ap, _∙_}
 use mathlib.Core.List.{List}
-use Prim.Native.Nat.{ℕ, _+_, _-_, _*_, _≤_}
-use native.Mathlib.Omega.{arith}
+use Prim.Native.Nat.{ℕ, _+_, _-_, _*_}
 use lib.Dec.{ltb}
 use mathlib.Core.Bool.{Bool, true, false, cond}
 use lib.ListN.{length, take, drop}
@@ -21,18 +20,18 @@ use Rattle.protocol.specs.Drawing.{wordsRead}
 use Rattle.protocol.specs.Tape.{slotAt, slotWords, poolWith}
 use Rattle.protocol.specs.Deal.{Request, drawSize, dealTests, dealtOver, dealtEffect, deal}
 use Rattle.protocol.specs.Step.{answerReply}
-use Rattle.protocol.proofs.Residues.{over-length}
 use Rattle.judging.specs.declared.Check.{Check}
 use Rattle.judging.specs.declared.Check.the-variants.{Passed, Refused}
 use Rattle.judging.specs.InOrder.{checked, answerOf, judged}
 use Rattle.judging.proofs.InOrder.{refused-by, accepted-by}
-use Rattle.tape.proofs.Slots.{slot-written}
+use Rattle.tape.proofs.Slots.{slot-part, slot-back}
 use Rattle.dealer.specs.Dealt.{Pools, pools, firstHalfWords, secondHalfWords}
 
-pub half-back : (pool ys half : List ℕ) (size index : ℕ) → index * size + size ≤ length pool → length half ≤ size
+pub half-back : (pool ys half : List ℕ) (size index : ℕ) → length ys ≡ size
     → ys ≡ over half (take (index * size + size - index * size) (drop (index * size) pool))
     → putMid (index * size) (index * size + size - index * size) pool ys ≡ poolWith (slotAt pool size index) (over half (slotWords (slotAt pool size index)))
-half-back pool ys half size index inside fits e = slot-written pool ys size index (over half) inside (λ ws n. over-length half ws (omega (arith, n)) ∙ n) e
+half-back pool ys half size index n e =
+    slot-back pool ys size index n ∙ ap (poolWith (slotAt pool size index)) (e ∙ ap (over half) (slot-part pool size index))
 
 never : (v : Judged Unit) (e : Refusal) → lower v (refused e) ≡ done tt → ⊥
 never (done u) e h = refused≢done h
@@ -44,7 +43,8 @@ never (refused x) e h = go (ltb (placeOf e) (placeOf x)) h
 
 module _ (first second : List ℕ) (size index : ℕ) (r : Request) where
   pub deal-refused : {e : Refusal} → judged (dealTests (slotAt first size index) (slotAt second size index) r) ≡ refused e
-      → _≡_ {A = Pools} (record { answer = answerReply (answer.Refused e); first = first; second = second }) (pools first second (deal first second size index r))
+      → _≡_ {A = Pools} (record { answer = answerReply (answer.Refused e); first = first; second = second })
+      (pools first second (deal first second size index r))
   unfolding deal
   deal-refused h = ap (pools first second) (sym (refused-by _ _ h))
 
@@ -59,6 +59,7 @@ module _ (first second : List ℕ) (size index : ℕ) (r : Request) where
       → read ≡ wordsRead (r .q) (drawSize r) (r .words)
       → first′ ≡ poolWith (slotAt first size index) (over (firstHalfWords r) (slotWords (slotAt first size index)))
       → second′ ≡ poolWith (slotAt second size index) (over (secondHalfWords r) (slotWords (slotAt second size index)))
-      → _≡_ {A = Pools} (record { answer = answerReply (answer.Accepted read); first = first′; second = second′ }) (pools first second (deal first second size index r))
+      → _≡_ {A = Pools} (record { answer = answerReply (answer.Accepted read); first = first′; second = second′ })
+      (pools first second (deal first second size index r))
   unfolding deal dealtEffect dealtOver firstHalfWords secondHalfWords
   deal-done h e f s = rw (e, f, s) (sym (ap (pools first second) (accepted-by _ _ h)))

@@ -16,7 +16,7 @@ use Rattle.protocol.specs.declared.Refusal.the-variants.{Modulus, Composite, Si
 use Rattle.protocol.specs.Judge.{Test, needs, Judged, refused, done}
 use Rattle.protocol.specs.Bounds.{Sort, product, system, within, largestModulus, mostUnknowns, fieldFits, sidesFit, shapeTests}
 use Rattle.protocol.specs.Drawing.{drawTests}
-use Rattle.protocol.specs.Tape.{Slot, slotAt, isSlot, slotWords, sortOf, tapeSize, slotTests, halfTests}
+use Rattle.protocol.specs.Tape.{Slot, slotAt, isSlot, sortOf, tapeSize, slotTests, halfTests}
 use Rattle.protocol.specs.Deal.{Request, firstRole, secondRole, drawSize, dealTests}
 use Rattle.protocol.proofs.Judge.{one-fails}
 use Rattle.judging.specs.InOrder.{inOrder, verdict, only, sortedBy, sorted, judged, after}
@@ -82,16 +82,18 @@ module _ (s : Sort) (t : Terms) (first second : List ℕ) (size index : ℕ) (wo
   B = slotAt second size index
 
   phases : judged (dealTests A B (request s t words))
-      ≡ after (judged (Once t (length first) (length second) size index s)) (judged (dealWords s t (slotWords A) (slotWords B) words))
+      ≡ after (judged (Once t (length first) (length second) size index s)) (judged (dealWords s t A B words))
   unfolding sorted sortedBy only dealTests shapeTests slotTests halfTests drawTests isSlot placeTests markTests maskTests rawTests dealWords drawCount drawSize
   phases =
       let n = Once t (length first) (length second) size index s in
-      let w = dealWords s t (slotWords A) (slotWords B) words in
+      let w = dealWords s t A B words in
       judged-phases _ (n ∷ w ∷ []) refl ∙ ap (after (judged n)) (sym (after-last (judged w)))
 
   pub deal-phases : 1 ≤ t .session .0 → judged (dealTests A B (request s t words))
-      ≡ after (judged (dealNumbers s t (length first) (length second) size index)) (judged (dealWords s t (slotWords A) (slotWords B) words))
-  deal-phases h = phases ∙ ap (λ (v : Judged Unit). after v (judged (dealWords s t (slotWords A) (slotWords B) words))) (numbers-once t (length first) (length second) size index s h)
+      ≡ after (judged (dealNumbers s t (length first) (length second) size index)) (judged (dealWords s t A B words))
+  deal-phases h =
+      let same = numbers-once t (length first) (length second) size index s h in
+      phases ∙ ap (λ (v : Judged Unit). after v (judged (dealWords s t A B words))) same
 
 -- ---- sides that don't fit
 

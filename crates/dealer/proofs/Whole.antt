@@ -1,11 +1,10 @@
 -- What the writers leave are the halves that the definition of dealing says.
 --   masks-filled, more-filled        B0 and V stand where they belong
 --   masks-over                       what follows the headers
---   product-first, product-second    a product's halves are its masks
 --   rest-residues                    the residues behind the masks
 --   mask-part                        the mask that is tested is the one that is dealt
 --   system-first, system-second      a system's halves
---   first-count, second-count        how long the halves are
+--   same-count, same-first, same-second   a product's halves are their beginnings
 -- Assumes nothing.
 use mathlib.Core.Path.{_≡_, refl, sym, ap, _∙_}
 use mathlib.Core.List.{List, [], _∷_, _++_, append-nil, append-assoc}
@@ -20,20 +19,21 @@ use Rattle.algebra.specs.Words.{over, writtenAt}
 use Rattle.protocol.specs.declared.Terms.{Terms}
 use Rattle.protocol.specs.Bounds.{Sort, product, system}
 use Rattle.protocol.specs.Drawing.{residuesOf, drawn, wordsRead}
-use Rattle.protocol.specs.Tape.{headerSize, headerWords, left, right, blinder, solver, matrixAt, bodySize, tapeSize}
-use Rattle.protocol.specs.Deal.{firstRole, secondRole, drawnParts, dealtB, dealtV}
+use Rattle.protocol.specs.Tape.{headerSize, headerWords, blinder, solver, matrixAt}
+use Rattle.protocol.specs.Deal.{drawnParts, dealtB, dealtV}
 use Rattle.drawing.proofs.Then.{next-drawn, residues-after}
 use Rattle.vectors.proofs.Written.{over-then}
 use Rattle.dealer.specs.declared.sort.Sort as code
-use Rattle.dealer.specs.declared.sort.Sort.the-variants.{Product, System}
-use Rattle.dealer.specs.Sorts.{sort, drawCount, request}
+use Rattle.dealer.specs.declared.sort.Sort.the-variants.{Product}
+use Rattle.dealer.specs.Sorts.{sort, masksCount, drawCount, request}
 use Rattle.dealer.specs.Shape.{Room}
-use Rattle.dealer.specs.Written.{headerOf, masksOf, xa, yb, bFrom, firstMasks, secondMasks, moreOf, qg, rv, vFrom, restOf, moreFirst, moreSecond}
+use Rattle.dealer.specs.Written.{firstAndThird, headerOf, masksOf, xa, yb, bFrom, firstMasks, secondMasks}
+use Rattle.dealer.specs.Written.{moreOf, qg, rv, vFrom, restOf, moreFirst, moreSecond}
 use Rattle.dealer.specs.Dealt.{firstHalfWords, secondHalfWords}
 use Rattle.dealer.proofs.Words.{computed}
 use Rattle.dealer.proofs.Draws.{drawn-parts}
-use Rattle.dealer.proofs.Made.{b-count, v-count}
-use Rattle.dealer.proofs.Known.{square, enough-masks, more-count, first-more, second-more}
+use Rattle.dealer.proofs.Made.{b-count}
+use Rattle.dealer.proofs.Known.{square, enough-masks}
 
 -- ---- three matrices in a row
 
@@ -53,35 +53,39 @@ module _ (a b c : ℕ) (l : List ℕ) (enough : a + (b + c) ≤ length l) where
   unfolding parts
   count-2 = length-take-le c (drop b (drop a l)) (omega (arith, length-drop b (drop a l), length-drop a l))
 
+  first-third-count : length (firstAndThird a b c l) ≡ a + c
+  unfolding firstAndThird
+  first-third-count = omega (arith, length-append (part 0 D) (part 2 D), count-0, count-2)
+
+  -- and a fourth that is computed from them
+  filled : (make : List ℕ → List ℕ → List ℕ → List ℕ) (f s : ℕ) (first second one two : List ℕ) {three : List ℕ} → f ≤ length first → s ≤ length second
+      → one ≡ writtenAt f (firstAndThird a b c l) first → two ≡ writtenAt s (part 1 D) second
+      → three ≡ writtenAt (s + b) (make (take a (drop f one)) (take b (drop s two)) (take c (drop (f + a) one))) two
+      → three ≡ writtenAt s (part 1 D ++ make (part 0 D) (part 1 D) (part 2 D)) second
+  unfolding firstAndThird
+  filled make f s first second one two hf hs e1 e2 e3 =
+      computed make f s a b c (part 0 D) (part 1 D) (part 2 D) count-0 count-1 count-2 first second one two hf hs e1 e2 e3
+
 -- ---- X0, A0 and Y0, B0
 
-module _ (q m k p : ℕ) (words : List ℕ) (enough : m * k + (k * p + m * p) ≤ length (residuesOf q words)) where
+module _ (q m k p : ℕ) (words : List ℕ) (enough : masksCount m k p ≤ length (residuesOf q words)) where
   pub masks-filled : (first second one two : List ℕ) {three : List ℕ} → headerSize ≤ length first → headerSize ≤ length second
       → one ≡ writtenAt headerSize (xa q m k p words) first → two ≡ writtenAt headerSize (part 1 (masksOf q m k p words)) second
       → three ≡ writtenAt (headerSize + k * p) (bFrom q m k p one two) two → three ≡ writtenAt headerSize (yb q m k p words) second
   unfolding xa yb bFrom
   masks-filled first second one two hf hs e1 e2 e3 =
-      computed (dealB q m k p) headerSize headerSize (m * k) (k * p) (m * p) _ _ _ (count-0 _ _ _ _ enough) (count-1 _ _ _ _ enough) (count-2 _ _ _ _ enough)
-      first second one two hf hs e1 e2 e3
+      filled (m * k) (k * p) (m * p) (residuesOf q words) enough (dealB q m k p) headerSize headerSize first second one two hf hs e1 e2 e3
 
   xa-count : length (xa q m k p words) ≡ m * k + m * p
   unfolding xa
-  xa-count = omega (
-    arith,
-    length-append (part 0 (masksOf q m k p words)) (part 2 (masksOf q m k p words)),
-    count-0 (m * k) (k * p) (m * p) (residuesOf q words) enough,
-    count-2 (m * k) (k * p) (m * p) (residuesOf q words) enough,
-  )
+  xa-count = first-third-count (m * k) (k * p) (m * p) (residuesOf q words) enough
 
   yb-count : length (yb q m k p words) ≡ k * p + m * p
   unfolding yb
   yb-count =
-      let d = masksOf q m k p words in omega (
-        arith,
-        length-append (part 1 d) (dealB q m k p (part 0 d) (part 1 d) (part 2 d)),
-        count-1 (m * k) (k * p) (m * p) (residuesOf q words) enough,
-        b-count q m k p (part 0 d) (part 1 d) (part 2 d),
-      )
+      let d = masksOf q m k p words in
+      let y = count-1 (m * k) (k * p) (m * p) (residuesOf q words) enough in
+      omega (arith, length-append (part 1 d) (dealB q m k p (part 0 d) (part 1 d) (part 2 d)), y, b-count q m k p (part 0 d) (part 1 d) (part 2 d))
 
 -- behind a header
 pub masks-over : (s : Sort) (t : Terms) (x first one : List ℕ) {two : List ℕ} → one ≡ over (headerOf s t) first → two ≡ writtenAt headerSize x one
@@ -93,54 +97,40 @@ masks-over s t x first one e f = f ∙ (ap (writtenAt headerSize x) e ∙ over-t
 
 module _ (q n : ℕ) (l : List ℕ) (enough : n * n + (n * n + n * n) ≤ length l) where
   pub more-filled : (f s : ℕ) (first second one two : List ℕ) {three : List ℕ} → f ≤ length first → s ≤ length second
-      → one ≡ writtenAt f (qg q n l) first → two ≡ writtenAt s (part 1 (moreOf q n l)) second
+      → one ≡ writtenAt f (qg n l) first → two ≡ writtenAt s (part 1 (moreOf n l)) second
       → three ≡ writtenAt (s + n * n) (vFrom q n f s one two) two → three ≡ writtenAt s (rv q n l) second
   unfolding qg rv vFrom
   more-filled f s first second one two hf hs e1 e2 e3 =
-      computed (λ (x y g : List ℕ). dealV q n y x g) f s (n * n) (n * n) (n * n) _ _ _ (count-0 _ _ _ _ enough) (count-1 _ _ _ _ enough) (count-2 _ _ _ _ enough)
-      first second one two hf hs e1 e2 e3
-
-  qg-count : length (qg q n l) ≡ n * n + n * n
-  unfolding qg
-  qg-count = omega (
-    arith,
-    length-append (part 0 (moreOf q n l)) (part 2 (moreOf q n l)),
-    count-0 (n * n) (n * n) (n * n) l enough,
-    count-2 (n * n) (n * n) (n * n) l enough,
-  )
-
-  rv-count : length (rv q n l) ≡ n * n + n * n
-  unfolding rv
-  rv-count =
-      let d = moreOf q n l in omega (
-        arith,
-        length-append (part 1 d) (dealV q n (part 1 d) (part 0 d) (part 2 d)),
-        count-1 (n * n) (n * n) (n * n) l enough,
-        v-count q n (part 1 d) (part 0 d) (part 2 d),
-      )
+      filled (n * n) (n * n) (n * n) l enough (λ (x y g : List ℕ). dealV q n y x g) f s first second one two hf hs e1 e2 e3
 
 -- ---- the halves
 
 module _ (t : Terms) (words : List ℕ) where
   product-first : firstMasks product t words ≡ firstHalfWords (request product t words)
-  unfolding firstMasks xa firstHalfWords join
+  unfolding firstMasks xa firstAndThird firstHalfWords join
   product-first = rw (drawn-parts (request product t words)) (simp append-nil)
 
   product-second : secondMasks product t words ≡ secondHalfWords (request product t words)
   unfolding secondMasks yb secondHalfWords join dealtB
   product-second = rw (drawn-parts (request product t words)) (simp append-nil)
 
-  abbrev M : ℕ
-  M = t .m * t .k + (t .k * t .p + t .m * t .p)
+  abbrev N : ℕ
+  N = masksCount (t .m) (t .k) (t .p)
+
+  abbrev R : List ℕ
+  R = residuesOf (t .q) words
 
   abbrev E : List (List ℕ)
-  E = moreOf (t .q) (t .m) (restOf t words)
+  E = moreOf (t .m) (restOf t words)
 
-  drop-masks : drop (t .m * t .p) (drop (t .k * t .p) (drop (t .m * t .k) (residuesOf (t .q) words))) ≡ restOf t words
+  drop-masks : drop (t .m * t .p) (drop (t .k * t .p) (drop (t .m * t .k) R)) ≡ restOf t words
   drop-masks =
-      let sum : t .m * t .k + t .k * t .p + t .m * t .p ≡ M = omega arith in
-      ap (drop (t .m * t .p)) (drop-drop (t .k * t .p) (t .m * t .k) (residuesOf (t .q) words))
-      ∙ (drop-drop (t .m * t .p) (t .m * t .k + t .k * t .p) (residuesOf (t .q) words) ∙ ap (λ (i : ℕ). drop i (residuesOf (t .q) words)) sum)
+      let sum : t .m * t .k + t .k * t .p + t .m * t .p ≡ N = omega arith in
+      ap (drop (t .m * t .p)) (drop-drop (t .k * t .p) (t .m * t .k) R)
+      ∙ (drop-drop (t .m * t .p) (t .m * t .k + t .k * t .p) R ∙ ap (λ (i : ℕ). drop i R) sum)
+
+  pub rest-residues : {i : ℕ} → i ≡ wordsRead (t .q) N words → N ≤ length R → residuesOf (t .q) (drop i words) ≡ restOf t words
+  rest-residues e h = rw e (residues-after (t .q) N words h)
 
   module _ (sq : t .k ≡ t .m) where
     squares : parts (t .m * t .k ∷ t .m * t .k ∷ t .m * t .k ∷ []) (restOf t words) ≡ E
@@ -159,90 +149,46 @@ module _ (t : Terms) (words : List ℕ) where
     system-parts = cut-all ∙ ap All squares
 
     -- the mask that is tested
-    pub mask-part : {i : ℕ} → i ≡ wordsRead (t .q) M words → M ≤ length (residuesOf (t .q) words)
+    pub mask-part : {i : ℕ} → i ≡ wordsRead (t .q) N words → N ≤ length R
         → drawn (t .q) (t .m * t .m) (drop i words) ≡ part 3 (drawnParts (request system t words))
     unfolding parts
-    mask-part {i} e h = next-drawn (t .q) M words i e (t .m * t .m) h ∙ sym (ap (λ (ls : List (List ℕ)). part 3 ls) system-parts)
+    mask-part {i} e h = next-drawn (t .q) N words i e (t .m * t .m) h ∙ sym (ap (λ (ls : List (List ℕ)). part 3 ls) system-parts)
 
     first-is : firstMasks system t words ++ moreFirst t words ≡ firstHalfWords (request system t words)
-    unfolding firstMasks xa moreFirst qg firstHalfWords join
+    unfolding firstMasks xa moreFirst qg firstAndThird firstHalfWords join
     first-is = rw system-parts (simp (append-nil, append-assoc))
 
     second-is : secondMasks system t words ++ moreSecond t words ≡ secondHalfWords (request system t words)
     unfolding secondMasks yb moreSecond rv secondHalfWords join dealtB dealtV
     second-is = rw system-parts (simp (append-nil, append-assoc))
 
-pub rest-residues : (t : Terms) (words : List ℕ) {i : ℕ} → i ≡ wordsRead (t .q) (M t words) words → M t words ≤ length (residuesOf (t .q) words)
-    → residuesOf (t .q) (drop i words) ≡ restOf t words
-rest-residues t words e h = rw e (residues-after (t .q) (M t words) words h)
-
--- ---- their lengths
-
-module _ {s : Sort} {t : Terms} {words : List ℕ} {x y : ℕ} (r : Room s t words x y) where
-  start-first : length (firstMasks s t words) ≡ headerSize + (t .m * t .k + t .m * t .p)
-  unfolding firstMasks headerWords
-  start-first =
-      omega (arith, length-append (headerOf s t) (xa (t .q) (t .m) (t .k) (t .p) words), xa-count _ _ _ _ words (enough-masks s (t .m) (t .k) (t .p) (r .enough)))
-
-  start-second : length (secondMasks s t words) ≡ headerSize + (t .k * t .p + t .m * t .p)
-  unfolding secondMasks headerWords
-  start-second =
-      omega (arith, length-append (headerOf s t) (yb (t .q) (t .m) (t .k) (t .p) words), yb-count _ _ _ _ words (enough-masks s (t .m) (t .k) (t .p) (r .enough)))
+-- a list behind a half's beginning
+behind : (x y half d one : List ℕ) (at : ℕ) {two : List ℕ} → length x ≡ at → x ++ y ≡ half → one ≡ over x d → two ≡ writtenAt at y one → two ≡ over half d
+behind x y half d one at n e f g = g ∙ (ap (writtenAt at y) f ∙ (over-then x y d at n ∙ ap (λ (l : List ℕ). over l d) e))
 
 module _ {t : Terms} {words : List ℕ} {x y : ℕ} (r : Room system t words x y) where
-  rest-enough : t .m * t .m + (t .m * t .m + t .m * t .m) ≤ length (restOf t words)
-  rest-enough = omega (arith, r .enough, more-count (r .fits), length-drop (M t words) (residuesOf (t .q) words))
+  many : masksCount (t .m) (t .k) (t .p) ≤ length (residuesOf (t .q) words)
+  many = enough-masks system (t .m) (t .k) (t .p) (r .enough)
 
   at-first : length (firstMasks system t words) ≡ matrixAt blinder (t .m) (t .k) (t .p) 2
-  unfolding matrixAt
-  at-first = start-first r
+  unfolding firstMasks headerWords matrixAt
+  at-first = omega (arith, length-append (headerOf system t) (xa (t .q) (t .m) (t .k) (t .p) words), xa-count _ _ _ _ words many)
 
   at-second : length (secondMasks system t words) ≡ matrixAt solver (t .m) (t .k) (t .p) 2
-  unfolding matrixAt
-  at-second = start-second r
+  unfolding secondMasks headerWords matrixAt
+  at-second = omega (arith, length-append (headerOf system t) (yb (t .q) (t .m) (t .k) (t .p) words), yb-count _ _ _ _ words many)
 
   pub system-first : (first one : List ℕ) {two : List ℕ} → one ≡ over (firstMasks system t words) first
       → two ≡ writtenAt (matrixAt blinder (t .m) (t .k) (t .p) 2) (moreFirst t words) one → two ≡ over (firstHalfWords (request system t words)) first
-  system-first first one e f =
-      f
-      ∙ (ap (writtenAt (matrixAt blinder (t .m) (t .k) (t .p) 2) (moreFirst t words)) e
-      ∙ (over-then (firstMasks system t words) (moreFirst t words) first _ at-first ∙ ap (λ (l : List ℕ). over l first) (first-is t words (square (r .fits)))))
+  system-first first one e f = behind _ _ _ first one _ at-first (first-is t words (square (r .fits))) e f
 
   pub system-second : (second one : List ℕ) {two : List ℕ} → one ≡ over (secondMasks system t words) second
       → two ≡ writtenAt (matrixAt solver (t .m) (t .k) (t .p) 2) (moreSecond t words) one → two ≡ over (secondHalfWords (request system t words)) second
-  system-second second one e f =
-      f
-      ∙ (ap (writtenAt (matrixAt solver (t .m) (t .k) (t .p) 2) (moreSecond t words)) e
-      ∙ (over-then (secondMasks system t words) (moreSecond t words) second _ at-second ∙ ap (λ (l : List ℕ). over l second) (second-is t words (square (r .fits)))))
+  system-second second one e f = behind _ _ _ second one _ at-second (second-is t words (square (r .fits))) e f
 
-  blinder-count : length (firstHalfWords (request system t words)) ≡ tapeSize blinder (t .m) (t .k) (t .p)
-  unfolding moreFirst
-  blinder-count =
-      ap length (sym (first-is t words (square (r .fits))))
-      ∙ omega (arith, length-append (firstMasks system t words) (moreFirst t words), at-first, qg-count (t .q) (t .m) (restOf t words) rest-enough, first-more (r .fits))
-
-  solver-count : length (secondHalfWords (request system t words)) ≡ tapeSize solver (t .m) (t .k) (t .p)
-  unfolding moreSecond
-  solver-count =
-      ap length (sym (second-is t words (square (r .fits))))
-      ∙ omega (arith, length-append (secondMasks system t words) (moreSecond t words), at-second, rv-count (t .q) (t .m) (restOf t words) rest-enough, second-more (r .fits))
-
-pub first-count : (s : Sort) {t : Terms} {words : List ℕ} {x y : ℕ} → Room s t words x y
-    → length (firstHalfWords (request s t words)) ≡ tapeSize (firstRole s) (t .m) (t .k) (t .p)
-unfolding tapeSize bodySize
-first-count product {t} {words} r = ap length (sym (product-first t words)) ∙ start-first r
-first-count system r = blinder-count r
-
-pub second-count : (s : Sort) {t : Terms} {words : List ℕ} {x y : ℕ} → Room s t words x y
-    → length (secondHalfWords (request s t words)) ≡ tapeSize (secondRole s) (t .m) (t .k) (t .p)
-unfolding tapeSize bodySize
-second-count product {t} {words} r = ap length (sym (product-second t words)) ∙ start-second r
-second-count system r = solver-count r
-
--- ---- as the code names the sort
-
+-- a product's halves are their beginnings
 module _ {s : code.Sort} (t : Terms) (words : List ℕ) (e : s ≡ Product) where
-  pub same-count : t .m * t .k + (t .k * t .p + t .m * t .p) ≡ drawCount (sort s) (t .m) (t .k) (t .p)
+  pub same-count : masksCount (t .m) (t .k) (t .p) ≡ drawCount (sort s) (t .m) (t .k) (t .p)
   unfolding drawCount
   same-count = rw e
 

@@ -9,7 +9,7 @@ use Rattle.protocol.specs.declared.Refusal.the-variants.{Mark, Singular}
 use Rattle.protocol.specs.Judge.{Test, needs}
 use Rattle.protocol.specs.Bounds.{Sort}
 use Rattle.protocol.specs.Drawing.{drawTests}
-use Rattle.protocol.specs.Tape.{Role, sortOf, statusOf}
+use Rattle.protocol.specs.Tape.{Slot, slotWords, Role, sortOf, statusOf}
 use Rattle.protocol.specs.Deal.{firstRole, secondRole, isFree, maskFits, drawnParts}
 use Rattle.judging.specs.Groups.{modulusTests, numberTests, placeTests}
 use Rattle.dealer.specs.Sorts.{drawCount, request}
@@ -23,9 +23,9 @@ unfoldable pub dealNumbers : Sort → Terms → (first second size index : ℕ) 
 dealNumbers s t first second size index =
     modulusTests (sortOf (firstRole s)) (t .q) ++ (sizeTests (firstRole s) t first size index ++ sizeTests (secondRole s) t second size index)
 
--- the two slots' statuses
-unfoldable pub markTests : (first second : ℕ) → List Test
-markTests first second = needs Mark (isFree first) ∷ needs Mark (isFree second) ∷ []
+-- a slot's status
+unfoldable pub markTests : Slot → List Test
+markTests s = needs Mark (isFree (statusOf (slotWords s))) ∷ []
 
 -- a mask with an inverse
 unfoldable pub maskTests : Sort → Terms → (words : List ℕ) → List Test
@@ -35,5 +35,5 @@ maskTests s t words = needs Singular (maskFits s (t .q) (t .m) (drawnParts (requ
 unfoldable pub rawTests : Sort → Terms → (words : List ℕ) → List Test
 rawTests s t words = drawTests (t .q) (drawCount s (t .m) (t .k) (t .p)) words ++ maskTests s t words
 
-unfoldable pub dealWords : Sort → Terms → (first second words : List ℕ) → List Test
-dealWords s t first second words = markTests (statusOf first) (statusOf second) ++ rawTests s t words
+unfoldable pub dealWords : Sort → Terms → (first second : Slot) → (words : List ℕ) → List Test
+dealWords s t a b words = markTests a ++ (markTests b ++ rawTests s t words)

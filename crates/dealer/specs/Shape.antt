@@ -1,19 +1,18 @@
 -- What the dealer's tests and writers ask of numbers and lengths. Assumes nothing.
 --   Fits       a request's modulus and sides
---   Mask       the modulus and the unknowns of a mask that is tested
+--   Numbers    the same, and two slots that lie in their pools
 --   Masks      the modulus and the sides of X0, Y0 and A0
 --   Unknowns   the modulus and the unknowns of Q, R and G
 --   Room       a request that fits, enough raw words, and room for both halves
 use mathlib.Core.Path.{_≡_}
 use mathlib.Core.Bool.{true}
 use mathlib.Core.List.{List}
-use Prim.Native.Nat.{ℕ, _*_, _≤_, _<_}
+use Prim.Native.Nat.{ℕ, _+_, _*_, _≤_, _<_}
 use lib.ListN.{length}
-use Rattle.algebra.specs.Prime.{isPrime}
 use Rattle.protocol.specs.declared.Terms.{Terms}
 use Rattle.protocol.specs.Bounds.{Sort, fieldFits, sidesFit}
 use Rattle.protocol.specs.Drawing.{residuesOf}
-use Rattle.protocol.specs.Tape.{tapeSize}
+use Rattle.protocol.specs.Tape.{headerSize, tapeSize}
 use Rattle.protocol.specs.Deal.{firstRole, secondRole}
 use Rattle.dealer.specs.Sorts.{drawCount}
 
@@ -23,11 +22,12 @@ pub record Fits (s : Sort) (t : Terms) : Type 0 where
   pub field : fieldFits s (t .q) ≡ true
   pub sides : sidesFit s (t .m) (t .k) (t .p) ≡ true
 
-pub record Mask (q n : ℕ) : Type 0 where
-  pub prime : isPrime q ≡ true
-  pub some-q : 0 < q
-  pub small-q : q < 2147483648
-  pub few-n : n ≤ 16
+-- of the pools: how many words they have
+pub record Numbers (s : Sort) (t : Terms) (first second size index : ℕ) : Type 0 where
+  pub fits : Fits s t
+  pub first-inside : index * size + size ≤ first
+  pub second-inside : index * size + size ≤ second
+  pub room : headerSize ≤ size
 
 pub record Masks (q m k p : ℕ) : Type 0 where
   pub some-q : 0 < q

@@ -22,18 +22,20 @@ use protocol::Terms;
 use tape::header::is_free;
 use vectors::times;
 ghost use mathlib.Core.Path.{_≡_};
-ghost use Prim.Native.Nat.{_*_, _≤_};
+ghost use mathlib.Core.Bool.{true};
+ghost use Prim.Native.Nat.{_+_, _*_, _≤_};
 ghost use lib.ListN.{length, drop};
 ghost use Rattle.algebra.specs.Count.{part};
 ghost use Rattle.algebra.specs.Elimination.{regular};
+ghost use Rattle.algebra.specs.Prime.{isPrime};
 ghost use Rattle.protocol.specs.Bounds.{system};
 ghost use Rattle.protocol.specs.Drawing.{residuesOf, drawn};
-ghost use Rattle.protocol.specs.Tape.{headerSize, slotAt, statusOf};
+ghost use Rattle.protocol.specs.Tape.{headerSize, slotAt};
 ghost use Rattle.protocol.specs.Deal.{drawnParts, dealTests};
 ghost use Rattle.judging.specs.InOrder.{checked, judged};
 ghost use Rattle.dealer.specs.Sorts.{sort, drawCount, request};
 ghost use Rattle.dealer.specs.Groups.{dealNumbers, markTests, maskTests, rawTests, dealWords};
-ghost use Rattle.dealer.specs.Shape.{Fits, Mask};
+ghost use Rattle.dealer.specs.Shape.{Fits, Numbers, Unknowns};
 
 // Of the pools' words it is told how many there are. The sides are tested with each half.
 fn check_numbers(s: Sort, t: Terms, first: usize, second: usize, size: usize, index: usize) -> Check
@@ -47,19 +49,19 @@ fn check_numbers(s: Sort, t: Terms, first: usize, second: usize, size: usize, in
     worst(modulus, worst(one, two))
 }
 
-// The words of the two slots: a tape is dealt over an empty or a spent one.
-fn check_marks(first: &[u32], second: &[u32]) -> Check
-    requires { ⌜ (headerSize ≤ length (now first)) × (headerSize ≤ length (now second)) ⌝ }
-    ensures { λ r. ⌜ checked r ≡ judged (markTests (statusOf (now (first .entry))) (statusOf (now (second .entry)))) ⌝ }
+// A tape is dealt over an empty or a spent one.
+fn check_mark(pool: &[u32], size: usize, index: usize) -> Check
+    requires { ⌜ (headerSize ≤ size) × (index * size + size ≤ length (now pool)) ⌝ }
+    ensures { λ r. ⌜ checked r ≡ judged (markTests (slotAt (now (pool .entry)) size index)) ⌝ }
 {
-    let one = need(Refusal::Mark, is_free(first));
-    let two = need(Refusal::Mark, is_free(second));
-    worst(one, two)
+    let at = index * size;
+    let stop = at + size;
+    need(Refusal::Mark, is_free(&pool[at..stop]))
 }
 
 // Whether the n by n mask that is drawn from the word at `at` on has an inverse.
 fn has_inverse_at(q: u32, n: u32, words: &[u32], at: usize) -> bool
-    requires { ⌜ Mask q n × (at ≤ length (now words)) × (n * n ≤ length (residuesOf q (drop at (now words)))) ⌝ }
+    requires { ⌜ (isPrime q ≡ true) × Unknowns q n × (at ≤ length (now words)) × (n * n ≤ length (residuesOf q (drop at (now words)))) ⌝ }
     ensures { λ r. ⌜ r ≡ regular q n (drawn q (n * n) (drop at (now (words .entry)))) ⌝ }
 {
     let nn = times(n, n);
@@ -101,13 +103,24 @@ fn check_raw(s: Sort, t: Terms, words: &[u32]) -> Check
     check_mask(s, t, words)
 }
 
-fn check_words(s: Sort, t: Terms, first: &[u32], second: &[u32], words: &[u32]) -> Check
-    requires { ⌜ Fits (sort s) t × (headerSize ≤ length (now first)) × (headerSize ≤ length (now second)) ⌝ }
-    ensures { λ r. ⌜ checked r ≡ judged (dealWords (sort s) t (now (first .entry)) (now (second .entry)) (now (words .entry))) ⌝ }
+// The slots' statuses and the raw words.
+fn check_words(
+    s: Sort,
+    t: Terms,
+    first: &[u32],
+    second: &[u32],
+    size: usize,
+    index: usize,
+    words: &[u32],
+) -> Check
+    requires { ⌜ Numbers (sort s) t (length (now first)) (length (now second)) size index ⌝ }
+    ensures { λ r. ⌜ checked r ≡ judged (dealWords (sort s) t (slotAt (now (first .entry)) size index)
+        (slotAt (now (second .entry)) size index) (now (words .entry))) ⌝ }
 {
-    let marks = check_marks(first, second);
+    let one = check_mark(first, size, index);
+    let two = check_mark(second, size, index);
     let raw = check_raw(s, t, words);
-    worst(marks, raw)
+    worst(one, worst(two, raw))
 }
 
 // The session's number in the terms is of no account, but it is one.
@@ -128,7 +141,5 @@ pub fn check(
     let Check::Passed = numbers else {
         return numbers;
     };
-    let at = index * size;
-    let stop = at + size;
-    check_words(s, t, &first[at..stop], &second[at..stop], words)
+    check_words(s, t, first, second, size, index, words)
 }

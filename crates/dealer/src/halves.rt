@@ -15,7 +15,7 @@ use tape::header::write_header;
 use vectors::times;
 use vectors::write_copy;
 ghost use mathlib.Core.Path.{_≡_};
-ghost use mathlib.Core.List.{_++_, [], _∷_};
+ghost use mathlib.Core.List.{[], _∷_};
 ghost use Prim.Native.Nat.{_+_, _*_, _≤_, _<_};
 ghost use lib.ListN.{length, drop};
 ghost use Rattle.algebra.specs.Count.{part, parts};
@@ -23,9 +23,9 @@ ghost use Rattle.algebra.specs.Words.{over, writtenAt};
 ghost use Rattle.protocol.specs.Bounds.{system};
 ghost use Rattle.protocol.specs.Drawing.{residuesOf, drawn, wordsRead};
 ghost use Rattle.protocol.specs.Tape.{headerSize, matrixAt, blinder, solver};
-ghost use Rattle.dealer.specs.Sorts.{sort, drawCount, request};
+ghost use Rattle.dealer.specs.Sorts.{sort, masksCount, drawCount, request};
 ghost use Rattle.dealer.specs.Shape.{Masks, Unknowns, Room};
-ghost use Rattle.dealer.specs.Written.{headerOf, masksOf, xa, yb, bFrom, qg, rv, vFrom, firstMasks, secondMasks, moreFirst, moreSecond};
+ghost use Rattle.dealer.specs.Written.{firstAndThird, headerOf, xa, yb, bFrom, firstMasks, secondMasks, qg, rv, vFrom, moreFirst, moreSecond};
 ghost use Rattle.dealer.specs.Dealt.{firstHalfWords, secondHalfWords};
 
 // n residues, drawn from the word at `from` on, over the words from `at` on. The answer is where the next drawing begins.
@@ -51,9 +51,10 @@ fn draw_three(
     second: &mut [u32],
     second_at: usize,
 ) -> usize
-    requires { ⌜ (0 < q) × (a + (b + c) ≤ length (residuesOf q (now words))) × («first_at» + a + c ≤ length (now first)) × («second_at» + b ≤ length (now second)) ⌝ }
+    requires { ⌜ (0 < q) × (a + (b + c) ≤ length (residuesOf q (now words)))
+        × («first_at» + a + c ≤ length (now first)) × («second_at» + b ≤ length (now second)) ⌝ }
     ensures { λ r. ⌜ r ≡ wordsRead q (a + (b + c)) (now (words .entry)) ⌝ }
-    ensures { λ _. ⌜ now (first .exit) ≡ writtenAt «first_at» (part 0 (parts (a ∷ b ∷ c ∷ []) (residuesOf q (now (words .entry)))) ++ part 2 (parts (a ∷ b ∷ c ∷ []) (residuesOf q (now (words .entry))))) (now (first .entry)) ⌝ }
+    ensures { λ _. ⌜ now (first .exit) ≡ writtenAt «first_at» (firstAndThird a b c (residuesOf q (now (words .entry)))) (now (first .entry)) ⌝ }
     ensures { λ _. ⌜ now (second .exit) ≡ writtenAt «second_at» (part 1 (parts (a ∷ b ∷ c ∷ []) (residuesOf q (now (words .entry))))) (now (second .entry)) ⌝ }
 {
     let one = draw_next(q, a, words, 0, first, first_at);
@@ -74,46 +75,15 @@ fn write_headers(s: Sort, t: Terms, first: &mut [u32], second: &mut [u32])
     write_header(end, tape.0, t.q, t.m, t.k, t.p, second);
 }
 
-// X0, Y0 and A0, each to its place. The answer is how many words were read.
-fn draw_masks(
-    q: u32,
-    m: u32,
-    k: u32,
-    p: u32,
-    words: &[u32],
-    first: &mut [u32],
-    second: &mut [u32],
-) -> usize
-    requires { ⌜ Masks q m k p × (m * k + (k * p + m * p) ≤ length (residuesOf q (now words)))
-        × (headerSize + m * k + m * p ≤ length (now first)) × (headerSize + k * p + m * p ≤ length (now second)) ⌝ }
-    ensures { λ r. ⌜ r ≡ wordsRead q (m * k + (k * p + m * p)) (now (words .entry)) ⌝ }
-    ensures { λ _. ⌜ now (first .exit) ≡ writtenAt headerSize (xa q m k p (now (words .entry))) (now (first .entry)) ⌝ }
-    ensures { λ _. ⌜ now (second .exit) ≡ writtenAt headerSize (part 1 (masksOf q m k p (now (words .entry)))) (now (second .entry)) ⌝ }
-{
-    let mk = times(m, k);
-    let kp = times(k, p);
-    let mp = times(m, p);
-    draw_three(
-        q,
-        mk,
-        kp,
-        mp,
-        words,
-        first,
-        header::SIZE,
-        second,
-        header::SIZE,
-    )
-}
-
 // B0 after Y0, from X0 and A0 after the first header and Y0 after the second.
 fn write_b(q: u32, m: usize, k: usize, p: usize, first: &[u32], second: &mut [u32])
     requires { ⌜ Masks q m k p × (headerSize + m * k + m * p ≤ length (now first)) × (headerSize + k * p + m * p ≤ length (now second)) ⌝ }
     ensures { λ _. ⌜ now (second .exit) ≡ writtenAt (headerSize + k * p) (bFrom q m k p (now (first .entry)) (now (second .entry))) (now (second .entry)) ⌝ }
 {
     let n = m * p;
-    let a = header::SIZE + m * k;
-    let b = header::SIZE + k * p;
+    let start = header::SIZE;
+    let a = start + m * k;
+    let b = start + k * p;
     let end = a + n;
     let mut b0 = [0u32; 1024];
     write_deal(
@@ -121,15 +91,15 @@ fn write_b(q: u32, m: usize, k: usize, p: usize, first: &[u32], second: &mut [u3
         m,
         k,
         p,
-        &first[header::SIZE..a],
-        &second[header::SIZE..b],
+        &first[start..a],
+        &second[start..b],
         &first[a..end],
         &mut b0,
     );
     write_copy(n, &b0, &mut second[b..]);
 }
 
-// X0, A0 and Y0, B0, behind headers that stand.
+// X0, A0 and Y0, B0, behind headers that stand. The answer is how many words were read.
 fn fill_masks(
     q: u32,
     m: u32,
@@ -139,13 +109,26 @@ fn fill_masks(
     first: &mut [u32],
     second: &mut [u32],
 ) -> usize
-    requires { ⌜ Masks q m k p × (m * k + (k * p + m * p) ≤ length (residuesOf q (now words)))
+    requires { ⌜ Masks q m k p × (masksCount m k p ≤ length (residuesOf q (now words)))
         × (headerSize + m * k + m * p ≤ length (now first)) × (headerSize + k * p + m * p ≤ length (now second)) ⌝ }
-    ensures { λ r. ⌜ r ≡ wordsRead q (m * k + (k * p + m * p)) (now (words .entry)) ⌝ }
+    ensures { λ r. ⌜ r ≡ wordsRead q (masksCount m k p) (now (words .entry)) ⌝ }
     ensures { λ _. ⌜ now (first .exit) ≡ writtenAt headerSize (xa q m k p (now (words .entry))) (now (first .entry)) ⌝ }
     ensures { λ _. ⌜ now (second .exit) ≡ writtenAt headerSize (yb q m k p (now (words .entry))) (now (second .entry)) ⌝ }
 {
-    let read = draw_masks(q, m, k, p, words, first, second);
+    let mk = times(m, k);
+    let kp = times(k, p);
+    let mp = times(m, p);
+    let read = draw_three(
+        q,
+        mk,
+        kp,
+        mp,
+        words,
+        first,
+        header::SIZE,
+        second,
+        header::SIZE,
+    );
     write_b(q, m as usize, k as usize, p as usize, first, second);
     read
 }
@@ -155,7 +138,8 @@ fn fill_masks(
 // V after R, from Q and G in the first words and R in the second.
 fn write_v(q: u32, n: usize, first: &[u32], first_at: usize, second: &mut [u32], second_at: usize)
     requires { ⌜ Unknowns q n × («first_at» + n * n + n * n ≤ length (now first)) × («second_at» + n * n + n * n ≤ length (now second)) ⌝ }
-    ensures { λ _. ⌜ now (second .exit) ≡ writtenAt («second_at» + n * n) (vFrom q n «first_at» «second_at» (now (first .entry)) (now (second .entry))) (now (second .entry)) ⌝ }
+    ensures { λ _. ⌜ now (second .exit) ≡ writtenAt («second_at» + n * n)
+        (vFrom q n «first_at» «second_at» (now (first .entry)) (now (second .entry))) (now (second .entry)) ⌝ }
 {
     let nn = n * n;
     let g = first_at + nn;
@@ -188,7 +172,7 @@ fn fill_more(
     requires { ⌜ Unknowns q n × (n * n + (n * n + n * n) ≤ length (residuesOf q (now words)))
         × («first_at» + n * n + n * n ≤ length (now first)) × («second_at» + n * n + n * n ≤ length (now second)) ⌝ }
     ensures { λ r. ⌜ r ≡ wordsRead q (n * n + (n * n + n * n)) (now (words .entry)) ⌝ }
-    ensures { λ _. ⌜ now (first .exit) ≡ writtenAt «first_at» (qg q n (residuesOf q (now (words .entry)))) (now (first .entry)) ⌝ }
+    ensures { λ _. ⌜ now (first .exit) ≡ writtenAt «first_at» (qg n (residuesOf q (now (words .entry)))) (now (first .entry)) ⌝ }
     ensures { λ _. ⌜ now (second .exit) ≡ writtenAt «second_at» (rv q n (residuesOf q (now (words .entry)))) (now (second .entry)) ⌝ }
 {
     let nn = times(n, n);
@@ -202,7 +186,7 @@ fn fill_more(
 // The beginning of each half, for both sorts: the header, and then X0 and A0, or Y0 and B0.
 fn write_masks(s: Sort, t: Terms, words: &[u32], first: &mut [u32], second: &mut [u32]) -> usize
     requires { ⌜ Room (sort s) t (now words) (length (now first)) (length (now second)) ⌝ }
-    ensures { λ r. ⌜ r ≡ wordsRead (t .q) (t .m * t .k + (t .k * t .p + t .m * t .p)) (now (words .entry)) ⌝ }
+    ensures { λ r. ⌜ r ≡ wordsRead (t .q) (masksCount (t .m) (t .k) (t .p)) (now (words .entry)) ⌝ }
     ensures { λ _. ⌜ now (first .exit) ≡ over (firstMasks (sort s) t (now (words .entry))) (now (first .entry)) ⌝ }
     ensures { λ _. ⌜ now (second .exit) ≡ over (secondMasks (sort s) t (now (words .entry))) (now (second .entry)) ⌝ }
 {
@@ -212,7 +196,8 @@ fn write_masks(s: Sort, t: Terms, words: &[u32], first: &mut [u32], second: &mut
 
 // A system's matrices behind these, from the words behind those that were read.
 fn write_more(t: Terms, words: &[u32], read: usize, first: &mut [u32], second: &mut [u32]) -> usize
-    requires { ⌜ Room system t (now words) (length (now first)) (length (now second)) × (read ≡ wordsRead (t .q) (t .m * t .k + (t .k * t .p + t .m * t .p)) (now words)) ⌝ }
+    requires { ⌜ Room system t (now words) (length (now first)) (length (now second))
+        × (read ≡ wordsRead (t .q) (masksCount (t .m) (t .k) (t .p)) (now words)) ⌝ }
     ensures { λ r. ⌜ r ≡ wordsRead (t .q) (drawCount system (t .m) (t .k) (t .p)) (now (words .entry)) ⌝ }
     ensures { λ _. ⌜ now (first .exit) ≡ writtenAt (matrixAt blinder (t .m) (t .k) (t .p) 2) (moreFirst t (now (words .entry))) (now (first .entry)) ⌝ }
     ensures { λ _. ⌜ now (second .exit) ≡ writtenAt (matrixAt solver (t .m) (t .k) (t .p) 2) (moreSecond t (now (words .entry))) (now (second .entry)) ⌝ }

@@ -43,7 +43,8 @@ fn deal(
 ) -> Answer
     requires { ⌜ 1 ≤ t .session .0 ⌝ }
     ensures { λ r. ⌜ _≡_ {A = Pools} (record { answer = answerReply r; first = now (first .exit); second = now (second .exit) })
-        (pools (now (first .entry)) (now (second .entry)) (deal (now (first .entry)) (now (second .entry)) size index (request (sort s) t (now (words .entry))))) ⌝ }
+        (pools (now (first .entry)) (now (second .entry))
+        (deal (now (first .entry)) (now (second .entry)) size index (request (sort s) t (now (words .entry))))) ⌝ }
 {
     let checked = check(s, t, first, second, size, index, words);
     let Check::Passed = checked else {

@@ -7,11 +7,11 @@ use tape::End;
 use vectors::times;
 ghost use mathlib.Core.Path.{_≡_};
 ghost use mathlib.Core.Bool.{true};
-ghost use Prim.Native.Nat.{_+_, _*_, _≤_};
+ghost use Prim.Native.Nat.{_*_, _≤_};
 ghost use Rattle.protocol.specs.Bounds.{sidesFit};
 ghost use Rattle.protocol.specs.Deal.{firstRole, secondRole};
 ghost use Rattle.tape.specs.Ends.{role};
-ghost use Rattle.dealer.specs.Sorts.{sort, drawCount};
+ghost use Rattle.dealer.specs.Sorts.{sort, masksCount, drawCount};
 
 pub enum Sort {
     Product,
@@ -39,7 +39,7 @@ pub fn second_end(s: Sort) -> End
 // X0, Y0 and A0.
 pub fn masks_count(t: Terms) -> usize
     requires { ⌜ (t .m * t .k ≤ 2048) × (t .k * t .p ≤ 2048) × (t .m * t .p ≤ 1024) ⌝ }
-    ensures { λ r. ⌜ r ≡ t .m * t .k + (t .k * t .p + t .m * t .p) ⌝ }
+    ensures { λ r. ⌜ r ≡ masksCount (t .m) (t .k) (t .p) ⌝ }
 {
     times(t.m, t.k) + (times(t.k, t.p) + times(t.m, t.p))
 }

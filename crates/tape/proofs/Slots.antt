@@ -50,7 +50,7 @@ pub slot-part-length : (pool : List ℕ) (size index : ℕ) → index * size + s
 slot-part-length pool size index h = simp (length-take, length-drop) (omega arith)
 
 -- a slot that was lent comes back with other words
-slot-back : (pool ys : List ℕ) (size index : ℕ) → length ys ≡ size
+pub slot-back : (pool ys : List ℕ) (size index : ℕ) → length ys ≡ size
     → putMid (index * size) (index * size + size - index * size) pool ys ≡ poolWith (slotAt pool size index) ys
 unfolding poolWith writtenAt over
 slot-back pool ys size index e =

@@ -13,9 +13,7 @@ same-length-2 : tie.Need-same-length-2
 same-length-2 c = search needs
 
 returns : tie.Need-returns
-returns c =
-    let deal = c .before .before .before .before .deal in
-    deal .ensures
+returns c = c .before .before .before .before .deal .ensures
 
 pub deal-product-spec : {M : Type 1} → statement M
 deal-product-spec = tie.close (tie.spec deal-requires same-length same-length-2 returns)

@@ -29,24 +29,19 @@ answer-of-requires c κs = search needs
 returns : tie.Need-returns
 returns c =
     let a = c .before .before .before .before .before .before .before .before .args in
-    let unknowns-fit = c .before .before .before .before .unknowns-fit in
-    let if1 = c .before .before .before .if1 in
-    let answer-of = c .answer-of in
     let worst = c .before .worst in
-    let check-modulus = c .before .before .check-modulus in
     let r = systemRequest (a .tape) (a .q) (a .n) (a .words .now) in
-    let apart = wide (a .n) (fails (unknowns-fit .ensures) (if1 .taken)) in
-    rw (answer-of .ensures)
-    (deal-checked (a .first .now) (a .second .now) (a .size) (a .index) r (worst .result) (judged (modulusTests system (a .q))) Size (rw (check-modulus .ensures) at (worst .ensures))
-    (unfit (slotAt (a .first .now) (a .size) (a .index)) (slotAt (a .second .now) (a .size) (a .index)) r apart))
+    let apart = wide (a .n) (fails (c .before .before .before .before .unknowns-fit .ensures) (c .before .before .before .if1 .taken)) in
+    let found = judged (modulusTests system (a .q)) in
+    let told = rw (c .before .before .check-modulus .ensures) at (worst .ensures) in
+    let all = unfit (slotAt (a .first .now) (a .size) (a .index)) (slotAt (a .second .now) (a .size) (a .index)) r apart in
+    rw (c .answer-of .ensures) (deal-checked (a .first .now) (a .second .now) (a .size) (a .index) r (worst .result) found Size told all)
 
 add-t18 : tie.Need-add-t18
 unfolding within
 add-t18 c =
     let a = c .before .before .before .before .before .args in
-    let unknowns-fit = c .before .unknowns-fit in
-    let if1 = c .if1 in
-    let few = leb-true (a .n) 16 (and-right _ _ (holds (unknowns-fit .ensures) (if1 .left))) in
+    let few = leb-true (a .n) 16 (and-right _ _ (holds (c .before .unknowns-fit .ensures) (c .if1 .left))) in
     search needs
 
 deal-requires : tie.Need-deal-requires
@@ -59,9 +54,7 @@ same-length-2 : tie.Need-same-length-2
 same-length-2 c = search needs
 
 returns-2 : tie.Need-returns-2
-returns-2 c =
-    let deal = c .before .before .before .before .deal in
-    deal .ensures
+returns-2 c = c .before .before .before .before .deal .ensures
 
 pub deal-system-spec : {M : Type 1} → statement M
 deal-system-spec =

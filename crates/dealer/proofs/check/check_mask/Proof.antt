@@ -14,14 +14,10 @@ enum-told-2 c = search needs
 returns : tie.Need-returns
 returns c =
     let a = c .before .before .before .args in
-    let enum-told2 = c .enum-told2 in
-    no-mask (a .t) (a .words .now) (enum-told2 .given .1)
+    no-mask (a .t) (a .words .now) (c .enum-told2 .given .1)
 
 mask-fits-requires : tie.Need-mask-fits-requires
-mask-fits-requires c κs =
-    let enum-told = c .enum-told in
-    let h = c .before .before .before .pre in
-    rw (enum-told .given .1) at h
+mask-fits-requires c κs = rw (c .enum-told .given .1) at (c .before .before .before .pre)
 
 need-requires : tie.Need-need-requires
 need-requires c κs = search needs
@@ -29,10 +25,7 @@ need-requires c κs = search needs
 returns-2 : tie.Need-returns-2
 unfolding maskTests
 returns-2 c =
-    let enum-told = c .before .before .enum-told in
-    let mask-fits = c .before .mask-fits in
-    let need = c .need in
-    rw (enum-told .given .1) (rw (mask-fits .ensures) at (need .ensures))
+    rw (c .before .before .enum-told .given .1) (rw (c .before .mask-fits .ensures) at (c .need .ensures))
 
 pub check-mask-spec : {M : Type 1} → statement M
 check-mask-spec =

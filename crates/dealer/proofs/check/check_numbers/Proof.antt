@@ -29,14 +29,12 @@ worst-requires-2 c κs = search needs
 returns : tie.Need-returns
 unfolding dealNumbers sizeTests
 returns c =
-    let worst2 = c .worst2 in
     let first-end = c .before .before .before .before .before .before .first-end in
-    let check-modulus = c .before .before .before .before .check-modulus in
     let worst = c .before .worst in
     let check-sizes = c .before .before .before .check-sizes in
     let second-end = c .before .before .before .before .before .second-end in
     let check-sizes2 = c .before .before .check-sizes2 in
-    also _ _ (worst2 .ensures) (rw (first-end .ensures) at (check-modulus .ensures))
+    also _ _ (c .worst2 .ensures) (rw (first-end .ensures) at (c .before .before .before .before .check-modulus .ensures))
     (also _ _ (worst .ensures) (rw (first-end .ensures) at (check-sizes .ensures)) (rw (second-end .ensures) at (check-sizes2 .ensures)))
 
 pub check-numbers-spec : {M : Type 1} → statement M

@@ -1,7 +1,6 @@
 -- `dealer::check::check_raw` meets its contract. Assumes nothing.
-use mathlib.Core.Path.{sym, ap, _∙_}
+use mathlib.Core.Path.{sym, _∙_}
 use borrow.Author.Needs.{needs}
-use Rattle.judging.specs.InOrder.{checked}
 use Rattle.judging.proofs.Join.{hands-on, goes-past}
 use Rattle.dealer.specs.Sorts.{sort}
 use Rattle.dealer.proofs.Order.{raw-phases}
@@ -24,32 +23,24 @@ enum-told-2 c = search needs
 returns : tie.Need-returns
 returns c =
     let check-coins = c .before .before .check-coins in
-    let draw-count = c .before .before .before .draw-count in
-    let enum-told2 = c .enum-told2 in
     let a = c .before .before .before .before .before .args in
-    hands-on (check-coins .result) _ (rw (draw-count .ensures) at (check-coins .ensures)) (enum-told2 .given .1)
+    hands-on (check-coins .result) _ (rw (c .before .before .before .draw-count .ensures) at (check-coins .ensures)) (c .enum-told2 .given .1)
     ∙ sym (raw-phases (sort (a .s)) (a .t) (a .words .now))
 
 check-mask-requires : tie.Need-check-mask-requires
 check-mask-requires c κs =
-    let draw-count = c .before .before .before .draw-count in
-    let check-coins = c .before .before .check-coins in
-    let h = c .before .before .before .before .before .pre in
     let a = c .before .before .before .before .before .args in
-    let enum-told = c .enum-told in
-    let coins = rw (draw-count .ensures) at (check-coins .ensures) in
-    (h, coins-enough (a .t .q) _ (a .words .now) (sym coins ∙ ap checked (enum-told .given .1)))
+    let coins = rw (c .before .before .before .draw-count .ensures) at (c .before .before .check-coins .ensures) in
+    ((c .before .before .before .before .before .pre), coins-enough (a .t .q) _ (a .words .now) coins (c .enum-told .given .1))
 
 returns-2 : tie.Need-returns-2
 returns-2 c =
-    let check-mask = c .check-mask in
     let a = c .before .before .before .before .before .before .args in
     let check-coins = c .before .before .before .check-coins in
     let draw-count = c .before .before .before .before .draw-count in
-    let enum-told = c .before .enum-told in
-    check-mask .ensures
+    c .check-mask .ensures
     ∙ sym (raw-phases (sort (a .s)) (a .t) (a .words .now)
-    ∙ goes-past (check-coins .result) (rw (draw-count .ensures) at (check-coins .ensures)) (enum-told .given .1))
+    ∙ goes-past (check-coins .result) (rw (draw-count .ensures) at (check-coins .ensures)) (c .before .enum-told .given .1))
 
 pub check-raw-spec : {M : Type 1} → statement M
 check-raw-spec =

@@ -34,44 +34,37 @@ draw-requires c κs =
     let h = c .before .before .before .before .pre in
     let a = c .before .before .before .before .args in
     let times = c .before .before .times in
-    (h .0 .some-q, rw (tail-part (a .at) (a .words .now), times .ensures) (h .2), omega (arith, times .ensures, square-few (a .n) (h .0 .few-n)))
+    (h .1 .some-q, rw (tail-part (a .at) (a .words .now), times .ensures) (h .3), omega (arith, times .ensures, square-few (a .n) (h .1 .few-n)))
 
 array-share-prefix-mask : tie.Need-array-share-prefix-mask
 array-share-prefix-mask c =
-    let times = c .before .before .before .before .times in
     let a = c .before .before .before .before .before .before .args in
     let h = c .before .before .before .before .before .before .pre in
-    omega (arith, times .ensures, square-few (a .n) (h .0 .few-n))
+    omega (arith, c .before .before .before .before .times .ensures, square-few (a .n) (h .1 .few-n))
 
 slice-aggregate-has-inverse : tie.Need-slice-aggregate-has-inverse
 slice-aggregate-has-inverse c =
-    let times = c .before .before .before .before .before .times in
     let a = c .before .before .before .before .before .before .before .args in
     let h = c .before .before .before .before .before .before .before .pre in
-    simp length-take (omega (arith, times .ensures, square-few (a .n) (h .0 .few-n)))
+    simp length-take (omega (arith, c .before .before .before .before .before .times .ensures, square-few (a .n) (h .1 .few-n)))
 
 has-inverse-requires : tie.Need-has-inverse-requires
 has-inverse-requires c κs =
-    let times = c .before .before .before .before .before .times in
     let a = c .before .before .before .before .before .before .before .args in
-    let draw = c .before .before .draw in
     let h = c .before .before .before .before .before .before .before .pre in
-    let nn = times .ensures in
-    let drawn = rw (tail-part (a .at) (a .words .now), nn) at (draw .ensures .1) in
-    let mask = coins-part (a .q) (a .n * a .n) (drop (a .at) (a .words .now)) _ _ (h .2) drawn in
-    (h .0 .prime, h .0 .small-q, h .0 .few-n, rw (nn, mask) (drawn-residues (a .q) (a .n * a .n) (drop (a .at) (a .words .now)) (h .0 .some-q) (h .2)))
+    let nn = c .before .before .before .before .before .times .ensures in
+    let drawn = rw (tail-part (a .at) (a .words .now), nn) at (c .before .before .draw .ensures .1) in
+    let mask = coins-part (a .q) (a .n * a .n) (drop (a .at) (a .words .now)) _ _ (h .3) drawn in
+    (h .0, h .1 .small-q, h .1 .few-n, rw (nn, mask) (drawn-residues (a .q) (a .n * a .n) (drop (a .at) (a .words .now)) (h .1 .some-q) (h .3)))
 
 returns : tie.Need-returns
 returns c =
-    let times = c .before .before .before .before .before .before .times in
     let a = c .before .before .before .before .before .before .before .before .args in
-    let draw = c .before .before .before .draw in
-    let has-inverse = c .has-inverse in
     let h = c .before .before .before .before .before .before .before .before .pre in
-    let nn = times .ensures in
-    let drawn = rw (tail-part (a .at) (a .words .now), nn) at (draw .ensures .1) in
-    has-inverse .ensures
-    ∙ ap (regular (a .q) (a .n)) (rw nn (coins-part (a .q) (a .n * a .n) (drop (a .at) (a .words .now)) _ _ (h .2) drawn))
+    let nn = c .before .before .before .before .before .before .times .ensures in
+    let drawn = rw (tail-part (a .at) (a .words .now), nn) at (c .before .before .before .draw .ensures .1) in
+    c .has-inverse .ensures
+    ∙ ap (regular (a .q) (a .n)) (rw nn (coins-part (a .q) (a .n * a .n) (drop (a .at) (a .words .now)) _ _ (h .3) drawn))
 
 pub has-inverse-at-spec : {M : Type 1} → statement M
 has-inverse-at-spec =

@@ -41,8 +41,7 @@ draw-requires c κs =
 add-result : tie.Need-add-result
 add-result c =
     let a = c .before .before .before .before .before .before .before .args in
-    let draw = c .before .before .draw in
-    let e = rw (tail-part (a .from) (a .words .now)) at (draw .ensures .0) in
+    let e = rw (tail-part (a .from) (a .words .now)) at (c .before .before .draw .ensures .0) in
     omega (arith, e, read-few (a .q) (a .n) (drop (a .from) (a .words .now)), length-drop (a .from) (a .words .now))
 
 same-length : tie.Need-same-length
@@ -51,8 +50,7 @@ same-length c = search needs
 returns : tie.Need-returns
 returns c =
     let a = c .before .before .before .before .before .before .before .args in
-    let draw = c .before .before .draw in
-    let e = rw (tail-part (a .from) (a .words .now)) at (draw .ensures) in
+    let e = rw (tail-part (a .from) (a .words .now)) at (c .before .before .draw .ensures) in
     (omega (arith, e .0), part-written (a .at) _ (a .out .now) _ (search needs) (e .1))
 
 pub draw-next-spec : {M : Type 1} → statement M

@@ -28,11 +28,10 @@ draw-next-requires-3 : tie.Need-draw-next-requires-3
 draw-next-requires-3 c κs =
     let a = c .before .before .before .before .before .before .before .before .before .before .before .before .args in
     let draw-next = c .before .before .before .before .before .before .before .draw-next in
-    let draw-next2 = c .before .before .before .draw-next2 in
     let h = c .before .before .before .before .before .before .before .before .before .before .before .before .pre in
     let ws = a .words .now in
     let one : draw-next .result ≡ wordsRead (a .q) (a .a) ws = omega (arith, draw-next .ensures .0) in
-    let two = draw-next2 .ensures .0 ∙ next-read (a .q) (a .a) ws _ one (a .b) (omega (arith, h .1)) in
+    let two = c .before .before .before .draw-next2 .ensures .0 ∙ next-read (a .q) (a .a) ws _ one (a .b) (omega (arith, h .1)) in
     (h .0, next-inside (a .q) (a .a + a .b) ws _ two, next-left (a .q) (a .a + a .b) ws _ two (a .c) (omega (arith, h .1)), search needs)
 
 same-length : tie.Need-same-length
@@ -48,11 +47,10 @@ returns c =
     let draw-next = c .before .before .before .before .before .before .before .before .before .before .draw-next in
     let draw-next2 = c .before .before .before .before .before .before .draw-next2 in
     let h = far .before .before .before .before .before .pre in
-    let draw-next3 = c .before .before .draw-next3 in
     let ws = a .words .now in
     let one : draw-next .result ≡ wordsRead (a .q) (a .a) ws = omega (arith, draw-next .ensures .0) in
     let two = draw-next2 .ensures .0 ∙ next-read (a .q) (a .a) ws _ one (a .b) (omega (arith, h .1)) in
-    let three = draw-next3 .ensures in
+    let three = c .before .before .draw-next3 .ensures in
     let sum : a .a + a .b + a .c ≡ a .a + (a .b + a .c) = omega arith in (
       three .0 ∙ (next-read (a .q) (a .a + a .b) ws _ two (a .c) (omega (arith, h .1)) ∙ ap (λ (n : ℕ). wordsRead (a .q) n ws) sum),
       (

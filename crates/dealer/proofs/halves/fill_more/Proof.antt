@@ -29,13 +29,12 @@ returns c =
     let draw-three = c .before .before .before .before .before .before .before .before .before .draw-three in
     let a = far .before .before .before .before .before .before .args in
     let h = far .before .before .before .before .before .before .pre in
-    let write-v = c .before .before .write-v in
     let e = rw (times .ensures) at (draw-three .ensures) in (
       e .0,
       (
         e .1 .0,
         more-filled (a .q) (a .n) _ (h .1) (a .first-at) (a .second-at) (a .first .now) (a .second .now) _ _ (omega (arith, h .2)) (omega (arith, h .3))
-            (e .1 .0) (e .1 .1) (write-v .ensures),
+            (e .1 .0) (e .1 .1) (c .before .before .write-v .ensures),
       ),
     )
 

@@ -23,6 +23,9 @@ add-b c = search needs
 add-end : tie.Need-add-end
 add-end c = search needs
 
+mul-write-deal : tie.Need-mul-write-deal
+mul-write-deal c = search needs
+
 sub-write-deal : tie.Need-sub-write-deal
 sub-write-deal c = search needs
 
@@ -31,6 +34,9 @@ part-write-deal-start c = search needs
 
 part-write-deal-end : tie.Need-part-write-deal-end
 part-write-deal-end c = search needs
+
+mul-write-deal-2 : tie.Need-mul-write-deal-2
+mul-write-deal-2 c = search needs
 
 sub-write-deal-2 : tie.Need-sub-write-deal-2
 sub-write-deal-2 c = search needs
@@ -41,8 +47,8 @@ part-write-deal-start-2 c = search needs
 part-write-deal-end-2 : tie.Need-part-write-deal-end-2
 part-write-deal-end-2 c = search needs
 
-mul-write-deal : tie.Need-mul-write-deal
-mul-write-deal c = search needs
+mul-write-deal-3 : tie.Need-mul-write-deal-3
+mul-write-deal-3 c = search needs
 
 sub-write-deal-3 : tie.Need-sub-write-deal-3
 sub-write-deal-3 c = search needs
@@ -85,10 +91,8 @@ returns c =
     let far = c .before .before .before .before .before .before .before .before .before .before in
     let a = far .before .before .before .before .args in
     let h = far .before .before .before .before .pre in
-    let write-deal = c .before .before .before .before .before .before .write-deal in
-    let write-copy = c .before .before .write-copy in
     b-written (a .q) (a .m) (a .k) (a .p) (a .first .now) (a .second .now) _ _ _ (omega (arith, h .0 .few-mp)) (omega (arith, h .2))
-    (write-deal .ensures) (write-copy .ensures)
+    (c .before .before .before .before .before .before .write-deal .ensures) (c .before .before .write-copy .ensures)
 
 pub write-b-spec : {M : Type 1} → statement M
 write-b-spec =
@@ -100,13 +104,15 @@ write-b-spec =
     mul-b
     add-b
     add-end
+    mul-write-deal
     sub-write-deal
     part-write-deal-start
     part-write-deal-end
+    mul-write-deal-2
     sub-write-deal-2
     part-write-deal-start-2
     part-write-deal-end-2
-    mul-write-deal
+    mul-write-deal-3
     sub-write-deal-3
     part-write-deal-start-3
     part-write-deal-end-3

@@ -27,11 +27,9 @@ same-length-2 c = search needs
 
 returns : tie.Need-returns
 returns c =
-    let write-masks = c .before .before .before .before .before .before .write-masks in
-    let enum-told2 = c .enum-told2 in
     let a = c .before .before .before .before .before .before .before .before .before .before .before .before .args in
-    let e = write-masks .ensures in
-    let told = enum-told2 .given .1 in (
+    let e = c .before .before .before .before .before .before .write-masks .ensures in
+    let told = c .enum-told2 .given .1 in (
       e .0 ∙ ap (λ (n : ℕ). wordsRead (a .t .q) n (a .words .now)) (same-count (a .t) (a .words .now) told),
       (
         e .1 .0 ∙ ap (λ (l : List ℕ). over l (a .first .now)) (same-first (a .t) (a .words .now) told),
@@ -42,10 +40,9 @@ returns c =
 write-more-requires : tie.Need-write-more-requires
 write-more-requires c κs =
     let far = c .before .before .before .before .before .before .before .before .before .before in
-    let enum-told = c .before .before .enum-told in
     let h = far .before .before .before .before .pre in
     let write-masks = c .before .before .before .before .before .before .before .before .write-masks in
-    let r = rw (enum-told .given .1) at h in (
+    let r = rw (c .before .before .enum-told .given .1) at h in (
       record { fits = r .fits; enough = r .enough; first-room = omega (arith, r .first-room); second-room = omega (arith, r .second-room) },
       write-masks .ensures .0,
     )
@@ -62,12 +59,11 @@ returns-2 c =
     let enum-told = c .before .before .before .before .before .before .before .enum-told in
     let h = far .before .before .before .before .before .before .before .before .before .pre in
     let write-masks = far .before .before .before .write-masks in
-    let write-more = c .before .before .before .before .write-more in
     let a = far .before .before .before .before .before .before .before .before .before .args in
     let told = enum-told .given .1 in
     let r = rw told at h in
     let e = rw told at (write-masks .ensures) in
-    let f = write-more .ensures in
+    let f = c .before .before .before .before .write-more .ensures in
     rw told (f .0, (system-first r (a .first .now) _ (e .1 .0) (f .1 .0), system-second r (a .second .now) _ (e .1 .1) (f .1 .1)))
 
 pub write-halves-spec : {M : Type 1} → statement M

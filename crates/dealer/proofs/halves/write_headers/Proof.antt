@@ -25,9 +25,8 @@ returns c =
     let a = c .before .before .before .before .before .before .before .before .before .before .before .before .args in
     let first-end = c .before .before .before .before .before .before .before .before .before .first-end in
     let write-header = c .before .before .before .before .before .before .write-header in
-    let write-header2 = c .before .before .write-header2 in
     let e = first-sort (sort (a .s)) in
-    (rw (first-end .ensures, e) at (write-header .ensures), rw (first-end .ensures, e) at (write-header2 .ensures))
+    (rw (first-end .ensures, e) at (write-header .ensures), rw (first-end .ensures, e) at (c .before .before .write-header2 .ensures))
 
 pub write-headers-spec : {M : Type 1} → statement M
 write-headers-spec =

@@ -38,10 +38,9 @@ returns : tie.Need-returns
 unfolding firstMasks secondMasks
 returns c =
     let far = c .before .before .before .before .before .before .before .before .before .before in
-    let fill-masks = c .before .before .before .before .fill-masks in
     let write-headers = c .before .before .before .before .before .before .before .before .before .before .before .write-headers in
     let a = far .before .before .before .before .before .before .before .args in
-    let e = fill-masks .ensures in
+    let e = c .before .before .before .before .fill-masks .ensures in
     let heads = write-headers .ensures in (
       e .0,
       (

@@ -106,11 +106,9 @@ returns c =
     let far = c .before .before .before .before .before .before .before .before .before .before in
     let a = far .before .before .before .before .args in
     let h = far .before .before .before .before .pre in
-    let write-masked = c .before .before .before .before .before .before .write-masked in
-    let write-copy = c .before .before .write-copy in
     let few = square-few (a .n) (h .0 .few-n) in
     v-written (a .q) (a .n) (a .first-at) (a .second-at) (a .first .now) (a .second .now) _ _ _ (omega (arith, few)) (omega (arith, h .2))
-    (write-masked .ensures) (write-copy .ensures)
+    (c .before .before .before .before .before .before .write-masked .ensures) (c .before .before .write-copy .ensures)
 
 pub write-v-spec : {M : Type 1} → statement M
 write-v-spec =

@@ -9,8 +9,7 @@ use Rattle.dealer.proofs.sort.draw_count.Tie as tie
 masks-count-requires : tie.Need-masks-count-requires
 masks-count-requires c κs =
     let a = c .args in
-    let h = c .pre in
-    let b = sides-of (sort (a .s)) (a .t .m) (a .t .k) (a .t .p) h in (b .few-mk, b .few-kp, b .few-mp)
+    let b = sides-of (sort (a .s)) (a .t .m) (a .t .k) (a .t .p) (c .pre) in (b .few-mk, b .few-kp, b .few-mp)
 
 enum-told : tie.Need-enum-told
 enum-told c = search needs
@@ -20,10 +19,7 @@ enum-told-2 c = search needs
 
 returns : tie.Need-returns
 unfolding drawCount
-returns c =
-    let enum-told2 = c .enum-told2 in
-    let masks-count = c .before .before .masks-count in
-    rw (enum-told2 .given .1) (masks-count .ensures)
+returns c = rw (c .enum-told2 .given .1) (c .before .before .masks-count .ensures)
 
 times-requires : tie.Need-times-requires
 times-requires c κs = search needs
@@ -31,37 +27,25 @@ times-requires c κs = search needs
 add-result : tie.Need-add-result
 add-result c =
     let a = c .before .before .before .before .args in
-    let h = c .before .before .before .before .pre in
-    let masks-count = c .before .before .before .masks-count in
-    let times = c .times in
-    let b = sides-of (sort (a .s)) (a .t .m) (a .t .k) (a .t .p) h in
-    omega (arith, masks-count .ensures, times .ensures, b .few-mk, b .few-kp, b .few-mp)
+    let b = sides-of (sort (a .s)) (a .t .m) (a .t .k) (a .t .p) (c .before .before .before .before .pre) in
+    omega (arith, c .before .before .before .masks-count .ensures, c .times .ensures, b .few-mk, b .few-kp, b .few-mp)
 
 add-result-2 : tie.Need-add-result-2
 add-result-2 c =
     let a = c .before .before .before .before .args in
-    let h = c .before .before .before .before .pre in
-    let masks-count = c .before .before .before .masks-count in
-    let times = c .times in
-    let b = sides-of (sort (a .s)) (a .t .m) (a .t .k) (a .t .p) h in
-    omega (arith, masks-count .ensures, times .ensures, b .few-mk, b .few-kp, b .few-mp)
+    let b = sides-of (sort (a .s)) (a .t .m) (a .t .k) (a .t .p) (c .before .before .before .before .pre) in
+    omega (arith, c .before .before .before .masks-count .ensures, c .times .ensures, b .few-mk, b .few-kp, b .few-mp)
 
 add-result-3 : tie.Need-add-result-3
 add-result-3 c =
     let a = c .before .before .before .before .args in
-    let h = c .before .before .before .before .pre in
-    let masks-count = c .before .before .before .masks-count in
-    let times = c .times in
-    let b = sides-of (sort (a .s)) (a .t .m) (a .t .k) (a .t .p) h in
-    omega (arith, masks-count .ensures, times .ensures, b .few-mk, b .few-kp, b .few-mp)
+    let b = sides-of (sort (a .s)) (a .t .m) (a .t .k) (a .t .p) (c .before .before .before .before .pre) in
+    omega (arith, c .before .before .before .masks-count .ensures, c .times .ensures, b .few-mk, b .few-kp, b .few-mp)
 
 returns-2 : tie.Need-returns-2
 unfolding drawCount
 returns-2 c =
-    let enum-told = c .before .enum-told in
-    let masks-count = c .before .before .before .masks-count in
-    let times = c .times in
-    rw (enum-told .given .1) (omega (arith, masks-count .ensures, times .ensures))
+    rw (c .before .enum-told .given .1) (omega (arith, c .before .before .before .masks-count .ensures, c .times .ensures))
 
 pub draw-count-spec : {M : Type 1} → statement M
 draw-count-spec =
