@@ -2,8 +2,8 @@
 use crate::words;
 use dropping::blinder_drop;
 use dropping::right_drop;
-use dropping::solver_drop;
 use judging::message::no_head;
+use solver::solver_drop;
 
 #[no_mangle]
 pub extern "C" fn call_right_drop(

@@ -1,8 +1,8 @@
 // Dropping: an open session closes, and its tape is spent; a blinder's scratch is zeroed with it.
-//   right_drop, solver_drop, blinder_drop   the drops of the three ends that keep a session
-//   check                                   the tests of a drop
+//   right_drop, blinder_drop   the drops of two ends that keep a session; the solver's is in `solver`
+//   check                      the tests of a drop
 // A drop is given its pool, the size of the pool's slots and the index of its own; the blinder's its scratch; and the session.
-// For hosts: right_drop, solver_drop, blinder_drop.
+// For hosts: right_drop, blinder_drop.
 mod check;
 
 use blinder::closed;
@@ -14,7 +14,6 @@ use judging::answer_of;
 use protocol::Answer;
 use protocol::BlinderSession;
 use protocol::RightSession;
-use protocol::SolverSession;
 use protocol::Terms;
 use tape::End;
 use tape::change::spend;
@@ -27,7 +26,7 @@ ghost use lib.ListN.{length};
 ghost use Rattle.protocol.specs.Bounds.{sidesFit};
 ghost use Rattle.protocol.specs.Tape.{slotAt, slotWords, poolWith, tapeSize, wordsSpent};
 ghost use Rattle.protocol.specs.Message.{noMessage};
-ghost use Rattle.protocol.specs.Drop.{dropRight, dropSolver, dropBlinder};
+ghost use Rattle.protocol.specs.Drop.{dropRight, dropBlinder};
 ghost use Rattle.tape.specs.Ends.{role, sort};
 ghost use Rattle.protocol.specs.Step.{answerReply};
 ghost use Rattle.judging.specs.Leaves.{Leaves, leaves};
@@ -36,11 +35,6 @@ ghost use Rattle.judging.specs.Leaves.{Leaves, leaves};
 pub struct RightDropped {
     pub answer: Answer,
     pub session: RightSession,
-}
-
-pub struct SolverDropped {
-    pub answer: Answer,
-    pub session: SolverSession,
 }
 
 pub struct BlinderDropped {
@@ -75,31 +69,6 @@ pub fn right_drop(pool: &mut [u32], size: usize, index: usize, s: RightSession) 
     RightDropped {
         answer: Answer::Accepted(0),
         session: RightSession { terms: t, due: 0 },
-    }
-}
-
-pub fn solver_drop(pool: &mut [u32], size: usize, index: usize, s: SolverSession) -> SolverDropped
-    ensures { λ r. ⌜ _≡_ {A = Leaves SolverSession}
-        (record { answer = answerReply (r .answer); session = r .session; head = noMessage .head; pool = now (pool .exit); scratch = []; sent = []; result = [] })
-        (leaves s (slotAt (now (pool .entry)) size index) [] [] [] (dropSolver s (slotAt (now (pool .entry)) size index))) ⌝ }
-{
-    let t = s.terms;
-    let checked = check_open(End::Solver, s.due, t, pool, size, index);
-    let Check::Passed = checked else {
-        return SolverDropped {
-            answer: answer_of(checked),
-            session: s,
-        };
-    };
-    spend_at(End::Solver, t, pool, size, index);
-    let kept = [0u32; 16];
-    SolverDropped {
-        answer: Answer::Accepted(0),
-        session: SolverSession {
-            terms: t,
-            due: 0,
-            s: kept,
-        },
     }
 }
 
