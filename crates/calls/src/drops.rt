@@ -1,9 +1,9 @@
 // Drops.
 use crate::words;
-use dropping::blinder_drop;
-use dropping::solver_drop;
+use blinder::blinder_drop;
 use judging::message::no_head;
 use product::right_drop;
+use solver::solver_drop;
 
 #[no_mangle]
 pub extern "C" fn call_right_drop(

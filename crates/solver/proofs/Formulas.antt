@@ -132,7 +132,14 @@ pub last-left : (x : SolverSession) (s : Slot) (a : Message) (out : List ℕ) (f
     → sent ≡ cond (regular (x .terms .q) (x .terms .m) (sumOf (x .terms) s (a .residues)))
     (over (solution (x .terms .q) (x .terms .m) (sumOf (x .terms) s (a .residues)) (sideOf (x .terms) (a .residues) (x .s))) out) out
     → _≡_ {A = Computed SolverSession}
-    (record { answer = answerReply (lastAnswer found); session = closedTerms (x .terms); head = lastHead (x .terms) found; scratch = []; sent = sent; result = [] })
+    (record {
+      answer = answerReply (lastAnswer found);
+      session = closedTerms (x .terms);
+      head = lastHead (x .terms) found;
+      scratch = [];
+      sent = sent;
+      result = [];
+    })
     (computed [] out [] (solverLastEffect x s a))
 unfolding solverLastEffect jointSum sumOf sideOf sentPart messageParts keptS sideSize join over
 last-left x s a out true r o = rw (o, sym r) (simp append-nil)

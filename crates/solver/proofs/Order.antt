@@ -46,7 +46,8 @@ first-phases t s l x room = last-phase Singular _ _ (λ r h. absurd (none-later 
 -- by computing: the sorted tests are those of the two phases, sorted
 pub later-phases : (kind sends : ℕ) (x : SolverSession) (s : Slot) (a : Message) (room : ℕ)
     → judged (receiving kind sends x s a room) ≡ after (judged (arriving kind sends x s a room)) (judged (keptTests (x .terms .q) (keptS x)))
-unfolding sorted sortedBy only given arriving receiving solverTests keptTests laterTests openTests messageTests dueTests termsTests shapeTests slotTests halfTests tapeTests bodyTests inputTests roomTests
+unfolding sorted sortedBy only given arriving receiving solverTests keptTests laterTests openTests messageTests dueTests termsTests shapeTests
+    slotTests halfTests tapeTests bodyTests inputTests roomTests
 later-phases kind sends x s a room =
     let k = keptTests (x .terms .q) (keptS x) in
     judged-phases _ (arriving kind sends x s a room ∷ k ∷ []) refl

@@ -62,8 +62,9 @@ fn write_side(t: Terms, residues: &[u32], kept: &[u32], out: &mut [u32])
 
 // Whether W + V has an inverse, and t, written where it has.
 fn find_t(t: Terms, sum: &[u32], residues: &[u32], kept: &[u32], out: &mut [u32]) -> bool
-    requires { ⌜ (isPrime (t .q) ≡ true) × (1 < t .q) × (t .q < 2147483648) × (sidesFit system (t .m) (t .k) (t .p) ≡ true) × Residues (t .q) (t .m * t .m) (now sum)
-        × (length (now residues) ≡ t .m * t .k + sideSize t) × (length (now kept) ≡ 16) × (t .m ≤ length (now out)) ⌝ }
+    requires { ⌜ (isPrime (t .q) ≡ true) × (1 < t .q) × (t .q < 2147483648) × (sidesFit system (t .m) (t .k) (t .p) ≡ true)
+        × Residues (t .q) (t .m * t .m) (now sum) × (length (now residues) ≡ t .m * t .k + sideSize t)
+        × (length (now kept) ≡ 16) × (t .m ≤ length (now out)) ⌝ }
     ensures { λ r. ⌜ (r ≡ regular (t .q) (t .m) (now (sum .entry)))
         × (now (out .exit) ≡ cond (regular (t .q) (t .m) (now (sum .entry)))
         (over (solution (t .q) (t .m) (now (sum .entry)) (sideOf t (now (residues .entry)) (now (kept .entry)))) (now (out .entry))) (now (out .entry))) ⌝ }

@@ -32,11 +32,12 @@ same-length c = search needs
 returns : tie.Need-returns
 unfolding dropSolver over
 returns c =
+    let check-open = c .before .before .before .check-open in
     let a = c .before .before .before .before .before .before .before .args in
     let s = slotAt (a .pool .now) (a .size) (a .index) in
     let e = c .before .enum-told2 .given .1 in
     let effect = dropped (closedSolver (a .s)) (wordsSpent solver (a .s .terms) (slotWords s)) [] in
-    rw (c .answer-of .ensures, e) (sym (refused-leaves (a .s) s [] [] [] _ effect (sym (c .before .before .before .check-open .ensures) ∙ ap checked e)))
+    rw (c .answer-of .ensures, e) (sym (refused-leaves (a .s) s [] [] [] _ effect (sym (check-open .ensures) ∙ ap checked e)))
 
 spend-at-requires : tie.Need-spend-at-requires
 spend-at-requires c κs =
@@ -54,9 +55,11 @@ same-length-2 c = search needs
 returns-2 : tie.Need-returns-2
 unfolding dropSolver over
 returns-2 c =
+    let check-open = c .before .before .before .before .before .before .before .check-open in
+    let enum-told = c .before .before .before .before .before .enum-told in
     let a = c .before .before .before .before .before .before .before .before .before .before .before .args in
     let s = slotAt (a .pool .now) (a .size) (a .index) in
-    let e = sym (c .before .before .before .before .before .before .before .check-open .ensures) ∙ ap checked (c .before .before .before .before .before .enum-told .given .1) in
+    let e = sym (check-open .ensures) ∙ ap checked (enum-told .given .1) in
     let effect = dropped (closedSolver (a .s)) (wordsSpent solver (a .s .terms) (slotWords s)) [] in
     rw (c .session-of .ensures) (step-leaves (a .s) s [] [] [] _ effect e refl (c .before .before .before .spend-at .ensures))
 

@@ -45,10 +45,12 @@ need-requires c κs = search needs
 returns-2 : tie.Need-returns-2
 unfolding regularTests
 returns-2 c =
+    let check-inputs = c .before .before .before .before .before .check-inputs in
+    let enum-told = c .before .before .before .enum-told in
     let a = c .before .before .before .before .before .before .before .before .before .args in
     (rw (c .before .has-inverse .ensures) at (c .need .ensures))
     ∙ sym (first-phases (a .t) (slotAt (a .pool .now) (a .size) (a .index)) (a .l .now) (a .x .now) (a .room)
-    ∙ goes-past (c .before .before .before .before .before .check-inputs .result) (c .before .before .before .before .before .check-inputs .ensures) (c .before .before .before .enum-told .given .1))
+    ∙ goes-past (check-inputs .result) (check-inputs .ensures) (enum-told .given .1))
 
 pub check-spec : {M : Type 1} → statement M
 check-spec =

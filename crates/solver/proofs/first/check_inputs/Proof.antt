@@ -39,10 +39,16 @@ worst-requires-3 c κs = search needs
 returns : tie.Need-returns
 unfolding roomTests
 returns c =
+    let worst = c .before .before .worst in
+    let check-first = c .before .before .before .before .before .before .before .before .before .check-first in
+    let times = c .before .before .before .before .before .before .before .before .times in
+    let check-input = c .before .before .before .before .before .before .before .check-input in
+    let side-size = c .before .before .before .before .before .before .side-size in
+    let check-input2 = c .before .before .before .before .before .check-input2 in
     also _ (_ ∷ []) (c .worst3 .ensures)
     (also _ _ (c .before .worst2 .ensures)
-    (also _ _ (c .before .before .worst .ensures) (c .before .before .before .before .before .before .before .before .before .check-first .ensures) (rw (c .before .before .before .before .before .before .before .before .times .ensures) at (c .before .before .before .before .before .before .before .check-input .ensures)))
-    (rw (c .before .before .before .before .before .before .side-size .ensures) at (c .before .before .before .before .before .check-input2 .ensures)))
+    (also _ _ (worst .ensures) (check-first .ensures) (rw (times .ensures) at (check-input .ensures)))
+    (rw (side-size .ensures) at (check-input2 .ensures)))
     (rw (c .before .before .before .before .has-room .ensures) at (c .before .before .before .need .ensures))
 
 pub check-inputs-spec : {M : Type 1} → statement M

@@ -20,19 +20,22 @@ matrix-start-requires : tie.Need-matrix-start-requires
 matrix-start-requires c κs =
     let a = c .before .before .before .before .args in
     let s = slotAt (a .pool .now) (a .size) (a .index) in
-    (placed solver (a .t) s (first-known (a .t) s (a .l .now) (a .x .now) (length (a .out .now)) (c .before .before .before .before .pre) .first), omega arith)
+    let f = first-known (a .t) s (a .l .now) (a .x .now) (length (a .out .now)) (c .before .before .before .before .pre) in
+    (placed solver (a .t) s (f .first), omega arith)
 
 matrix-start-requires-2 : tie.Need-matrix-start-requires-2
 matrix-start-requires-2 c κs =
     let a = c .before .before .before .before .before .args in
     let s = slotAt (a .pool .now) (a .size) (a .index) in
-    (placed solver (a .t) s (first-known (a .t) s (a .l .now) (a .x .now) (length (a .out .now)) (c .before .before .before .before .before .pre) .first), omega arith)
+    let f = first-known (a .t) s (a .l .now) (a .x .now) (length (a .out .now)) (c .before .before .before .before .before .pre) in
+    (placed solver (a .t) s (f .first), omega arith)
 
 mul-write-y1 : tie.Need-mul-write-y1
 mul-write-y1 c =
     let a = c .before .before .before .before .before .before .args in
     let s = slotAt (a .pool .now) (a .size) (a .index) in
-    let p = placed solver (a .t) s (first-known (a .t) s (a .l .now) (a .x .now) (length (a .out .now)) (c .before .before .before .before .before .before .pre) .first) in
+    let f = first-known (a .t) s (a .l .now) (a .x .now) (length (a .out .now)) (c .before .before .before .before .before .before .pre) in
+    let p = placed solver (a .t) s (f .first) in
     let m = matrix-stands solver (a .t) 0 (a .pool .now) (a .size) (a .index) p (c .before .matrix-start .ensures) (c .matrix-start2 .ensures) in
     search needs
 
@@ -40,7 +43,8 @@ sub-write-y1 : tie.Need-sub-write-y1
 sub-write-y1 c =
     let a = c .before .before .before .before .before .before .args in
     let s = slotAt (a .pool .now) (a .size) (a .index) in
-    let p = placed solver (a .t) s (first-known (a .t) s (a .l .now) (a .x .now) (length (a .out .now)) (c .before .before .before .before .before .before .pre) .first) in
+    let f = first-known (a .t) s (a .l .now) (a .x .now) (length (a .out .now)) (c .before .before .before .before .before .before .pre) in
+    let p = placed solver (a .t) s (f .first) in
     let m = matrix-stands solver (a .t) 0 (a .pool .now) (a .size) (a .index) p (c .before .matrix-start .ensures) (c .matrix-start2 .ensures) in
     search needs
 
@@ -48,7 +52,8 @@ part-write-y1-start : tie.Need-part-write-y1-start
 part-write-y1-start c =
     let a = c .before .before .before .before .before .before .args in
     let s = slotAt (a .pool .now) (a .size) (a .index) in
-    let p = placed solver (a .t) s (first-known (a .t) s (a .l .now) (a .x .now) (length (a .out .now)) (c .before .before .before .before .before .before .pre) .first) in
+    let f = first-known (a .t) s (a .l .now) (a .x .now) (length (a .out .now)) (c .before .before .before .before .before .before .pre) in
+    let p = placed solver (a .t) s (f .first) in
     let m = matrix-stands solver (a .t) 0 (a .pool .now) (a .size) (a .index) p (c .before .matrix-start .ensures) (c .matrix-start2 .ensures) in
     search needs
 
@@ -56,17 +61,21 @@ part-write-y1-end : tie.Need-part-write-y1-end
 part-write-y1-end c =
     let a = c .before .before .before .before .before .before .args in
     let s = slotAt (a .pool .now) (a .size) (a .index) in
-    let p = placed solver (a .t) s (first-known (a .t) s (a .l .now) (a .x .now) (length (a .out .now)) (c .before .before .before .before .before .before .pre) .first) in
+    let f = first-known (a .t) s (a .l .now) (a .x .now) (length (a .out .now)) (c .before .before .before .before .before .before .pre) in
+    let p = placed solver (a .t) s (f .first) in
     let m = matrix-stands solver (a .t) 0 (a .pool .now) (a .size) (a .index) p (c .before .matrix-start .ensures) (c .matrix-start2 .ensures) in
     search needs
 
 write-y1-requires : tie.Need-write-y1-requires
 write-y1-requires c κs =
+    let pre = c .before .before .before .before .before .before .before .before .pre in
+    let matrix-start = c .before .before .before .matrix-start in
+    let matrix-start2 = c .before .before .matrix-start2 in
     let a = c .before .before .before .before .before .before .before .before .args in
     let s = slotAt (a .pool .now) (a .size) (a .index) in
-    let f = first-known (a .t) s (a .l .now) (a .x .now) (length (a .out .now)) (c .before .before .before .before .before .before .before .before .pre) in
+    let f = first-known (a .t) s (a .l .now) (a .x .now) (length (a .out .now)) (pre) in
     let p = placed solver (a .t) s (f .first) in
-    let m = matrix-stands solver (a .t) 0 (a .pool .now) (a .size) (a .index) p (c .before .before .before .matrix-start .ensures) (c .before .before .matrix-start2 .ensures) in (
+    let m = matrix-stands solver (a .t) 0 (a .pool .now) (a .size) (a .index) p (matrix-start .ensures) (matrix-start2 .ensures) in (
       omega (arith, f .first .terms .big),
       p .sides,
       f .l-fits .size,
@@ -84,10 +93,14 @@ same-length c = search needs
 returns : tie.Need-returns
 unfolding solverFirstEffect join over
 returns c =
+    let pre = c .before .before .before .before .before .before .before .before .before .before .before .before .pre in
+    let matrix-start = c .before .before .before .before .before .before .before .matrix-start in
+    let matrix-start2 = c .before .before .before .before .before .before .matrix-start2 in
     let a = c .before .before .before .before .before .before .before .before .before .before .before .before .args in
     let s = slotAt (a .pool .now) (a .size) (a .index) in
-    let p = placed solver (a .t) s (first-known (a .t) s (a .l .now) (a .x .now) (length (a .out .now)) (c .before .before .before .before .before .before .before .before .before .before .before .before .pre) .first) in
-    let m = matrix-stands solver (a .t) 0 (a .pool .now) (a .size) (a .index) p (c .before .before .before .before .before .before .before .matrix-start .ensures) (c .before .before .before .before .before .before .matrix-start2 .ensures) in
+    let f = first-known (a .t) s (a .l .now) (a .x .now) (length (a .out .now)) (pre) in
+    let p = placed solver (a .t) s (f .first) in
+    let m = matrix-stands solver (a .t) 0 (a .pool .now) (a .size) (a .index) p (matrix-start .ensures) (matrix-start2 .ensures) in
     rw (c .session-of .ensures, c .before .before .before .write-y1 .ensures, m .is) (simp append-nil)
 
 pub compute-spec : {M : Type 1} → statement M

@@ -33,11 +33,12 @@ same-length c = search needs
 returns : tie.Need-returns
 unfolding solverFirst
 returns c =
+    let check = c .before .before .before .before .check in
     let a = c .before .before .before .before .before .before .before .before .before .before .args in
     let s = slotAt (a .pool .now) (a .size) (a .index) in
     let e = c .before .before .enum-told2 .given .1 in
     rw (c .refused .ensures, c .before .no-session .ensures, e)
-    (sym (refused-leaves noSolver s [] (a .out .now) [] _ (solverFirstEffect (a .t) s (a .l .now) (a .x .now)) (sym (c .before .before .before .before .check .ensures) ∙ ap checked e)))
+    (sym (refused-leaves noSolver s [] (a .out .now) [] _ (solverFirstEffect (a .t) s (a .l .now) (a .x .now)) (sym (check .ensures) ∙ ap checked e)))
 
 compute-requires : tie.Need-compute-requires
 compute-requires c κs = sym (c .before .before .before .before .check .ensures) ∙ ap checked (c .before .before .enum-told .given .1)
@@ -45,9 +46,11 @@ compute-requires c κs = sym (c .before .before .before .before .check .ensures)
 take-up-at-requires : tie.Need-take-up-at-requires
 take-up-at-requires c κs =
     let far = c .before .before .before .before .before .before .before .before .before .before in
+    let check = c .before .before .before .before .before .before .before .before .check in
+    let enum-told = c .before .before .before .before .before .before .enum-told in
     let a = far .before .before .before .before .args in
     let s = slotAt (a .pool .now) (a .size) (a .index) in
-    let passed = sym (c .before .before .before .before .before .before .before .before .check .ensures) ∙ ap checked (c .before .before .before .before .before .before .enum-told .given .1) in
+    let passed = sym (check .ensures) ∙ ap checked (enum-told .given .1) in
     placed solver (a .t) s (first-known (a .t) s (a .l .now) (a .x .now) (length (a .out .now)) passed .first)
 
 same-length-2 : tie.Need-same-length-2
@@ -60,10 +63,14 @@ returns-2 : tie.Need-returns-2
 unfolding solverFirst solverFirstEffect
 returns-2 c =
     let far = c .before .before .before .before .before .before .before .before .before .before in
+    let check = far .before .check in
+    let enum-told = c .before .before .before .before .before .before .before .before .before .enum-told in
+    let compute = c .before .before .before .before .before .before .compute in
+    let take-up-at = c .before .before .take-up-at in
     let a = far .before .before .before .before .before .before .before .args in
     let s = slotAt (a .pool .now) (a .size) (a .index) in
-    let passed = sym (far .before .check .ensures) ∙ ap checked (c .before .before .before .before .before .before .before .before .before .enum-told .given .1) in
-    step-leaves noSolver s [] (a .out .now) [] _ (solverFirstEffect (a .t) s (a .l .now) (a .x .now)) passed (c .before .before .before .before .before .before .compute .ensures) (c .before .before .take-up-at .ensures)
+    let passed = sym (check .ensures) ∙ ap checked (enum-told .given .1) in
+    step-leaves noSolver s [] (a .out .now) [] _ (solverFirstEffect (a .t) s (a .l .now) (a .x .now)) passed (compute .ensures) (take-up-at .ensures)
 
 pub solver-first-spec : {M : Type 1} → statement M
 solver-first-spec =

@@ -23,7 +23,9 @@ times-requires c κs = search needs
 
 sub-write-beside : tie.Need-sub-write-beside
 sub-write-beside c =
-    let f = few (c .before .before .before .before .before .before .before .args .t) (c .before .before .before .before .before .before .before .pre .1) in
+    let args = c .before .before .before .before .before .before .before .args in
+    let pre = c .before .before .before .before .before .before .before .pre in
+    let f = few (args .t) (pre .1) in
     omega (arith, f .least)
 
 cast-write-beside : tie.Need-cast-write-beside
@@ -47,7 +49,8 @@ array-share-prefix-y c =
     let a = c .before .before .before .before .before .before .before .before .before .before .args in
     let f = few (a .t) (c .before .before .before .before .before .before .before .before .before .before .pre .1) in
     let b = beside-length (a .t .m) (a .t .m) (columns (a .t .m) (a .t .p)) (a .l .now) (a .x .now) ∙ ap (λ (n : ℕ). a .t .m * n) (f .whole) in
-    let n = after-over (beside (a .t .m) (a .t .m) (columns (a .t .m) (a .t .p)) (a .l .now) (a .x .now)) _ (c .before .write-beside .ensures) (omega (arith, b, f .mp)) in
+    let y = beside (a .t .m) (a .t .m) (columns (a .t .m) (a .t .p)) (a .l .now) (a .x .now) in
+    let n = after-over y _ (c .before .write-beside .ensures) (omega (arith, b, f .mp)) in
     omega (arith, n, f .mp, c .before .before .before .before .times .ensures)
 
 slice-aggregate-write-difference : tie.Need-slice-aggregate-write-difference
@@ -56,7 +59,8 @@ slice-aggregate-write-difference c =
     let a = c .before .before .before .before .before .before .before .before .before .before .before .args in
     let f = few (a .t) (c .before .before .before .before .before .before .before .before .before .before .before .pre .1) in
     let b = beside-length (a .t .m) (a .t .m) (columns (a .t .m) (a .t .p)) (a .l .now) (a .x .now) ∙ ap (λ (n : ℕ). a .t .m * n) (f .whole) in
-    let n = after-over (beside (a .t .m) (a .t .m) (columns (a .t .m) (a .t .p)) (a .l .now) (a .x .now)) _ (c .before .before .write-beside .ensures) (omega (arith, b, f .mp)) in
+    let y = beside (a .t .m) (a .t .m) (columns (a .t .m) (a .t .p)) (a .l .now) (a .x .now) in
+    let n = after-over y _ (c .before .before .write-beside .ensures) (omega (arith, b, f .mp)) in
     sym (length-take-le _ _ (omega (arith, n, f .mp, c .before .before .before .before .before .times .ensures)))
 
 write-difference-requires : tie.Need-write-difference-requires
@@ -67,7 +71,8 @@ write-difference-requires c κs =
     let f = few (a .t) (h .1) in
     let times = c .before .before .before .before .before .before .times in
     let b = beside-length (a .t .m) (a .t .m) (columns (a .t .m) (a .t .p)) (a .l .now) (a .x .now) ∙ ap (λ (n : ℕ). a .t .m * n) (f .whole) in
-    let n = after-over (beside (a .t .m) (a .t .m) (columns (a .t .m) (a .t .p)) (a .l .now) (a .x .now)) _ (c .before .before .before .write-beside .ensures) (omega (arith, b, f .mp)) in
+    let y = beside (a .t .m) (a .t .m) (columns (a .t .m) (a .t .p)) (a .l .now) (a .x .now) in
+    let n = after-over y _ (c .before .before .before .write-beside .ensures) (omega (arith, b, f .mp)) in
     let size = times .ensures in
     (h .0, simp length-take (omega (arith, n, f .mp, size)), omega (arith, f .kp-is, h .4, size), omega (arith, f .kp-is, h .5, size))
 
@@ -78,13 +83,14 @@ returns : tie.Need-returns
 unfolding columns
 returns c =
     let far = c .before .before .before .before .before .before .before .before .before .before in
+    let write-beside = c .before .before .before .before .before .before .write-beside in
     let a = far .before .before .before .before .before .args in
     let f = few (a .t) (far .before .before .before .before .before .pre .1) in
     let times = c .before .before .before .before .before .before .before .before .before .times in
     let b = beside (a .t .m) (a .t .m) (columns (a .t .m) (a .t .p)) (a .l .now) (a .x .now) in
     let n = beside-length (a .t .m) (a .t .m) (columns (a .t .m) (a .t .p)) (a .l .now) (a .x .now) ∙ ap (λ (n : ℕ). a .t .m * n) (f .whole) in
     y1-sent (a .t .q) (a .t .m) (a .t .p) (times .result) b (a .y0 .now) (a .out .now) (c .before .before .write-difference .ensures)
-    (over-part (times .result) b _ (c .before .before .before .before .before .before .write-beside .ensures) (n ∙ sym (times .ensures))) (times .ensures)
+    (over-part (times .result) b _ (write-beside .ensures) (n ∙ sym (times .ensures))) (times .ensures)
 
 pub write-y1-spec : {M : Type 1} → statement M
 write-y1-spec =

@@ -24,10 +24,11 @@ slice-aggregate-write-joint c = refl
 
 write-joint-requires : tie.Need-write-joint-requires
 write-joint-requires c κs =
+    let pre = c .before .before .before .before .before .before .pre in
     let a = c .before .before .before .before .before .before .args in
     let t = a .s .terms in
     let s = slotAt (a .pool .now) (a .size) (a .index) in
-    let k = last-known (a .s) s (messageWith (a .a) (a .residues .now)) (length (a .out .now)) (c .before .before .before .before .before .before .pre) in
+    let k = last-known (a .s) s (messageWith (a .a) (a .residues .now)) (length (a .out .now)) (pre) in
     let o = k .later .session-open in
     let n = last-counts (a .s) s (messageWith (a .a) (a .residues .now)) (length (a .out .now)) k in
     let f = few t (o .terms .sides) in
@@ -35,10 +36,11 @@ write-joint-requires c κs =
 
 array-share-prefix-sum : tie.Need-array-share-prefix-sum
 array-share-prefix-sum c =
+    let pre = c .before .before .before .before .before .before .before .before .before .pre in
     let a = c .before .before .before .before .before .before .before .before .before .args in
     let t = a .s .terms in
     let s = slotAt (a .pool .now) (a .size) (a .index) in
-    let o = last-known (a .s) s (messageWith (a .a) (a .residues .now)) (length (a .out .now)) (c .before .before .before .before .before .before .before .before .before .pre) .later .session-open in
+    let o = last-known (a .s) s (messageWith (a .a) (a .residues .now)) (length (a .out .now)) (pre) .later .session-open in
     let f = few t (o .terms .sides) in
     let r = sum-residues t s (a .residues .now) (omega (arith, o .terms .big)) .size in
     let n = after-over (sumOf t s (a .residues .now)) _ (c .before .before .write-joint .ensures) (omega (arith, r, f .mm)) in
@@ -46,10 +48,11 @@ array-share-prefix-sum c =
 
 slice-aggregate-find-t : tie.Need-slice-aggregate-find-t
 slice-aggregate-find-t c =
+    let pre = c .before .before .before .before .before .before .before .before .before .before .pre in
     let a = c .before .before .before .before .before .before .before .before .before .before .args in
     let t = a .s .terms in
     let s = slotAt (a .pool .now) (a .size) (a .index) in
-    let o = last-known (a .s) s (messageWith (a .a) (a .residues .now)) (length (a .out .now)) (c .before .before .before .before .before .before .before .before .before .before .pre) .later .session-open in
+    let o = last-known (a .s) s (messageWith (a .a) (a .residues .now)) (length (a .out .now)) (pre) .later .session-open in
     let f = few t (o .terms .sides) in
     let r = sum-residues t s (a .residues .now) (omega (arith, o .terms .big)) .size in
     let n = after-over (sumOf t s (a .residues .now)) _ (c .before .before .before .write-joint .ensures) (omega (arith, r, f .mm)) in
@@ -57,27 +60,32 @@ slice-aggregate-find-t c =
 
 slice-aggregate-find-t-2 : tie.Need-slice-aggregate-find-t-2
 slice-aggregate-find-t-2 c =
-    sym (session-array (c .before .before .before .before .before .before .before .before .before .before .before .args .s .s) (c .before .before .before .before .before .before .before .before .before .before .before .good .1 .1 .1 .0 .1 .1 .1 .1 .0 .1 .0 .1))
+    let args = c .before .before .before .before .before .before .before .before .before .before .before .args in
+    let good = c .before .before .before .before .before .before .before .before .before .before .before .good in
+    sym (session-array (args .s .s) (good .1 .1 .1 .0 .1 .1 .1 .1 .0 .1 .0 .1))
 
 find-t-requires : tie.Need-find-t-requires
 unfolding fieldFits
 find-t-requires c κs =
-    let start = c .before .before .before .before .before .before .before .before .before .before .before .before .args in
-    let a = start in
+    let pre = c .before .before .before .before .before .before .before .before .before .before .before .before .pre in
+    let times = c .before .before .before .before .before .before .before .times in
+    let write-joint = c .before .before .before .before .before .write-joint in
+    let good = c .before .before .before .before .before .before .before .before .before .before .before .before .good in
+    let a = c .before .before .before .before .before .before .before .before .before .before .before .before .args in
     let t = a .s .terms in
     let s = slotAt (a .pool .now) (a .size) (a .index) in
-    let k = last-known (a .s) s (messageWith (a .a) (a .residues .now)) (length (a .out .now)) (c .before .before .before .before .before .before .before .before .before .before .before .before .pre) in
+    let k = last-known (a .s) s (messageWith (a .a) (a .residues .now)) (length (a .out .now)) (pre) in
     let o = k .later .session-open in
     let n = last-counts (a .s) s (messageWith (a .a) (a .residues .now)) (length (a .out .now)) k in
     let r = sum-residues t s (a .residues .now) (omega (arith, o .terms .big)) in
-    let e = over-part (c .before .before .before .before .before .before .before .times .result) (sumOf t s (a .residues .now)) _ (c .before .before .before .before .before .write-joint .ensures) (r .size ∙ sym (c .before .before .before .before .before .before .before .times .ensures)) in (
+    let e = over-part (times .result) (sumOf t s (a .residues .now)) _ (write-joint .ensures) (r .size ∙ sym (times .ensures)) in (
       o .terms .field,
       o .terms .big,
       omega (arith, o .terms .small),
       o .terms .sides,
       rw e r,
       n .0,
-      session-array (a .s .s) (c .before .before .before .before .before .before .before .before .before .before .before .before .good .1 .1 .1 .0 .1 .1 .1 .1 .0 .1 .0 .1),
+      session-array (a .s .s) (good .1 .1 .1 .0 .1 .1 .1 .1 .0 .1 .0 .1),
       omega (arith, n .1, one-side t (o .terms .sides)),
     )
 
@@ -90,15 +98,18 @@ same-length c = search needs
 returns : tie.Need-returns
 returns c =
     let far = c .before .before .before .before .before .before .before .before .before .before in
+    let pre = far .before .before .before .before .before .before .pre in
+    let write-joint = c .before .before .before .before .before .before .before .before .before .write-joint in
     let a = far .before .before .before .before .before .before .args in
     let t = a .s .terms in
     let s = slotAt (a .pool .now) (a .size) (a .index) in
-    let k = last-known (a .s) s (messageWith (a .a) (a .residues .now)) (length (a .out .now)) (far .before .before .before .before .before .before .pre) in
+    let k = last-known (a .s) s (messageWith (a .a) (a .residues .now)) (length (a .out .now)) (pre) in
     let r = sum-residues t s (a .residues .now) (omega (arith, k .later .session-open .terms .big)) in
     let times = far .before .times in
-    let e = over-part (times .result) (sumOf t s (a .residues .now)) _ (c .before .before .before .before .before .before .before .before .before .write-joint .ensures) (r .size ∙ sym (times .ensures)) in
+    let e = over-part (times .result) (sumOf t s (a .residues .now)) _ (write-joint .ensures) (r .size ∙ sym (times .ensures)) in
     let found = c .before .before .before .find-t in
-    rw (c .answer .ensures) (last-left (a .s) s (messageWith (a .a) (a .residues .now)) (a .out .now) (found .result) (rw e at (found .ensures .0)) (rw e at (found .ensures .1)))
+    rw (c .answer .ensures)
+    (last-left (a .s) s (messageWith (a .a) (a .residues .now)) (a .out .now) (found .result) (rw e at (found .ensures .0)) (rw e at (found .ensures .1)))
 
 pub compute-spec : {M : Type 1} → statement M
 compute-spec =

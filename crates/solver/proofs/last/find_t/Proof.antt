@@ -39,20 +39,22 @@ array-share-prefix-right c =
 
 slice-aggregate-solve : tie.Need-slice-aggregate-solve
 slice-aggregate-solve c =
+    let write-side = c .before .before .before .write-side in
     let a = c .before .before .before .before .before .before .before .before .before .before .args in
     let h = c .before .before .before .before .before .before .before .before .before .before .pre in
     let f = few (a .t) (h .3) in
     let r = side-residues (a .t) (a .residues .now) (a .kept .now) (omega (arith, h .1)) .size in
-    let n = after-over (sideOf (a .t) (a .residues .now) (a .kept .now)) _ (c .before .before .before .write-side .ensures) (omega (arith, r, f .side-few)) in
+    let n = after-over (sideOf (a .t) (a .residues .now) (a .kept .now)) _ (write-side .ensures) (omega (arith, r, f .side-few)) in
     sym (length-take-le _ _ (omega (arith, n, f .side-few, c .before .before .before .before .before .side-size .ensures)))
 
 solve-requires : tie.Need-solve-requires
 solve-requires c κs =
+    let write-side = c .before .before .before .before .write-side in
     let a = c .before .before .before .before .before .before .before .before .before .before .before .args in
     let h = c .before .before .before .before .before .before .before .before .before .before .before .pre in
     let side = c .before .before .before .before .before .before .side-size in
     let r = side-residues (a .t) (a .residues .now) (a .kept .now) (omega (arith, h .1)) in
-    let e = over-part (side .result) (sideOf (a .t) (a .residues .now) (a .kept .now)) _ (c .before .before .before .before .write-side .ensures) (r .size ∙ sym (side .ensures)) in
+    let e = over-part (side .result) (sideOf (a .t) (a .residues .now) (a .kept .now)) _ (write-side .ensures) (r .size ∙ sym (side .ensures)) in
     let one : a .t .m * 1 ≡ sideSize (a .t) = omega (arith, one-side (a .t) (h .3)) in
     (h .0, h .2, few (a .t) (h .3) .few, h .4, rw (e, one) r, h .7)
 
@@ -62,11 +64,12 @@ same-length c = search needs
 returns : tie.Need-returns
 returns c =
     let far = c .before .before .before .before .before .before .before .before .before .before in
+    let write-side = c .before .before .before .before .before .before .before .write-side in
     let a = far .before .before .before .before .args in
     let h = far .before .before .before .before .pre in
     let side = c .before .before .before .before .before .before .before .before .before .side-size in
     let r = side-residues (a .t) (a .residues .now) (a .kept .now) (omega (arith, h .1)) in
-    let e = over-part (side .result) (sideOf (a .t) (a .residues .now) (a .kept .now)) _ (c .before .before .before .before .before .before .before .write-side .ensures) (r .size ∙ sym (side .ensures)) in
+    let e = over-part (side .result) (sideOf (a .t) (a .residues .now) (a .kept .now)) _ (write-side .ensures) (r .size ∙ sym (side .ensures)) in
     (c .before .before .solve .ensures .0, rw e at (c .before .before .solve .ensures .1))
 
 pub find-t-spec : {M : Type 1} → statement M

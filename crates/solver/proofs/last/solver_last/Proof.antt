@@ -32,11 +32,12 @@ same-length c = search needs
 returns : tie.Need-returns
 unfolding solverLast solverLastTests receiving
 returns c =
+    let check = c .before .before .before .check in
     let a = c .before .before .before .before .before .before .before .before .args in
     let s = slotAt (a .pool .now) (a .size) (a .index) in
     let e = c .before .enum-told2 .given .1 in
     let effect = solverLastEffect (a .s) s (messageWith (a .a) (a .residues .now)) in
-    rw (c .refused .ensures, e) (sym (refused-leaves (a .s) s [] (a .out .now) [] _ effect (sym (c .before .before .before .check .ensures) ∙ ap checked e)))
+    rw (c .refused .ensures, e) (sym (refused-leaves (a .s) s [] (a .out .now) [] _ effect (sym (check .ensures) ∙ ap checked e)))
 
 compute-requires : tie.Need-compute-requires
 unfolding solverLastTests receiving
@@ -45,9 +46,11 @@ compute-requires c κs = sym (c .before .before .before .before .check .ensures)
 spend-at-requires : tie.Need-spend-at-requires
 unfolding solverLastTests receiving
 spend-at-requires c κs =
+    let check = c .before .before .before .before .before .before .before .before .check in
+    let enum-told = c .before .before .before .before .before .before .enum-told in
     let a = c .before .before .before .before .before .before .before .before .before .before .before .before .before .args in
     let s = slotAt (a .pool .now) (a .size) (a .index) in
-    let passed = sym (c .before .before .before .before .before .before .before .before .check .ensures) ∙ ap checked (c .before .before .before .before .before .before .enum-told .given .1) in
+    let passed = sym (check .ensures) ∙ ap checked (enum-told .given .1) in
     let k = last-known (a .s) s (messageWith (a .a) (a .residues .now)) (length (a .out .now)) passed in
     placed solver (a .s .terms) s (k .later .session-open)
 
@@ -61,11 +64,15 @@ returns-2 : tie.Need-returns-2
 unfolding solverLast solverLastTests solverLastEffect receiving
 returns-2 c =
     let far = c .before .before .before .before .before .before .before .before .before .before in
+    let check = far .before .check in
+    let enum-told = c .before .before .before .before .before .before .before .before .before .enum-told in
+    let compute = c .before .before .before .before .before .before .compute in
+    let spend-at = c .before .before .spend-at in
     let a = far .before .before .before .before .before .before .args in
     let s = slotAt (a .pool .now) (a .size) (a .index) in
-    let passed = sym (far .before .check .ensures) ∙ ap checked (c .before .before .before .before .before .before .before .before .before .enum-told .given .1) in
+    let passed = sym (check .ensures) ∙ ap checked (enum-told .given .1) in
     let effect = solverLastEffect (a .s) s (messageWith (a .a) (a .residues .now)) in
-    step-leaves (a .s) s [] (a .out .now) [] _ effect passed (c .before .before .before .before .before .before .compute .ensures) (c .before .before .spend-at .ensures)
+    step-leaves (a .s) s [] (a .out .now) [] _ effect passed (compute .ensures) (spend-at .ensures)
 
 pub solver-last-spec : {M : Type 1} → statement M
 solver-last-spec =

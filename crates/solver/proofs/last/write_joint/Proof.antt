@@ -23,30 +23,40 @@ matrix-start-requires-2 c κs = (c .before .before .before .before .before .pre 
 
 slice-aggregate-write-sum : tie.Need-slice-aggregate-write-sum
 slice-aggregate-write-sum c =
-    sym (length-take-le _ _ (omega (arith, c .before .before .before .times .ensures, c .before .before .before .before .before .before .before .pre .2)))
+    let times = c .before .before .before .times in
+    let pre = c .before .before .before .before .before .before .before .pre in
+    sym (length-take-le _ _ (omega (arith, times .ensures, pre .2)))
 
 mul-write-sum : tie.Need-mul-write-sum
 mul-write-sum c =
+    let pre = c .before .before .before .before .before .before .before .pre in
+    let matrix-start = c .before .before .matrix-start in
     let a = c .before .before .before .before .before .before .before .args in
-    let m = matrix-stands solver (a .t) 3 (a .pool .now) (a .size) (a .index) (c .before .before .before .before .before .before .before .pre .0) (c .before .before .matrix-start .ensures) (c .before .matrix-start2 .ensures) in
+    let m = matrix-stands solver (a .t) 3 (a .pool .now) (a .size) (a .index) (pre .0) (matrix-start .ensures) (c .before .matrix-start2 .ensures) in
     search needs
 
 sub-write-sum : tie.Need-sub-write-sum
 sub-write-sum c =
+    let pre = c .before .before .before .before .before .before .before .pre in
+    let matrix-start = c .before .before .matrix-start in
     let a = c .before .before .before .before .before .before .before .args in
-    let m = matrix-stands solver (a .t) 3 (a .pool .now) (a .size) (a .index) (c .before .before .before .before .before .before .before .pre .0) (c .before .before .matrix-start .ensures) (c .before .matrix-start2 .ensures) in
+    let m = matrix-stands solver (a .t) 3 (a .pool .now) (a .size) (a .index) (pre .0) (matrix-start .ensures) (c .before .matrix-start2 .ensures) in
     search needs
 
 part-write-sum-start : tie.Need-part-write-sum-start
 part-write-sum-start c =
+    let pre = c .before .before .before .before .before .before .before .pre in
+    let matrix-start = c .before .before .matrix-start in
     let a = c .before .before .before .before .before .before .before .args in
-    let m = matrix-stands solver (a .t) 3 (a .pool .now) (a .size) (a .index) (c .before .before .before .before .before .before .before .pre .0) (c .before .before .matrix-start .ensures) (c .before .matrix-start2 .ensures) in
+    let m = matrix-stands solver (a .t) 3 (a .pool .now) (a .size) (a .index) (pre .0) (matrix-start .ensures) (c .before .matrix-start2 .ensures) in
     search needs
 
 part-write-sum-end : tie.Need-part-write-sum-end
 part-write-sum-end c =
+    let pre = c .before .before .before .before .before .before .before .pre in
+    let matrix-start = c .before .before .matrix-start in
     let a = c .before .before .before .before .before .before .before .args in
-    let m = matrix-stands solver (a .t) 3 (a .pool .now) (a .size) (a .index) (c .before .before .before .before .before .before .before .pre .0) (c .before .before .matrix-start .ensures) (c .before .matrix-start2 .ensures) in
+    let m = matrix-stands solver (a .t) 3 (a .pool .now) (a .size) (a .index) (pre .0) (matrix-start .ensures) (c .before .matrix-start2 .ensures) in
     search needs
 
 write-sum-requires : tie.Need-write-sum-requires
@@ -65,13 +75,14 @@ same-length c = search needs
 
 returns : tie.Need-returns
 returns c =
+    let write-sum = c .before .before .write-sum in
     let a = c .before .before .before .before .before .before .before .before .before .before .before .before .args in
     let h = c .before .before .before .before .before .before .before .before .before .before .before .before .pre in
     let from = c .before .before .before .before .before .before .before .matrix-start in
     let stop = c .before .before .before .before .before .before .matrix-start2 in
     let times = c .before .before .before .before .before .before .before .before .times in
     let m = matrix-stands solver (a .t) 3 (a .pool .now) (a .size) (a .index) (h .0) (from .ensures) (stop .ensures) in
-    joint-sum (a .t) (slotAt (a .pool .now) (a .size) (a .index)) (a .residues .now) (times .result) (a .out .now) (c .before .before .write-sum .ensures)
+    joint-sum (a .t) (slotAt (a .pool .now) (a .size) (a .index)) (a .residues .now) (times .result) (a .out .now) (write-sum .ensures)
     (times .ensures ∙ few (a .t) (h .0 .sides) .mk-is) (w-part (a .t) (a .residues .now) (times .result) (times .ensures)) (m .is)
 
 pub write-joint-spec : {M : Type 1} → statement M

@@ -29,7 +29,9 @@ part-write-sum-end c = omega (arith, c .before .times .ensures, c .before .befor
 
 slice-aggregate-write-sum : tie.Need-slice-aggregate-write-sum
 slice-aggregate-write-sum c =
-    sym (length-take-le _ _ (omega (arith, c .before .before .side-size .ensures, c .before .before .before .before .before .before .before .pre .2)))
+    let side-size = c .before .before .side-size in
+    let pre = c .before .before .before .before .before .before .before .pre in
+    sym (length-take-le _ _ (omega (arith, side-size .ensures, pre .2)))
 
 write-sum-requires : tie.Need-write-sum-requires
 write-sum-requires c κs =
@@ -43,11 +45,12 @@ same-length c = search needs
 
 returns : tie.Need-returns
 returns c =
+    let pre = c .before .before .before .before .before .before .before .before .before .before .before .pre in
     let a = c .before .before .before .before .before .before .before .before .before .before .before .args in
     let times = c .before .before .before .before .before .before .before .times in
     let side = c .before .before .before .before .before .before .side-size in
     joint-side (a .t) (a .residues .now) (a .kept .now) (side .result) (a .out .now) (c .before .before .write-sum .ensures) (side .ensures)
-    (c-part (a .t) (a .residues .now) (times .result) (times .ensures) (c .before .before .before .before .before .before .before .before .before .before .before .pre .1)) (ap (λ (n : ℕ). take n (a .kept .now)) (side .ensures))
+    (c-part (a .t) (a .residues .now) (times .result) (times .ensures) (pre .1)) (ap (λ (n : ℕ). take n (a .kept .now)) (side .ensures))
 
 pub write-side-spec : {M : Type 1} → statement M
 write-side-spec =

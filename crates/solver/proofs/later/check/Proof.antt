@@ -33,10 +33,11 @@ check-kept-requires c κs =
 
 returns-2 : tie.Need-returns-2
 returns-2 c =
+    let check-arriving = c .before .before .before .check-arriving in
     let a = c .before .before .before .before .before .before .args in
     c .check-kept .ensures
     ∙ sym (later-phases (a .kind) (a .sends) (a .s) (slotAt (a .pool .now) (a .size) (a .index)) (messageWith (a .a) (a .residues .now)) (a .room)
-    ∙ goes-past (c .before .before .before .check-arriving .result) (c .before .before .before .check-arriving .ensures) (c .before .enum-told .given .1))
+    ∙ goes-past (check-arriving .result) (check-arriving .ensures) (c .before .enum-told .given .1))
 
 pub check-spec : {M : Type 1} → statement M
 check-spec =

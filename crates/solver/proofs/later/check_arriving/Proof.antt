@@ -21,7 +21,9 @@ worst-requires c κs = search needs
 returns : tie.Need-returns
 unfolding arriving roomTests
 returns c =
-    also _ _ (c .worst .ensures) (c .before .before .before .check-later .ensures) (rw (c .before .before .has-room .ensures) at (c .before .check-room .ensures))
+    let check-later = c .before .before .before .check-later in
+    let has-room = c .before .before .has-room in
+    also _ _ (c .worst .ensures) (check-later .ensures) (rw (has-room .ensures) at (c .before .check-room .ensures))
 
 pub check-arriving-spec : {M : Type 1} → statement M
 check-arriving-spec =

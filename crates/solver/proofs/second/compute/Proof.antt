@@ -26,20 +26,22 @@ slice-aggregate-find-share c = refl
 
 find-share-requires : tie.Need-find-share-requires
 find-share-requires c κs =
+    let pre = c .before .before .before .before .before .before .pre in
     let a = c .before .before .before .before .before .before .args in
     let t = a .s .terms in
     let s = slotAt (a .pool .now) (a .size) (a .index) in
-    let k = second-known (a .s) s (messageWith (a .a) (a .residues .now)) (length (a .out .now)) (c .before .before .before .before .before .before .pre) in
+    let k = second-known (a .s) s (messageWith (a .a) (a .residues .now)) (length (a .out .now)) (pre) in
     let o = k .later .session-open in
     let n = second-counts (a .s) s (messageWith (a .a) (a .residues .now)) (length (a .out .now)) k in
     (placed solver t s o, omega (arith, o .terms .big), omega (arith, o .terms .small), n .0, omega (arith, few t (o .terms .sides) .mp))
 
 array-share-prefix-share : tie.Need-array-share-prefix-share
 array-share-prefix-share c =
+    let pre = c .before .before .before .before .before .before .before .before .pre in
     let a = c .before .before .before .before .before .before .before .before .args in
     let t = a .s .terms in
     let s = slotAt (a .pool .now) (a .size) (a .index) in
-    let k = second-known (a .s) s (messageWith (a .a) (a .residues .now)) (length (a .out .now)) (c .before .before .before .before .before .before .before .before .pre) in
+    let k = second-known (a .s) s (messageWith (a .a) (a .residues .now)) (length (a .out .now)) (pre) in
     let f = few t (k .later .session-open .terms .sides) in
     let l = share-length t s (a .residues .now) (f .whole) in
     let z = after-over (shareOf t s (a .residues .now)) _ (c .before .find-share .ensures) (omega (arith, l, f .mp)) in
@@ -47,10 +49,11 @@ array-share-prefix-share c =
 
 slice-aggregate-finish : tie.Need-slice-aggregate-finish
 slice-aggregate-finish c =
+    let pre = c .before .before .before .before .before .before .before .before .before .pre in
     let a = c .before .before .before .before .before .before .before .before .before .args in
     let t = a .s .terms in
     let s = slotAt (a .pool .now) (a .size) (a .index) in
-    let k = second-known (a .s) s (messageWith (a .a) (a .residues .now)) (length (a .out .now)) (c .before .before .before .before .before .before .before .before .before .pre) in
+    let k = second-known (a .s) s (messageWith (a .a) (a .residues .now)) (length (a .out .now)) (pre) in
     let f = few t (k .later .session-open .terms .sides) in
     let l = share-length t s (a .residues .now) (f .whole) in
     let z = after-over (shareOf t s (a .residues .now)) _ (c .before .before .find-share .ensures) (omega (arith, l, f .mp)) in
@@ -58,14 +61,16 @@ slice-aggregate-finish c =
 
 finish-requires : tie.Need-finish-requires
 finish-requires c κs =
+    let pre = c .before .before .before .before .before .before .before .before .before .before .pre in
+    let find-share = c .before .before .before .find-share in
     let a = c .before .before .before .before .before .before .before .before .before .before .args in
     let t = a .s .terms in
     let s = slotAt (a .pool .now) (a .size) (a .index) in
-    let k = second-known (a .s) s (messageWith (a .a) (a .residues .now)) (length (a .out .now)) (c .before .before .before .before .before .before .before .before .before .before .pre) in
+    let k = second-known (a .s) s (messageWith (a .a) (a .residues .now)) (length (a .out .now)) (pre) in
     let o = k .later .session-open in
     let l = share-length t s (a .residues .now) (few t (o .terms .sides) .whole) in
     let times = c .before .before .before .before .before .times in
-    let e = over-part (times .result) (shareOf t s (a .residues .now)) _ (c .before .before .before .find-share .ensures) (l ∙ sym (times .ensures)) in
+    let e = over-part (times .result) (shareOf t s (a .residues .now)) _ (find-share .ensures) (l ∙ sym (times .ensures)) in
     let n = second-counts (a .s) s (messageWith (a .a) (a .residues .now)) (length (a .out .now)) k in
     (placed solver t s o, omega (arith, o .terms .big), ap length e ∙ l, n .1)
 
@@ -75,13 +80,15 @@ same-length c = search needs
 returns : tie.Need-returns
 unfolding solverSecondEffect shareOf sentPart messageParts join over
 returns c =
+    let pre = c .before .before .before .before .before .before .before .before .before .before .before .before .before .pre in
+    let find-share = c .before .before .before .before .before .before .find-share in
     let a = c .before .before .before .before .before .before .before .before .before .before .before .before .before .args in
     let t = a .s .terms in
     let s = slotAt (a .pool .now) (a .size) (a .index) in
-    let k = second-known (a .s) s (messageWith (a .a) (a .residues .now)) (length (a .out .now)) (c .before .before .before .before .before .before .before .before .before .before .before .before .before .pre) in
+    let k = second-known (a .s) s (messageWith (a .a) (a .residues .now)) (length (a .out .now)) (pre) in
     let l = share-length t s (a .residues .now) (few t (k .later .session-open .terms .sides) .whole) in
     let times = c .before .before .before .before .before .before .before .before .times in
-    let e = over-part (times .result) (shareOf t s (a .residues .now)) _ (c .before .before .before .before .before .before .find-share .ensures) (l ∙ sym (times .ensures)) in
+    let e = over-part (times .result) (shareOf t s (a .residues .now)) _ (find-share .ensures) (l ∙ sym (times .ensures)) in
     rw (c .before .before .finish .ensures .0, c .before .before .finish .ensures .1, e) (simp append-nil)
 
 pub compute-spec : {M : Type 1} → statement M

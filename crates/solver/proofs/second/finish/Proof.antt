@@ -17,47 +17,56 @@ matrix-start-requires-2 c κs = (c .before .before .before .before .pre .0, omeg
 
 mul-write-f : tie.Need-mul-write-f
 mul-write-f c =
+    let pre = c .before .before .before .before .before .pre in
     let a = c .before .before .before .before .before .args in
-    let m = matrix-stands solver (a .t) 2 (a .pool .now) (a .size) (a .index) (c .before .before .before .before .before .pre .0) (c .before .matrix-start .ensures) (c .matrix-start2 .ensures) in
+    let m = matrix-stands solver (a .t) 2 (a .pool .now) (a .size) (a .index) (pre .0) (c .before .matrix-start .ensures) (c .matrix-start2 .ensures) in
     search needs
 
 sub-write-f : tie.Need-sub-write-f
 sub-write-f c =
+    let pre = c .before .before .before .before .before .pre in
     let a = c .before .before .before .before .before .args in
-    let m = matrix-stands solver (a .t) 2 (a .pool .now) (a .size) (a .index) (c .before .before .before .before .before .pre .0) (c .before .matrix-start .ensures) (c .matrix-start2 .ensures) in
+    let m = matrix-stands solver (a .t) 2 (a .pool .now) (a .size) (a .index) (pre .0) (c .before .matrix-start .ensures) (c .matrix-start2 .ensures) in
     search needs
 
 part-write-f-start : tie.Need-part-write-f-start
 part-write-f-start c =
+    let pre = c .before .before .before .before .before .pre in
     let a = c .before .before .before .before .before .args in
-    let m = matrix-stands solver (a .t) 2 (a .pool .now) (a .size) (a .index) (c .before .before .before .before .before .pre .0) (c .before .matrix-start .ensures) (c .matrix-start2 .ensures) in
+    let m = matrix-stands solver (a .t) 2 (a .pool .now) (a .size) (a .index) (pre .0) (c .before .matrix-start .ensures) (c .matrix-start2 .ensures) in
     search needs
 
 part-write-f-end : tie.Need-part-write-f-end
 part-write-f-end c =
+    let pre = c .before .before .before .before .before .pre in
     let a = c .before .before .before .before .before .args in
-    let m = matrix-stands solver (a .t) 2 (a .pool .now) (a .size) (a .index) (c .before .before .before .before .before .pre .0) (c .before .matrix-start .ensures) (c .matrix-start2 .ensures) in
+    let m = matrix-stands solver (a .t) 2 (a .pool .now) (a .size) (a .index) (pre .0) (c .before .matrix-start .ensures) (c .matrix-start2 .ensures) in
     search needs
 
 write-f-requires : tie.Need-write-f-requires
 write-f-requires c κs =
+    let matrix-start = c .before .before .before .matrix-start in
+    let matrix-start2 = c .before .before .matrix-start2 in
     let a = c .before .before .before .before .before .before .before .args in
     let h = c .before .before .before .before .before .before .before .pre in
-    let m = matrix-stands solver (a .t) 2 (a .pool .now) (a .size) (a .index) (h .0) (c .before .before .before .matrix-start .ensures) (c .before .before .matrix-start2 .ensures) in
+    let m = matrix-stands solver (a .t) 2 (a .pool .now) (a .size) (a .index) (h .0) (matrix-start .ensures) (matrix-start2 .ensures) in
     (h .1, h .0 .sides, ap length (m .is) ∙ r-size (a .t) (slotAt (a .pool .now) (a .size) (a .index)) (h .0), h .2, h .3)
 
 last-column-requires : tie.Need-last-column-requires
 last-column-requires c κs =
-    (c .before .before .before .before .before .before .before .before .before .before .pre .0 .sides, c .before .before .before .before .before .before .before .before .before .before .pre .2)
+    let pre = c .before .before .before .before .before .before .before .before .before .before .pre in
+    (pre .0 .sides, pre .2)
 
 same-length : tie.Need-same-length
 same-length c = search needs
 
 returns : tie.Need-returns
 returns c =
+    let matrix-start = c .before .before .before .before .before .before .before .matrix-start in
+    let matrix-start2 = c .before .before .before .before .before .before .matrix-start2 in
     let a = c .before .before .before .before .before .before .before .before .before .before .before .args in
     let h = c .before .before .before .before .before .before .before .before .before .before .before .pre in
-    let m = matrix-stands solver (a .t) 2 (a .pool .now) (a .size) (a .index) (h .0) (c .before .before .before .before .before .before .before .matrix-start .ensures) (c .before .before .before .before .before .before .matrix-start2 .ensures) in
+    let m = matrix-stands solver (a .t) 2 (a .pool .now) (a .size) (a .index) (h .0) (matrix-start .ensures) (matrix-start2 .ensures) in
     (rw (c .last-column .ensures), rw (m .is) at (c .before .before .before .write-f .ensures))
 
 pub finish-spec : {M : Type 1} → statement M

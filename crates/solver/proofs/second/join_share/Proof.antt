@@ -24,7 +24,9 @@ cast-write-share-3 c = search needs
 
 slice-aggregate-write-share : tie.Need-slice-aggregate-write-share
 slice-aggregate-write-share c =
-    sym (length-take-le _ _ (omega (arith, c .before .before .before .before .times .ensures, c .before .before .before .before .before .before .before .before .before .pre .3)))
+    let times = c .before .before .before .before .times in
+    let pre = c .before .before .before .before .before .before .before .before .before .pre in
+    sym (length-take-le _ _ (omega (arith, times .ensures, pre .3)))
 
 mul-write-share : tie.Need-mul-write-share
 mul-write-share c = search needs
@@ -63,13 +65,14 @@ same-length c = search needs
 returns : tie.Need-returns
 returns c =
     let far = c .before .before .before .before .before .before .before .before .before .before in
+    let write-share = c .before .before .write-share in
     let a = far .before .before .before .before .args in
     let h = far .before .before .before .before .pre in
     let f = few (a .t) (h .2) in
     let times = c .before .before .before .before .before .before .before .before .before .times in
     let x1 = x1-part (a .t) (a .residues .now) (times .result) (times .ensures) in
     let r1 = r1-part (a .t) (a .residues .now) (times .result) (times .ensures) (h .3) in
-    share-found (a .t .q) (a .t .m) (a .t .k) (a .t .p) (columns (a .t .m) (a .t .p)) _ (a .y0 .now) _ (a .b0 .now) (a .out .now) (c .before .before .write-share .ensures)
+    share-found (a .t .q) (a .t .m) (a .t .k) (a .t .p) (columns (a .t .m) (a .t .p)) _ (a .y0 .now) _ (a .b0 .now) (a .out .now) (write-share .ensures)
     x1 refl r1 refl (f .square) (f .whole)
 
 pub join-share-spec : {M : Type 1} → statement M

@@ -29,11 +29,12 @@ refused-requires c κs = search needs
 returns : tie.Need-returns
 unfolding solverSecond solverSecondTests receiving
 returns c =
+    let check = c .before .before .before .check in
     let a = c .before .before .before .before .before .before .before .args in
     let s = slotAt (a .pool .now) (a .size) (a .index) in
     let e = c .before .enum-told2 .given .1 in
     let effect = solverSecondEffect (a .s) s (messageWith (a .a) (a .residues .now)) in
-    rw (c .refused .ensures, e) (sym (refused-leaves (a .s) s [] (a .out .now) [] _ effect (sym (c .before .before .before .check .ensures) ∙ ap checked e)))
+    rw (c .refused .ensures, e) (sym (refused-leaves (a .s) s [] (a .out .now) [] _ effect (sym (check .ensures) ∙ ap checked e)))
 
 compute-requires : tie.Need-compute-requires
 unfolding solverSecondTests receiving
@@ -45,12 +46,15 @@ same-length c = search needs
 returns-2 : tie.Need-returns-2
 unfolding solverSecond solverSecondTests solverSecondEffect receiving
 returns-2 c =
+    let check = c .before .before .before .before .before .before .check in
+    let enum-told = c .before .before .before .before .enum-told in
     let a = c .before .before .before .before .before .before .before .before .before .before .args in
     let s = slotAt (a .pool .now) (a .size) (a .index) in
-    let passed = sym (c .before .before .before .before .before .before .check .ensures) ∙ ap checked (c .before .before .before .before .enum-told .given .1) in
+    let passed = sym (check .ensures) ∙ ap checked (enum-told .given .1) in
     let k = second-known (a .s) s (messageWith (a .a) (a .residues .now)) (length (a .out .now)) passed in
     let effect = solverSecondEffect (a .s) s (messageWith (a .a) (a .residues .now)) in
-    step-leaves (a .s) s [] (a .out .now) [] _ effect passed (c .before .before .compute .ensures) (sym (same-pool s (k .later .session-open .half .inside)))
+    let same = sym (same-pool s (k .later .session-open .half .inside)) in
+    step-leaves (a .s) s [] (a .out .now) [] _ effect passed (c .before .before .compute .ensures) same
 
 pub solver-second-spec : {M : Type 1} → statement M
 solver-second-spec =

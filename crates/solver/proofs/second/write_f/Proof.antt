@@ -49,12 +49,13 @@ slice-aggregate-write-difference c =
 
 write-difference-requires : tie.Need-write-difference-requires
 write-difference-requires c κs =
+    let write-cols = c .before .before .before .write-cols in
     let a = c .before .before .before .before .before .before .before .before .before .before .before .args in
     let h = c .before .before .before .before .before .before .before .before .before .before .before .pre in
     let f = few (a .t) (h .1) in
     let size = c .before .before .before .before .before .before .times .ensures in
     let n = cols-length (a .t .m) (a .t .p) 0 (a .t .m) (a .share .now) in
-    let z = after-over (cols (a .t .m) (a .t .p) 0 (a .t .m) (a .share .now)) _ (c .before .before .before .write-cols .ensures) (omega (arith, n, f .mm)) in
+    let z = after-over (cols (a .t .m) (a .t .p) 0 (a .t .m) (a .share .now)) _ (write-cols .ensures) (omega (arith, n, f .mm)) in
     (h .0, omega (arith, h .2, f .mk-is, size), simp length-take (omega (arith, z, f .mm, size)), omega (arith, h .4, f .mk-is, size))
 
 same-length : tie.Need-same-length
@@ -63,13 +64,15 @@ same-length c = search needs
 returns : tie.Need-returns
 returns c =
     let far = c .before .before .before .before .before .before .before .before .before .before in
+    let write-difference = c .before .before .write-difference in
+    let write-cols = c .before .before .before .before .before .before .write-cols in
     let a = far .before .before .before .before .args in
     let f = few (a .t) (far .before .before .before .before .pre .1) in
     let times = c .before .before .before .before .before .before .before .before .before .times in
     let first = cols (a .t .m) (a .t .p) 0 (a .t .m) (a .share .now) in
     let n = cols-length (a .t .m) (a .t .p) 0 (a .t .m) (a .share .now) in
     f-sent (a .t .q) (a .t .m) (a .t .p) (columns (a .t .m) (a .t .p)) (times .result) (a .r .now) (a .share .now) (a .out .now)
-    (c .before .before .write-difference .ensures) (times .ensures) (over-part (times .result) first _ (c .before .before .before .before .before .before .write-cols .ensures) (n ∙ sym (times .ensures))) (f .whole)
+    (write-difference .ensures) (times .ensures) (over-part (times .result) first _ (write-cols .ensures) (n ∙ sym (times .ensures))) (f .whole)
 
 pub write-f-spec : {M : Type 1} → statement M
 write-f-spec =
