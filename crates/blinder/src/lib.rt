@@ -1,12 +1,24 @@
-// What the blinder's three steps share.
-//   BlinderAnswer               what each of them answers
-//   opened, closed              its sessions, which keep M and y
-//   scratch_size                how many residues P and U0 have
-// No function here is for hosts.
+// The blinder's three steps.
+//   BlinderAnswer         what each of them answers
+//   first, second, last   the steps: blinder_first, blinder_second, blinder_last
+//   later                 what the second and the last check
+//   formula               W = (U' − F) × Q + P × M × Q − G and c = u + P × y, where U0 = [U', u]
+//   opened, closed        the sessions, which keep M and y
+//   scratch_size          how many residues P and U0 have
+// For hosts: blinder_first, blinder_second, blinder_last.
+mod first;
+mod formula;
+mod last;
+mod later;
+mod second;
+
+pub use first::blinder_first;
+pub use last::blinder_last;
 use protocol::Answer;
 use protocol::BlinderSession;
 use protocol::Head;
 use protocol::Terms;
+pub use second::blinder_second;
 use vectors::times;
 use vectors::write_copy;
 ghost use mathlib.Core.Path.{_≡_};
