@@ -1,3 +1,4 @@
+-- Known   what is known where tests passed
 -- Kept    arrays that hold a vector or a matrix at their start
 -- Halves  the matrices of the blinder's half, of its scratch and of a message, as parts of words
 -- FirstOrder  the tests, judged by the groups in which the code makes them
@@ -11,6 +12,7 @@
 -- Factored  W by two products
 -- SecondKnown  what is known where the step's tests passed
 -- SecondLeaving  what the code leaves is what the definition says
+pub mod Known
 pub mod Kept
 pub mod Halves
 pub mod FirstOrder

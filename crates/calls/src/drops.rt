@@ -1,6 +1,6 @@
 // Drops.
 use crate::words;
-use dropping::blinder_drop;
+use blinder::blinder_drop;
 use dropping::right_drop;
 use dropping::solver_drop;
 use judging::message::no_head;

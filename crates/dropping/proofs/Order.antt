@@ -1,23 +1,20 @@
 -- The tests of a drop, judged by the groups in which the code makes them: the sorted tests are the groups' sorted tests, by computing.
 --   open-phases, closed-judged   of an open and of a closed session
---   scratch-open, scratch-closed the blinder's test of its scratch
 -- Assumes nothing.
 use mathlib.Core.Path.{_≡_, refl, sym, ap, _∙_}
 use mathlib.Core.Bool.{true}
 use mathlib.Core.List.{[], _∷_, _++_}
 use Prim.Native.Nat.{ℕ}
-use lib.Dec.{leb}
 use lib.ListN.{length}
 use Rattle.protocol.specs.declared.Terms.{Terms}
-use Rattle.protocol.specs.declared.Refusal.the-variants.{Size}
-use Rattle.protocol.specs.Judge.{needs, given, done}
-use Rattle.protocol.specs.Bounds.{shapeTests, termsTests, roomTests}
+use Rattle.protocol.specs.Judge.{given}
+use Rattle.protocol.specs.Bounds.{shapeTests, termsTests}
 use Rattle.protocol.specs.Tape.{Slot, isSlot, slotWords, Role, IN-USE, slotTests, halfTests, tapeTests}
 use Rattle.protocol.specs.Step.{isOpen, openTests}
 use Rattle.judging.specs.InOrder.{inOrder, verdict, only, sortedBy, sorted, judged, after}
 use Rattle.judging.proofs.InOrder.{judge-sorted, after-last}
 use Rattle.judging.specs.Groups.{modulusTests, numberTests, placeTests}
-use Rattle.judging.proofs.Join.{judged-true, judged-phases}
+use Rattle.judging.proofs.Join.{judged-phases}
 use Rattle.dropping.specs.Groups.{closedTests, openNumbers}
 
 module _ (role : Role) (due : ℕ) (t : Terms) (s : Slot) where
@@ -45,11 +42,3 @@ module _ (role : Role) (due : ℕ) (t : Terms) (s : Slot) where
 
   pub closed-judged : due ≡ 0 → judged (openTests role due t s) ≡ judged (closedTests (length (s .pool)) (s .size) (s .index))
   closed-judged e = judge-sorted _ tt ∙ (closed-verdict e ∙ sym (judge-sorted _ tt))
-
-pub scratch-open : (due size room : ℕ) → isOpen due ≡ true → judged (needs Size (leb size room) ∷ []) ≡ judged (given (isOpen due) (roomTests size room))
-unfolding given roomTests
-scratch-open due size room e = rw e
-
-pub scratch-closed : (due size room : ℕ) → due ≡ 0 → done tt ≡ judged (given (isOpen due) (roomTests size room))
-unfolding given roomTests isOpen
-scratch-closed due size room e = judged-true Size (rw e)

@@ -1,6 +1,5 @@
 // The tests of a drop. Of a closed session nothing but its slot is judged.
 //   check_open     of any session
-//   check_blinder  the same with the scratch
 use judging::Check;
 use judging::half::check_tape;
 use judging::need;
@@ -11,15 +10,9 @@ use protocol::Refusal;
 use protocol::Terms;
 use tape::End;
 use tape::is_slot;
-use vectors::times;
 ghost use mathlib.Core.Path.{_≡_};
-ghost use mathlib.Core.List.{_++_};
-ghost use lib.Dec.{leb};
-ghost use Rattle.protocol.specs.Judge.{given};
-ghost use Rattle.protocol.specs.Bounds.{roomTests};
-ghost use Rattle.protocol.specs.Tape.{slotAt, blinder};
-ghost use Rattle.protocol.specs.Step.{isOpen, openTests};
-ghost use Rattle.protocol.specs.System.{scratchSize};
+ghost use Rattle.protocol.specs.Tape.{slotAt};
+ghost use Rattle.protocol.specs.Step.{openTests};
 ghost use Rattle.judging.specs.InOrder.{checked, judged};
 ghost use Rattle.tape.specs.Ends.{role};
 ghost use Rattle.dropping.specs.Groups.{closedTests, openNumbers};
@@ -56,40 +49,4 @@ pub fn check_open(end: End, due: u32, t: Terms, pool: &[u32], size: usize, index
     let at = index * size;
     let stop = at + size;
     check_tape(end, 2, t, &pool[at..stop])
-}
-
-// P and U0 fit in so many words; any sides may be handed over.
-fn scratch_fits(t: Terms, room: usize) -> bool
-    ensures { λ r. ⌜ r ≡ leb (scratchSize t) room ⌝ }
-{
-    let square = times(t.m, t.m);
-    if room < square {
-        return false;
-    }
-    times(t.m, t.p) <= room - square
-}
-
-fn check_scratch(due: u32, t: Terms, room: usize) -> Check
-    ensures { λ r. ⌜ checked r ≡ judged (given (isOpen due) (roomTests (scratchSize t) room)) ⌝ }
-{
-    if due == 0 {
-        return Check::Passed;
-    }
-    need(Refusal::Size, scratch_fits(t, room))
-}
-
-// Of the scratch is told how many words it has.
-pub fn check_blinder(
-    due: u32,
-    t: Terms,
-    pool: &[u32],
-    size: usize,
-    index: usize,
-    room: usize,
-) -> Check
-    ensures { λ r. ⌜ checked r ≡ judged (openTests blinder due t (slotAt (now (pool .entry)) size index) ++ given (isOpen due) (roomTests (scratchSize t) room)) ⌝ }
-{
-    let session = check_open(End::Blinder, due, t, pool, size, index);
-    let scratch = check_scratch(due, t, room);
-    worst(session, scratch)
 }

@@ -1,24 +1,19 @@
-// Dropping: an open session closes, and its tape is spent; a blinder's scratch is zeroed with it.
-//   right_drop, solver_drop, blinder_drop   the drops of the three ends that keep a session
-//   check                                   the tests of a drop
-// A drop is given its pool, the size of the pool's slots and the index of its own; the blinder's its scratch; and the session.
-// For hosts: right_drop, solver_drop, blinder_drop.
+// Dropping: an open session closes, and its tape is spent.
+//   right_drop, solver_drop   the drops of two ends that keep a session; the blinder's stands in its crate
+//   check                     the tests of a drop
+// A drop is given its pool, the size of the pool's slots and the index of its own; and the session.
+// For hosts: right_drop, solver_drop.
 mod check;
 
-use blinder::closed;
-use blinder::scratch_size;
-use check::check_blinder;
 use check::check_open;
 use judging::Check;
 use judging::answer_of;
 use protocol::Answer;
-use protocol::BlinderSession;
 use protocol::RightSession;
 use protocol::SolverSession;
 use protocol::Terms;
 use tape::End;
 use tape::change::spend;
-use vectors::write_zeros;
 ghost use mathlib.Core.Path.{_≡_};
 ghost use mathlib.Core.Bool.{true};
 ghost use mathlib.Core.List.{[]};
@@ -27,7 +22,7 @@ ghost use lib.ListN.{length};
 ghost use Rattle.protocol.specs.Bounds.{sidesFit};
 ghost use Rattle.protocol.specs.Tape.{slotAt, slotWords, poolWith, tapeSize, wordsSpent};
 ghost use Rattle.protocol.specs.Message.{noMessage};
-ghost use Rattle.protocol.specs.Drop.{dropRight, dropSolver, dropBlinder};
+ghost use Rattle.protocol.specs.Drop.{dropRight, dropSolver};
 ghost use Rattle.tape.specs.Ends.{role, sort};
 ghost use Rattle.protocol.specs.Step.{answerReply};
 ghost use Rattle.judging.specs.Leaves.{Leaves, leaves};
@@ -41,11 +36,6 @@ pub struct RightDropped {
 pub struct SolverDropped {
     pub answer: Answer,
     pub session: SolverSession,
-}
-
-pub struct BlinderDropped {
-    pub answer: Answer,
-    pub session: BlinderSession,
 }
 
 // The half in the slot is spent.
@@ -100,33 +90,5 @@ pub fn solver_drop(pool: &mut [u32], size: usize, index: usize, s: SolverSession
             due: 0,
             s: kept,
         },
-    }
-}
-
-pub fn blinder_drop(
-    pool: &mut [u32],
-    size: usize,
-    index: usize,
-    scratch: &mut [u32],
-    s: BlinderSession,
-) -> BlinderDropped
-    ensures { λ r. ⌜ _≡_ {A = Leaves BlinderSession}
-        (record { answer = answerReply (r .answer); session = r .session; head = noMessage .head; pool = now (pool .exit); scratch = now (scratch .exit); sent = []; result = [] })
-        (leaves s (slotAt (now (pool .entry)) size index) (now (scratch .entry)) [] [] (dropBlinder s (slotAt (now (pool .entry)) size index) (now (scratch .entry)))) ⌝ }
-{
-    let t = s.terms;
-    let checked = check_blinder(s.due, t, pool, size, index, scratch.len());
-    let Check::Passed = checked else {
-        return BlinderDropped {
-            answer: answer_of(checked),
-            session: s,
-        };
-    };
-    spend_at(End::Blinder, t, pool, size, index);
-    let coins = scratch_size(t);
-    write_zeros(coins, scratch);
-    BlinderDropped {
-        answer: Answer::Accepted(0),
-        session: closed(t),
     }
 }

@@ -1,13 +1,13 @@
--- `dropping::check::scratch_fits` meets its contract. Assumes nothing.
+-- `blinder::scratch_fits` meets its contract. Assumes nothing.
 use mathlib.Core.Path.{sym}
 use Prim.Native.Nat.{_+_, _*_}
 use native.Mathlib.Omega.{arith}
 use borrow.Author.Needs.{needs}
 use borrow.Author.Tests.{lt-leb}
-use Rattle.dropping.proofs.Known.{room-left}
+use Rattle.judging.proofs.KindLaws.{room-left}
 use Rattle.protocol.specs.System.{scratchSize}
-use Rattle.dropping.proofs.check.scratch_fits.Statement.{statement}
-use Rattle.dropping.proofs.check.scratch_fits.Tie as tie
+use Rattle.blinder.proofs.scratch_fits.Statement.{statement}
+use Rattle.blinder.proofs.scratch_fits.Tie as tie
 
 times-requires : tie.Need-times-requires
 times-requires c κs = search needs
