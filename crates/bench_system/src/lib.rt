@@ -1,10 +1,10 @@
 // What bench/system.c times: the six steps of a system of n unknowns, on the first slot of each pool. Each answers whether it is accepted.
 // C keeps what a session keeps: s of the solver, M and y of the blinder.
 // No function here is for hosts.
+use blinder::blinder_first;
+use blinder::blinder_last;
+use blinder::blinder_second;
 use blinder::opened;
-use blinder_first::blinder_first;
-use blinder_later::blinder_last;
-use blinder_second::blinder_second;
 use protocol::Answer;
 use protocol::BlinderSession;
 use protocol::Head;

@@ -1,19 +1,38 @@
-// What the blinder's three steps share.
-//   BlinderAnswer               what each of them answers
-//   opened, closed              its sessions, which keep M and y
-//   scratch_size                how many residues P and U0 have
-// No function here is for hosts.
+// The blinder's three steps, and its drop.
+//   BlinderAnswer         what each of them answers
+//   first, second, last   the steps: blinder_first, blinder_second, blinder_last
+//   later                 what the second and the last check
+//   formula               W = (U' − F) × Q + P × M × Q − G and c = u + P × y, where U0 = [U', u]
+//   opened, closed        the sessions, which keep M and y
+//   scratch_size          how many residues P and U0 have
+//   drop                  blinder_drop
+// For hosts: blinder_first, blinder_second, blinder_last, blinder_drop.
+mod drop;
+mod first;
+mod formula;
+mod last;
+mod later;
+mod second;
+
+pub use drop::BlinderDropped;
+pub use drop::blinder_drop;
+pub use first::blinder_first;
+pub use last::blinder_last;
 use protocol::Answer;
 use protocol::BlinderSession;
 use protocol::Head;
 use protocol::Terms;
+pub use second::blinder_second;
 use vectors::times;
 use vectors::write_copy;
+use vectors::write_zeros;
 ghost use mathlib.Core.Path.{_≡_};
 ghost use mathlib.Core.Bool.{true};
 ghost use Prim.Native.Nat.{_≤_};
+ghost use lib.Dec.{leb};
 ghost use lib.ListN.{length};
 ghost use Rattle.algebra.specs.Matrix.{zeros};
+ghost use Rattle.algebra.specs.Words.{over};
 ghost use Rattle.protocol.specs.Bounds.{sidesFit, system};
 ghost use Rattle.protocol.specs.System.{padded, scratchSize};
 
@@ -79,4 +98,25 @@ pub fn scratch_size(t: Terms) -> usize
     ensures { λ r. ⌜ r ≡ scratchSize t ⌝ }
 {
     times(t.m, t.m) + times(t.m, t.p)
+}
+
+// P and U0 fit in so many words; any sides may be handed over.
+fn scratch_fits(t: Terms, room: usize) -> bool
+    ensures { λ r. ⌜ r ≡ leb (scratchSize t) room ⌝ }
+{
+    let square = times(t.m, t.m);
+    if room < square {
+        return false;
+    }
+    times(t.m, t.p) <= room - square
+}
+
+// P and U0 are zeroed, and M and y are kept no longer: the session that is left.
+fn forget(t: Terms, scratch: &mut [u32]) -> BlinderSession
+    requires { ⌜ (sidesFit system (t .m) (t .k) (t .p) ≡ true) × (scratchSize t ≤ length (now scratch)) ⌝ }
+    ensures { λ r. ⌜ r ≡ record { terms = t; due = 0; mm = zeros 256; y = zeros 16 } ⌝ }
+    ensures { λ _. ⌜ now (scratch .exit) ≡ over (zeros (scratchSize t)) (now (scratch .entry)) ⌝ }
+{
+    write_zeros(scratch_size(t), scratch);
+    closed(t)
 }

@@ -1,8 +1,8 @@
 // The blinder's steps.
 use crate::words;
-use blinder_first::blinder_first;
-use blinder_later::blinder_last;
-use blinder_second::blinder_second;
+use blinder::blinder_first;
+use blinder::blinder_last;
+use blinder::blinder_second;
 use protocol::Answer;
 ghost use mathlib.Core.Path.{_≡_};
 ghost use mathlib.Core.Logic.{_≢_};

@@ -5,7 +5,7 @@ use Rattle.calls.proofs.blinding.call_blinder_first.Statement.{statemen
 use Rattle.calls.proofs.blinding.call_blinder_first.Tie as tie
 use Rattle.calls.proofs.blinding.call_blinder_first.Reads as reads
 use Rattle.calls.proofs.blinding.call_blinder_first.Lts as lts
-use Rattle.blinder_first.proofs.blinder_first.Reads as blinder-first-reads
+use Rattle.blinder.proofs.first.blinder_first.Reads as blinder-first-reads
 use Rattle.calls.proofs.words.answered.Reads as answered-reads
 use Rattle.calls.proofs.words.head_of.Reads as head-of-reads
 use Rattle.calls.proofs.words.put_blinder.Reads as put-blinder-reads

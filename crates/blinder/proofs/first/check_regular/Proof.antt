@@ -1,0 +1,101 @@
+-- `blinder::first::check_regular` meets its contract. Assumes nothing.
+use mathlib.Core.Path.{sym, ap, _∙_}
+use Prim.Native.Nat.{ℕ, _*_, _≤_}
+use native.Mathlib.Omega.{arith}
+use lib.ListN.{length, length-replicate}
+use borrow.Author.Needs.{needs}
+use Rattle.judging.proofs.Join.{also}
+use mathlib.Core.List.{[], _∷_}
+use Rattle.blinder.specs.FirstGroups.{firstRegular}
+use Rattle.protocol.specs.System.{regularTests}
+use Rattle.tape.proofs.Sides.{unknowns}
+use Rattle.blinder.proofs.FirstKnown.{p-drawn, p-residues}
+use Rattle.protocol.specs.Drawing.{residuesOf}
+use Rattle.drawing.proofs.Then.{drawn-count, coins-part}
+use Rattle.blinder.proofs.Kept.{square-bound, scratch-sum}
+use Rattle.judging.proofs.KindLaws.{few}
+use Rattle.blinder.proofs.first.check_regular.Statement.{statement}
+use Rattle.blinder.proofs.first.check_regular.Tie as tie
+
+cast-n : tie.Need-cast-n
+cast-n c = search needs
+
+times-requires : tie.Need-times-requires
+times-requires c κs = search needs
+
+slice-aggregate-draw : tie.Need-slice-aggregate-draw
+slice-aggregate-draw c = search needs
+
+draw-requires : tie.Need-draw-requires
+draw-requires c κs =
+    let a = c .before .before .before .before .before .args in
+    let h = c .before .before .before .before .before .pre in
+    let few : c .before .times .result ≤ length
+    (residuesOf (a .t .q) (a .words .now)) = omega (arith, c .before .times .ensures, scratch-sum (a .t), h .1) in
+    (h .0 .some-q, few, omega (arith, c .before .times .ensures, square-bound (a .t) (h .0 .sides), length-replicate {A = ℕ} 256 0))
+
+has-inverse-requires : tie.Need-has-inverse-requires
+has-inverse-requires c κs =
+    let a = c .before .before .before .before .before .before .before .args in
+    let h = c .before .before .before .before .before .before .before .pre in
+    (h .0 .prime, h .0 .small-q, unknowns (a .t .m) (a .t .k) (a .t .p) (h .0 .sides) .few, h .0 .residues)
+
+need-requires : tie.Need-need-requires
+need-requires c κs = search needs
+
+array-share-prefix-pm : tie.Need-array-share-prefix-pm
+array-share-prefix-pm c =
+    omega (arith, c .before .before .before .before .before .times .ensures, square-bound (c .before .before .before .before .before .before .before .before .before .args .t) (c .before .before .before .before .before .before .before .before .before .pre .0 .sides))
+
+slice-aggregate-has-inverse : tie.Need-slice-aggregate-has-inverse
+slice-aggregate-has-inverse c =
+    let a = c .before .before .before .before .before .before .before .before .before .before .args in
+    let times = c .before .before .before .before .before .before .times in
+    let few : times .result ≤ length
+    (residuesOf (a .t .q) (a .words .now)) = omega (arith, times .ensures, scratch-sum (a .t), c .before .before .before .before .before .before .before .before .before .before .pre .1) in
+    let u = coins-part _ _ (a .words .now) _ _ few (c .before .before .before .before .draw .ensures .1) in
+    sym (ap length u ∙ drawn-count _ _ _ few)
+
+has-inverse-requires-2 : tie.Need-has-inverse-requires-2
+has-inverse-requires-2 c κs =
+    let a = c .before .before .before .before .before .before .before .before .before .before .args in
+    let h = c .before .before .before .before .before .before .before .before .before .before .pre in
+    let times = c .before .before .before .before .before .before .times in
+    let few : times .result ≤ length (residuesOf (a .t .q) (a .words .now)) = omega (arith, times .ensures, scratch-sum (a .t), h .1) in
+    let u = coins-part _ _ (a .words .now) _ _ few (c .before .before .before .before .draw .ensures .1) in
+    (h .0 .prime, h .0 .small-q, unknowns (a .t .m) (a .t .k) (a .t .p) (h .0 .sides) .few, rw (u, times .ensures) (p-residues (a .t .q) (a .t .m * a .t .m) (a .words .now) (h .0 .some-q) (omega (arith, scratch-sum (a .t), h .1))))
+
+need-requires-2 : tie.Need-need-requires-2
+need-requires-2 c κs = search needs
+
+worst-requires : tie.Need-worst-requires
+worst-requires c κs = search needs
+
+returns : tie.Need-returns
+unfolding firstRegular regularTests
+returns c =
+    let a = c .before .before .before .before .before .before .before .before .before .before .before .before .before .args in
+    let times = c .before .before .before .before .before .before .before .before .before .times in
+    let few : times .result ≤ length
+    (residuesOf (a .t .q) (a .words .now)) = omega (arith, times .ensures, scratch-sum (a .t), c .before .before .before .before .before .before .before .before .before .before .before .before .before .pre .1) in
+    let u = coins-part _ _ (a .words .now) _ _ few (c .before .before .before .before .before .before .before .draw .ensures .1) in
+    also (_ ∷ []) _ (c .worst .ensures)
+    (rw (c .before .before .before .before .before .has-inverse .ensures) at (c .before .before .before .before .need .ensures))
+    (rw (c .before .before .has-inverse2 .ensures, u, times .ensures, p-drawn (a .t) (a .words .now)) at (c .before .need2 .ensures))
+
+pub check-regular-spec : {M : Type 1} → statement M
+check-regular-spec =
+    tie.close
+    (tie.spec
+    cast-n
+    times-requires
+    slice-aggregate-draw
+    draw-requires
+    has-inverse-requires
+    need-requires
+    array-share-prefix-pm
+    slice-aggregate-has-inverse
+    has-inverse-requires-2
+    need-requires-2
+    worst-requires
+    returns)

@@ -1,0 +1,61 @@
+-- `blinder::formula::write_inner` meets its contract. Assumes nothing.
+use mathlib.Core.Path.{_≡_, refl, sym, ap, _∙_}
+use mathlib.Core.List.{List, _++_}
+use Prim.Native.Nat.{ℕ, _+_, _*_, _-_, _/_, _%_, _≤_, _<_}
+use native.Mathlib.Omega.{arith}
+use lib.ListN.{length, getD, set, take, drop}
+use borrow.Author.Needs.{needs}
+use Rattle.algebra.proofs.Columns.{cols-length}
+use Rattle.blinder.specs.SecondShapes.{innerW}
+use Rattle.blinder.proofs.Start.{start-is, start-length}
+use Rattle.blinder.proofs.formula.write_inner.Statement.{statement}
+use Rattle.blinder.proofs.formula.write_inner.Tie as tie
+
+mul-square : tie.Need-mul-square
+mul-square c = search needs
+
+add-write-cols : tie.Need-add-write-cols
+add-write-cols c = search needs
+
+slice-aggregate-write-cols : tie.Need-slice-aggregate-write-cols
+slice-aggregate-write-cols c = search needs
+
+write-cols-requires : tie.Need-write-cols-requires
+write-cols-requires c κs = search needs
+
+array-share-prefix-first : tie.Need-array-share-prefix-first
+array-share-prefix-first c = search needs
+
+slice-aggregate-write-share : tie.Need-slice-aggregate-write-share
+slice-aggregate-write-share c =
+    let a = c .before .before .before .before .before .before .before .before .before .args in
+    start-length (a .n * a .n) _ _ _ (cols-length (a .n) (a .n + a .rhs) 0 (a .n) (a .u0 .now)) (c .before .before .write-cols .ensures)
+
+write-share-requires : tie.Need-write-share-requires
+write-share-requires c κs =
+    let a = c .before .before .before .before .before .before .before .before .before .before .args in
+    let h = c .before .before .before .before .before .before .before .before .before .before .pre in
+    (record { some-q = h .0 .some-q; small-q = h .0 .small-q; some-p = h .0 .some-n; few-k = omega (arith, h .0 .few-n); few-y = omega (arith, h .0 .square); full-x = omega (arith, h .3); full-y = omega (arith, h .4); room = h .5 }, omega (arith, start-length (a .n * a .n) _ _ _ (cols-length (a .n) (a .n + a .rhs) 0 (a .n) (a .u0 .now)) (c .before .before .before .write-cols .ensures)), omega (arith, h .2))
+
+same-length : tie.Need-same-length
+same-length c = search needs
+
+returns : tie.Need-returns
+unfolding innerW
+returns c =
+    let a = c .before .before .before .before .before .before .before .before .before .before .before .before .before .args in
+    rw (start-is (a .n * a .n) _ _ _ (cols-length (a .n) (a .n + a .rhs) 0 (a .n) (a .u0 .now)) (c .before .before .before .before .before .before .write-cols .ensures)) at (c .before .before .write-share .ensures)
+
+pub write-inner-spec : {M : Type 1} → statement M
+write-inner-spec =
+    tie.close
+    (tie.spec
+    mul-square
+    add-write-cols
+    slice-aggregate-write-cols
+    write-cols-requires
+    array-share-prefix-first
+    slice-aggregate-write-share
+    write-share-requires
+    same-length
+    returns)

@@ -1,0 +1,66 @@
+// The blinder's drop: an open session closes, its tape is spent, and its scratch is zeroed.
+use crate::forget;
+use crate::scratch_fits;
+use judging::Check;
+use judging::answer_of;
+use judging::step::check_open;
+use judging::step::check_room;
+use judging::worst;
+use protocol::Answer;
+use protocol::BlinderSession;
+use tape::End;
+use tape::change::spend_at;
+ghost use mathlib.Core.Path.{_≡_};
+ghost use mathlib.Core.List.{[], _++_};
+ghost use lib.ListN.{length};
+ghost use Rattle.protocol.specs.Judge.{given};
+ghost use Rattle.protocol.specs.Bounds.{roomTests};
+ghost use Rattle.protocol.specs.Tape.{blinder, slotAt};
+ghost use Rattle.protocol.specs.Message.{noMessage};
+ghost use Rattle.protocol.specs.Drop.{dropBlinder};
+ghost use Rattle.protocol.specs.Step.{isOpen, openTests, answerReply};
+ghost use Rattle.protocol.specs.System.{scratchSize};
+ghost use Rattle.judging.specs.InOrder.{checked, judged};
+ghost use Rattle.judging.specs.Leaves.{Leaves, leaves};
+
+// What a drop answers, and the session as it then is.
+pub struct BlinderDropped {
+    pub answer: Answer,
+    pub session: BlinderSession,
+}
+
+// Of the scratch is told how many words it has.
+fn check(pool: &[u32], size: usize, index: usize, room: usize, s: BlinderSession) -> Check
+    ensures { λ r. ⌜ checked r ≡ judged (openTests blinder (s .due) (s .terms) (slotAt (now (pool .entry)) size index) ++ given (isOpen (s .due)) (roomTests (scratchSize (s .terms)) room)) ⌝ }
+{
+    let session = check_open(End::Blinder, s.due, s.terms, pool, size, index);
+    let scratch = check_room(s.due, scratch_fits(s.terms, room));
+    worst(session, scratch)
+}
+
+pub fn blinder_drop(
+    pool: &mut [u32],
+    size: usize,
+    index: usize,
+    scratch: &mut [u32],
+    s: BlinderSession,
+) -> BlinderDropped
+    ensures { λ r. ⌜ _≡_ {A = Leaves BlinderSession}
+        (record { answer = answerReply (r .answer); session = r .session; head = noMessage .head; pool = now (pool .exit); scratch = now (scratch .exit); sent = []; result = [] })
+        (leaves s (slotAt (now (pool .entry)) size index) (now (scratch .entry)) [] [] (dropBlinder s (slotAt (now (pool .entry)) size index) (now (scratch .entry)))) ⌝ }
+{
+    let t = s.terms;
+    let checked = check(pool, size, index, scratch.len(), s);
+    let Check::Passed = checked else {
+        return BlinderDropped {
+            answer: answer_of(checked),
+            session: s,
+        };
+    };
+    let session = forget(t, scratch);
+    spend_at(End::Blinder, t, pool, size, index);
+    BlinderDropped {
+        answer: Answer::Accepted(0),
+        session: session,
+    }
+}

@@ -1,2 +1,0 @@
--- Shape  what the writers ask, and what they write
-pub mod Shape
