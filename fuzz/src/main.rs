@@ -2,7 +2,7 @@
 //!
 //! Worlds of a few hundred calls: sessions of both sorts with damaged calls between the right ones, calls with any numbers on what is left,
 //! and lines of any bytes. After each line of a world's script the answer, the report and every array must be the same on both sides. The
-//! first difference ends the run; the script up to it is then in `failed.script`, which every program over the crate `replay` performs.
+//! first difference ends the run; the script up to it is then in `failed.script`, which every program over the crate `test_machine` performs.
 
 mod engine;
 

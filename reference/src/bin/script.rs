@@ -1,4 +1,4 @@
-//! Prints the script of the test program `replay_main`. What its calls were answered goes to standard error.
+//! Prints the script of the test program `test_script`. What its calls were answered goes to standard error.
 
 use reference::script::cases;
 

@@ -1,0 +1,93 @@
+-- A refused first step of the right leaves the session's words as they were. Assumes nothing.
+use mathlib.Core.Path.{refl}
+use borrow.Author.Needs.{needs}
+use Rattle.test_calls.proofs.products.call_right_first.Statement.{statement}
+use Rattle.test_calls.proofs.products.call_right_first.Tie as tie
+use Rattle.test_calls.proofs.products.call_right_first.Reads as reads
+use Rattle.test_calls.proofs.products.call_right_first.Lts as lts
+use Rattle.test_calls.proofs.words.answered.Reads as answered-reads
+use Rattle.test_calls.proofs.words.put_report.Reads as put-report-reads
+use Rattle.test_calls.proofs.words.put_right.Reads as put-right-reads
+use Rattle.test_calls.proofs.words.terms_of.Reads as terms-of-reads
+use Rattle.product.proofs.right_first.Reads as right-first-reads
+
+returns : tie.Need-returns
+returns c = search needs
+
+returns-2 : tie.Need-returns-2
+returns-2 c = search needs
+
+returns-3 : tie.Need-returns-3
+returns-3 c = search needs
+
+terms-of-requires : tie.Need-terms-of-requires
+terms-of-requires c κs = search needs
+
+right-first-requires : tie.Need-right-first-requires
+right-first-requires c κs = search needs
+
+put-report-requires : tie.Need-put-report-requires
+put-report-requires c κs = search needs
+
+enum-told : tie.Need-enum-told
+enum-told c = search needs
+
+enum-told-2 : tie.Need-enum-told-2
+enum-told-2 c = search needs
+
+answered-requires : tie.Need-answered-requires
+answered-requires c κs = search needs
+
+same-length : tie.Need-same-length
+same-length c = search needs
+
+same-length-2 : tie.Need-same-length-2
+same-length-2 c = search needs
+
+same-length-3 : tie.Need-same-length-3
+same-length-3 c = search needs
+
+returns-4 : tie.Need-returns-4
+returns-4 c = search needs
+
+put-right-requires : tie.Need-put-right-requires
+put-right-requires c κs = search needs
+
+same-length-4 : tie.Need-same-length-4
+same-length-4 c = search needs
+
+same-length-5 : tie.Need-same-length-5
+same-length-5 c = search needs
+
+same-length-6 : tie.Need-same-length-6
+same-length-6 c = search needs
+
+same-length-7 : tie.Need-same-length-7
+same-length-7 c = search needs
+
+returns-5 : tie.Need-returns-5
+returns-5 c = λ h. absurd (h refl)
+
+pub call-right-first-spec : {M : Type 1} → statement M
+call-right-first-spec =
+    tie.close
+    (tie.spec
+    returns
+    returns-2
+    returns-3
+    terms-of-requires
+    right-first-requires
+    put-report-requires
+    enum-told
+    enum-told-2
+    answered-requires
+    same-length
+    same-length-2
+    same-length-3
+    returns-4
+    put-right-requires
+    same-length-4
+    same-length-5
+    same-length-6
+    same-length-7
+    returns-5)
