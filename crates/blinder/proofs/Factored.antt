@@ -12,7 +12,7 @@ use Rattle.algebra.specs.System.{sendW}
 use Rattle.algebra.proofs.Congruence.{cong-sym, linear, _⊕_}
 use Rattle.algebra.proofs.Lists.{add-residues, sub-residues}
 use Rattle.algebra.proofs.Matrix.{Sum, sum-add, sum-sub, is-sub, mul-add-left}
-use Rattle.blinder.specs.SecondShapes.{innerW}
+use Rattle.blinder.specs.Second.{innerW}
 
 module _ {q : ℕ} (hq : 0 < q) where
   -- (u − f) + k is k + u − f

@@ -1,20 +1,124 @@
 -- What is known where tests passed.
---   drop-known   a drop that is accepted
+--   eliminable, first-known, p-drawn, p-residues   step 2
+--   kept-known    the first phase of a later step
+--   second-known, coins-known, sending-known    step 4
+--   last-known    step 6
+--   drop-known    a drop that is accepted
 -- Assumes nothing.
-use mathlib.Core.Path.{_≡_}
-use mathlib.Core.List.{List, _++_}
+use mathlib.Core.Path.{_≡_, sym}
+use mathlib.Core.Bool.{Bool, true}
+use mathlib.Core.List.{List, [], _∷_, _++_}
+use Prim.Native.Nat.{ℕ, _*_, _≤_, _<_}
+use native.Mathlib.Omega.{arith}
 use lib.ListN.{length}
+use lib.Seq.{take-take}
+use borrow.Author.Tests.{le-leb}
+use Rattle.protocol.specs.Drawing.{residuesOf, drawn, drawTests}
+use Rattle.protocol.proofs.Residues.{residues-drawn}
+use Rattle.algebra.specs.Count.{part, parts}
+use Rattle.algebra.specs.Matrix.{Residues}
+use Rattle.protocol.specs.declared.Terms.{Terms}
 use Rattle.protocol.specs.declared.BlinderSession.{BlinderSession}
-use Rattle.protocol.specs.Judge.{given, done}
-use Rattle.protocol.specs.Bounds.{roomTests}
+use Rattle.protocol.specs.declared.Refusal.the-variants.{Size}
+use Rattle.protocol.specs.Judge.{needs, given, done}
+use Rattle.protocol.specs.Bounds.{sidesFit, system, fieldFits, inputTests, roomTests}
 use Rattle.protocol.specs.Tape.{Slot, blinder}
-use Rattle.protocol.specs.Step.{isOpen, openTests}
-use Rattle.protocol.specs.System.{scratchSize}
+use Rattle.protocol.specs.Message.{Message, messageSize, messageTests, dueTests}
+use Rattle.protocol.specs.Step.{isOpen, firstTests, openTests, laterTests}
+use Rattle.protocol.specs.System.{sideSize, scratchSize, scratchParts, coinsOf, blinderFirstEffect, blinderFirstTests, blinderFirst, blinderSecondEffect, blinderSecondTests, blinderSecond, blinderLastEffect, blinderLastTests, blinderLast}
 use Rattle.protocol.specs.Drop.{dropBlinder}
-use Rattle.protocol.proofs.StepTests.{DropBlinderFits, drop-blinder}
+use Rattle.protocol.proofs.Judge.{passed, all-split, holds-given}
+use Rattle.protocol.proofs.Tests.{open-due, input-tests, room-tests, first-tests, later-tests}
+use Rattle.protocol.proofs.StepTests.{BlinderFirstFits, blinder-first, BlinderFits, blinder-second, blinder-last, DropBlinderFits, drop-blinder}
 use Rattle.judging.specs.InOrder.{judged}
 use Rattle.judging.proofs.InOrder.{accepted-by}
-use Prim.Native.Nat.{ℕ}
+use Rattle.judging.proofs.Fits.{open-placed}
+use Rattle.judging.proofs.KindLaws.{size-3, size-4}
+use Rattle.blinder.specs.First.{Eliminable, firstInputs, firstNumbers}
+use Rattle.blinder.specs.Later.{laterOpen}
+use Rattle.blinder.specs.Second.{Coins, Sending}
+use Rattle.blinder.proofs.Kept.{square-is, scratch-sum}
+
+module _ (t : Terms) (s : Slot) (scratch : ℕ) (mm y : List ℕ) (a : Message) (room : ℕ) where
+  pub eliminable : judged (firstNumbers t s scratch mm y a room) ≡ done tt → Eliminable t mm
+  unfolding firstNumbers firstInputs fieldFits
+  eliminable e =
+      let first = firstTests blinder t s in
+      let due = dueTests 1 t a in
+      let matrix = inputTests (t .q) (t .m * t .m) mm in
+      let (in-session, in-inputs) = all-split (messageTests a ++ (first ++ due)) (firstInputs t mm y scratch room) (passed (firstNumbers t s scratch mm y a room) e .0) in
+      let in-first = all-split first due (all-split (messageTests a) (first ++ due) in-session .1) .0 in
+      let f = first-tests blinder t s .0 (record { all = in-first }) .terms in
+      let in-matrix = all-split matrix (inputTests (t .q) (sideSize t) y ++ (roomTests (scratchSize t) scratch ++ roomTests (messageSize 2 t) room)) in-inputs .0 in
+      record {
+        some-q = omega (arith, f .big);
+        small-q = omega (arith, f .small);
+        prime = f .field;
+        sides = f .sides;
+        residues = input-tests (t .q) (t .m * t .m) mm .0 (record { all = in-matrix });
+      }
+
+  pub first-known : (words : List ℕ) → judged (blinderFirstTests t s scratch mm y words a room) ≡ done tt → BlinderFirstFits t s scratch mm y words a room
+  unfolding blinderFirst
+  first-known words h =
+      blinder-first t s scratch mm y words a room .means
+      (accepted-by (blinderFirstTests t s scratch mm y words a room) (blinderFirstEffect t s mm y words a) h) .0
+
+-- P by itself, drawn from the same words
+pub p-drawn : (t : Terms) (words : List ℕ) → drawn (t .q) (t .m * t .m) words ≡ part 0 (scratchParts t (coinsOf t words))
+unfolding coinsOf drawn scratchParts parts
+p-drawn t words = sym (take-take (t .m * t .m) (scratchSize t) (residuesOf (t .q) words) (omega (arith, scratch-sum t)))
+
+pub p-residues : (q n : ℕ) (words : List ℕ) → 0 < q → n ≤ length (residuesOf q words) → Residues q n (drawn q n words)
+unfolding drawTests
+p-residues q n words h e = residues-drawn q n words h (le-leb _ _ e, tt)
+
+module _ (x : BlinderSession) (s : Slot) (a : Message) where
+  pub kept-known : (step : ℕ) (fits : Bool) (scratch : ℕ) → judged (laterOpen step fits x s scratch a) ≡ done tt
+      → (sidesFit system (x .terms .m) (x .terms .k) (x .terms .p) ≡ true) × (scratchSize (x .terms) ≤ scratch)
+  unfolding laterOpen
+  kept-known step fits scratch e =
+      let later = laterTests blinder step (x .due) (x .terms) s in
+      let due = dueTests step (x .terms) a in
+      let lent = given (isOpen (x .due)) (roomTests (scratchSize (x .terms)) scratch) in
+      let written = given (isOpen (x .due)) (needs Size fits ∷ []) in
+      let (in-session, in-rooms) = all-split (messageTests a ++ (later ++ due)) (lent ++ written) (passed (laterOpen step fits x s scratch a) e .0) in
+      let in-later = all-split later due (all-split (messageTests a) (later ++ due) in-session .1) .0 in
+      let o = later-tests blinder step (x .due) (x .terms) s .0 (record { all = in-later }) .session-open in
+      let in-lent = holds-given (isOpen (x .due)) _ (open-due (x .due) .1 (o .is-open)) (all-split lent written in-rooms .0) in
+      (o .terms .sides, room-tests _ _ .0 (record { all = in-lent }))
+
+  pub last-known : (scratch : List ℕ) (room : ℕ) → judged (blinderLastTests x s scratch a room) ≡ done tt → BlinderFits 5 x s scratch a (sideSize (x .terms)) room
+  unfolding blinderLast
+  last-known scratch room h = blinder-last x s scratch a room .means (accepted-by (blinderLastTests x s scratch a room) (blinderLastEffect x s scratch a) h) .0
+
+  pub second-known : (scratch : List ℕ) (room : ℕ) → judged (blinderSecondTests x s scratch a room) ≡ done tt
+      → BlinderFits 3 x s scratch a (messageSize 4 (x .terms)) room
+  unfolding blinderSecond
+  second-known scratch room h =
+      blinder-second x s scratch a room .means (accepted-by (blinderSecondTests x s scratch a room) (blinderSecondEffect x s scratch a) h) .0
+
+  -- what the second step's writers ask
+  pub coins-known : {scratch : List ℕ} {room y : ℕ} → y ≡ sideSize (x .terms) → BlinderFits 3 x s scratch a (messageSize 4 (x .terms)) room
+      → Coins (x .terms) (length scratch) y
+  coins-known e f =
+      let o = f .later .session-open in
+      record { some-q = omega (arith, o .terms .big); small-q = omega (arith, o .terms .small); sides = o .terms .sides; lent = f .scratch-room; kept-y = e }
+
+  pub sending-known : {scratch : List ℕ} {room mm : ℕ} → mm ≡ x .terms .m * x .terms .m → BlinderFits 3 x s scratch a (messageSize 4 (x .terms)) room
+      → Sending (x .terms) s (length scratch) mm (length (a .residues)) room
+  sending-known e f =
+      let o = f .later .session-open in
+      let same = square-is (x .terms) (o .terms .sides) in
+      record {
+        some-q = omega (arith, o .terms .big);
+        small-q = omega (arith, o .terms .small);
+        placed = open-placed blinder (x .terms) s o;
+        lent = f .scratch-room;
+        kept-m = e;
+        full = omega (arith, f .message .residues .size, size-3 (x .terms), same);
+        room = omega (arith, f .write-room, size-4 (x .terms), same);
+      }
 
 pub drop-known : (x : BlinderSession) (s : Slot) (scratch : List ℕ)
     → judged (openTests blinder (x .due) (x .terms) s ++ given (isOpen (x .due)) (roomTests (scratchSize (x .terms)) (length scratch))) ≡ done tt

@@ -1,10 +1,6 @@
--- FirstGroups  the step's tests, in the groups in which its code makes them
--- FirstShapes  what its writers ask, and what they write
--- LaterGroups  the tests of both later steps, in the groups in which the code makes them
--- LastShapes  what the writers ask of the slices' lengths
--- SecondShapes  what the writers ask, and what they write
-pub mod FirstGroups
-pub mod FirstShapes
-pub mod LaterGroups
-pub mod LastShapes
-pub mod SecondShapes
+-- First   the first step's tests in phases, what its functions ask, and its message
+-- Later   the tests of both later steps, in phases
+-- Second  what the writers of the second step ask, and its message
+pub mod First
+pub mod Later
+pub mod Second

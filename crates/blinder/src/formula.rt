@@ -9,7 +9,7 @@ ghost use Prim.Native.Nat.{_+_, _*_, _≤_};
 ghost use lib.ListN.{length};
 ghost use Rattle.algebra.specs.System.{sendW, sendC};
 ghost use Rattle.algebra.specs.Words.{over};
-ghost use Rattle.blinder.specs.SecondShapes.{Small, innerW};
+ghost use Rattle.blinder.specs.Second.{Small, innerW};
 
 // P × M + U' − F, which times Q gives W + G.
 fn write_inner(

@@ -1,49 +1,76 @@
 // Step 6: the blinder's answer is z = Q × t. Its half is spent, P and U0 are zeroed, and its session is closed.
+//   check         all tests, as those of a later step
+//   compute       z, and what is kept no longer
+//   blinder_last  the step
 use crate::BlinderAnswer;
-use crate::closed;
-use crate::later::check;
-use crate::scratch_size;
+use crate::forget;
+use crate::later;
+use crate::refused;
 use judging::Check;
-use judging::answer_of;
 use judging::message::no_head;
+use judging::message::side_size;
 use matrix::write_product;
 use protocol::Answer;
 use protocol::BlinderSession;
 use protocol::Head;
-use protocol::Terms;
 use tape::End;
-use tape::change::spend;
-use vectors::times;
-use vectors::write_zeros;
+use tape::change::spend_at;
+use tape::half::matrix_start;
 ghost use mathlib.Core.Path.{_≡_};
-ghost use mathlib.Core.Bool.{true};
 ghost use mathlib.Core.List.{[]};
-ghost use Prim.Native.Nat.{_+_, _-_, _*_, _≤_, _<_};
-ghost use lib.ListN.{length, take, drop};
-ghost use Rattle.algebra.specs.Matrix.{zeros, matMul};
-ghost use Rattle.algebra.specs.Words.{over};
-ghost use Rattle.protocol.specs.Tape.{blinder, slotAt, wordsSpent};
-ghost use Rattle.protocol.specs.System.{scratchSize, blinderLast};
+ghost use lib.ListN.{length};
+ghost use Rattle.protocol.specs.Judge.{done};
+ghost use Rattle.protocol.specs.Tape.{slotAt};
+ghost use Rattle.protocol.specs.Message.{messageWith};
+ghost use Rattle.protocol.specs.System.{blinderLastEffect, blinderLastTests, blinderLast};
 ghost use Rattle.protocol.specs.Step.{answerReply};
-ghost use Rattle.judging.specs.Leaves.{Leaves, leaves};
-ghost use Rattle.blinder.specs.LastShapes.{LastShape};
+ghost use Rattle.judging.specs.InOrder.{checked, judged};
+ghost use Rattle.judging.specs.Leaves.{Leaves, leaves, Computed, computed};
 
-// z from t, and what is kept no longer.
-fn write(t: Terms, slot: &mut [u32], scratch: &mut [u32], found: &[u32], out: &mut [u32])
-    requires { ⌜ LastShape t (length (now slot)) (length (now scratch)) (length (now found)) (length (now out)) ⌝ }
-    ensures { λ _. ⌜ now (slot .exit) ≡ wordsSpent blinder t (now (slot .entry)) ⌝ }
-    ensures { λ _. ⌜ now (scratch .exit) ≡ over (zeros (scratchSize t)) (now (scratch .entry)) ⌝ }
-    ensures { λ _. ⌜ now (out .exit) ≡ over (matMul (t .q) (t .m) (t .m) (t .p - t .m)
-        (take (t .m * t .m) (drop (7 + (t .m * t .m + t .m * t .p)) (now (slot .entry)))) (now (found .entry))) (now (out .entry)) ⌝ }
+fn check(
+    pool: &[u32],
+    size: usize,
+    index: usize,
+    scratch: &[u32],
+    s: BlinderSession,
+    a: Head,
+    residues: &[u32],
+    room: usize,
+) -> Check
+    ensures { λ r. ⌜ checked r ≡ judged (blinderLastTests s (slotAt (now (pool .entry)) size index) (now (scratch .entry)) (messageWith a (now (residues .entry))) room) ⌝ }
 {
+    let fits = side_size(s.terms) <= room;
+    later::check(5, fits, pool, size, index, scratch, s, a, residues)
+}
+
+// z goes into `out`.
+fn compute(
+    pool: &[u32],
+    size: usize,
+    index: usize,
+    scratch: &mut [u32],
+    s: BlinderSession,
+    a: Head,
+    residues: &[u32],
+    out: &mut [u32],
+) -> BlinderAnswer
+    requires { ⌜ judged (blinderLastTests s (slotAt (now pool) size index) (now scratch) (messageWith a (now residues)) (length (now out))) ≡ done tt ⌝ }
+    ensures { λ r. ⌜ _≡_ {A = Computed BlinderSession}
+        (record { answer = answerReply (r .answer); session = r .session; head = r .head; scratch = now (scratch .exit); sent = []; result = now (out .exit) })
+        (computed (now (scratch .entry)) [] (now (out .entry))
+        (blinderLastEffect s (slotAt (now (pool .entry)) size index) (now (scratch .entry)) (messageWith a (now (residues .entry))))) ⌝ }
+{
+    let t = s.terms;
     let n = t.m as usize;
     let rhs = (t.p - t.m) as usize;
-    let square = times(t.m, t.m);
-    let from = 7 + (square + times(t.m, t.p));
-    let to = from + square;
-    write_product(t.q, n, n, rhs, &slot[from..to], found, out);
-    spend(End::Blinder, t, slot);
-    write_zeros(scratch_size(t), scratch);
+    let from = matrix_start(End::Blinder, t, 2, pool, size, index);
+    let stop = matrix_start(End::Blinder, t, 3, pool, size, index);
+    write_product(t.q, n, n, rhs, &pool[from..stop], residues, out);
+    BlinderAnswer {
+        answer: Answer::Accepted(0),
+        session: forget(t, scratch),
+        head: no_head(),
+    }
 }
 
 // Step 6 (RULES 5.8): z = Q × t.
@@ -62,22 +89,11 @@ pub fn blinder_last(
         (leaves s (slotAt (now (pool .entry)) size index) (now (scratch .entry)) [] (now (out .entry))
         (blinderLast s (slotAt (now (pool .entry)) size index) (now (scratch .entry)) (record { head = a; residues = now (residues .entry) }) (length (now (out .entry))))) ⌝ }
 {
-    let t = s.terms;
-    let checked = check(5, pool, size, index, scratch, s, a, residues, out.len());
-    let none = no_head();
+    let checked = check(pool, size, index, scratch, s, a, residues, out.len());
     let Check::Passed = checked else {
-        return BlinderAnswer {
-            answer: answer_of(checked),
-            session: s,
-            head: none,
-        };
+        return refused(checked, s);
     };
-    let at = index * size;
-    let end = at + size;
-    write(t, &mut pool[at..end], scratch, residues, out);
-    BlinderAnswer {
-        answer: Answer::Accepted(0),
-        session: closed(t),
-        head: none,
-    }
+    let done = compute(pool, size, index, scratch, s, a, residues, out);
+    spend_at(End::Blinder, s.terms, pool, size, index);
+    done
 }

@@ -17,6 +17,9 @@ mod second;
 pub use drop::BlinderDropped;
 pub use drop::blinder_drop;
 pub use first::blinder_first;
+use judging::Check;
+use judging::answer_of;
+use judging::message::no_head;
 pub use last::blinder_last;
 use protocol::Answer;
 use protocol::BlinderSession;
@@ -34,13 +37,26 @@ ghost use lib.ListN.{length};
 ghost use Rattle.algebra.specs.Matrix.{zeros};
 ghost use Rattle.algebra.specs.Words.{over};
 ghost use Rattle.protocol.specs.Bounds.{sidesFit, system};
-ghost use Rattle.protocol.specs.System.{padded, scratchSize};
+ghost use Rattle.protocol.specs.Message.{noMessage};
+ghost use Rattle.protocol.specs.System.{padded, noBlinder, scratchSize};
+ghost use Rattle.judging.specs.InOrder.{answerOf};
 
 // The session is as handed over where the step is refused; `head` is that of the message it sends.
 pub struct BlinderAnswer {
     pub answer: Answer,
     pub session: BlinderSession,
     pub head: Head,
+}
+
+// A refused step: the session is as it was, and nothing is sent.
+fn refused(c: Check, s: BlinderSession) -> BlinderAnswer
+    ensures { λ r. ⌜ r ≡ record { answer = answerOf c; session = s; head = noMessage .head } ⌝ }
+{
+    BlinderAnswer {
+        answer: answer_of(c),
+        session: s,
+        head: no_head(),
+    }
 }
 
 // M at the start of its array.
@@ -90,6 +106,14 @@ pub fn closed(t: Terms) -> BlinderSession
         mm: matrix,
         y: vector,
     }
+}
+
+// What a refused first step leaves.
+fn no_session() -> BlinderSession
+    ensures { λ r. ⌜ r ≡ noBlinder ⌝ }
+{
+    let none = no_head();
+    closed(none.terms)
 }
 
 // How many residues P and U0 have.

@@ -1,93 +1,172 @@
 // Step 4: the blinder sends W and c. Neither its half nor its scratch changes; its session waits for message 5.
+//   check           all tests, as those of a later step
+//   compute         the message, by send
+//   blinder_second  the step
 use crate::BlinderAnswer;
 use crate::formula::write_c;
 use crate::formula::write_w;
-use crate::later::check;
+use crate::later;
+use crate::refused;
+use crate::scratch_size;
 use judging::Check;
-use judging::answer_of;
-use judging::message::no_head;
+use judging::message::has_room;
 use judging::message::side_size;
 use protocol::Answer;
 use protocol::BlinderSession;
 use protocol::Head;
+use protocol::Terms;
+use tape::End;
+use tape::half::matrix_start;
 use vectors::times;
 ghost use mathlib.Core.Path.{_≡_};
 ghost use mathlib.Core.List.{[]};
-ghost use Prim.Native.Nat.{_-_};
+ghost use Prim.Native.Nat.{_+_, _*_, _≤_};
 ghost use lib.ListN.{length};
 ghost use Rattle.algebra.specs.Words.{over};
+ghost use Rattle.protocol.specs.Judge.{done};
 ghost use Rattle.protocol.specs.Tape.{slotAt};
-ghost use Rattle.protocol.specs.System.{keptM, keptY, blinderSecond};
+ghost use Rattle.protocol.specs.Message.{messageWith};
+ghost use Rattle.protocol.specs.System.{sideSize, blinderSecondEffect, blinderSecondTests, blinderSecond};
 ghost use Rattle.protocol.specs.Step.{answerReply};
-ghost use Rattle.judging.specs.Leaves.{Leaves, leaves};
-ghost use Rattle.blinder.specs.SecondShapes.{Lent, SecondShape, secondSent};
+ghost use Rattle.judging.specs.InOrder.{checked, judged};
+ghost use Rattle.judging.specs.Leaves.{Leaves, leaves, Computed, computed};
+ghost use Rattle.blinder.specs.Second.{Sending, Coins, secondW, secondC, secondSent};
 
-// W and then c. Q and G follow X0 and A0 in the slot; the scratch has P and then U0.
-fn write_message(
-    q: u32,
-    n: usize,
-    rhs: usize,
-    slot: &[u32],
+fn check(
+    pool: &[u32],
+    size: usize,
+    index: usize,
     scratch: &[u32],
+    s: BlinderSession,
+    a: Head,
+    residues: &[u32],
+    room: usize,
+) -> Check
+    ensures { λ r. ⌜ checked r ≡ judged (blinderSecondTests s (slotAt (now (pool .entry)) size index) (now (scratch .entry)) (messageWith a (now (residues .entry))) room) ⌝ }
+{
+    let fits = has_room(4, s.terms, room);
+    later::check(3, fits, pool, size, index, scratch, s, a, residues)
+}
+
+// W, from Q and G of the half; the scratch has P and then U0.
+fn send_w(
+    pool: &[u32],
+    size: usize,
+    index: usize,
+    scratch: &[u32],
+    t: Terms,
+    mm: &[u32],
+    f: &[u32],
+    out: &mut [u32],
+)
+    requires { ⌜ Sending t (slotAt (now pool) size index) (length (now scratch)) (length (now mm)) (length (now f)) (length (now out)) ⌝ }
+    ensures { λ _. ⌜ now (out .exit) ≡ over (secondW t (slotAt (now (pool .entry)) size index) (now (scratch .entry)) (now (mm .entry)) (now (f .entry))) (now (out .entry)) ⌝ }
+{
+    let n = t.m as usize;
+    let rhs = (t.p - t.m) as usize;
+    let square = times(t.m, t.m);
+    let coins = scratch_size(t);
+    let from = matrix_start(End::Blinder, t, 2, pool, size, index);
+    let middle = matrix_start(End::Blinder, t, 3, pool, size, index);
+    let stop = matrix_start(End::Blinder, t, 4, pool, size, index);
+    write_w(
+        t.q,
+        n,
+        rhs,
+        &scratch[square..coins],
+        f,
+        &pool[from..middle],
+        &scratch[..square],
+        mm,
+        &pool[middle..stop],
+        out,
+    );
+}
+
+// c, from the scratch and y.
+fn send_c(t: Terms, scratch: &[u32], y: &[u32], out: &mut [u32])
+    requires { ⌜ Coins t (length (now scratch)) (length (now y)) × (sideSize t ≤ length (now out)) ⌝ }
+    ensures { λ _. ⌜ now (out .exit) ≡ over (secondC t (now (scratch .entry)) (now (y .entry))) (now (out .entry)) ⌝ }
+{
+    let n = t.m as usize;
+    let rhs = (t.p - t.m) as usize;
+    let square = times(t.m, t.m);
+    let coins = scratch_size(t);
+    write_c(
+        t.q,
+        n,
+        rhs,
+        &scratch[square..coins],
+        &scratch[..square],
+        y,
+        out,
+    );
+}
+
+// W and then c.
+fn send(
+    pool: &[u32],
+    size: usize,
+    index: usize,
+    scratch: &[u32],
+    t: Terms,
     mm: &[u32],
     y: &[u32],
     f: &[u32],
     out: &mut [u32],
 )
-    requires { ⌜ Lent q n rhs (length (now slot)) (length (now scratch)) (length (now mm)) (length (now y)) (length (now f)) (length (now out)) ⌝ }
-    ensures { λ _. ⌜ now (out .exit) ≡ over (secondSent q n rhs (now (slot .entry)) (now (scratch .entry)) (now (mm .entry)) (now (y .entry)) (now (f .entry))) (now (out .entry)) ⌝ }
+    requires { ⌜ Sending t (slotAt (now pool) size index) (length (now scratch)) (length (now mm)) (length (now f)) (length (now out))
+        × Coins t (length (now scratch)) (length (now y)) × (t .m * t .m + sideSize t ≤ length (now out)) ⌝ }
+    ensures { λ _. ⌜ now (out .exit) ≡ over (secondSent t (slotAt (now (pool .entry)) size index) (now (scratch .entry)) (now (mm .entry)) (now (y .entry)) (now (f .entry))) (now (out .entry)) ⌝ }
 {
-    let square = n * n;
-    let both = square + n * (n + rhs);
-    let from = 7 + both;
-    let middle = from + square;
-    let end = middle + square;
-    write_w(
-        q,
-        n,
-        rhs,
-        &scratch[square..both],
-        f,
-        &slot[from..middle],
-        &scratch[..square],
-        mm,
-        &slot[middle..end],
-        out,
-    );
-    write_c(
-        q,
-        n,
-        rhs,
-        &scratch[square..both],
-        &scratch[..square],
-        y,
-        &mut out[square..],
-    );
+    let square = times(t.m, t.m);
+    send_w(pool, size, index, scratch, t, mm, f, out);
+    send_c(t, scratch, y, &mut out[square..]);
 }
 
-// The message, from what the session keeps.
-fn write(s: BlinderSession, slot: &[u32], scratch: &[u32], f: &[u32], out: &mut [u32])
-    requires { ⌜ SecondShape (s .terms) (length (now slot)) (length (now scratch)) (length (now f)) (length (now out)) ⌝ }
-    ensures { λ _. ⌜ now (out .exit) ≡ over (secondSent (s .terms .q) (s .terms .m) (s .terms .p - s .terms .m) (now (slot .entry)) (now (scratch .entry)) (keptM s) (keptY s) (now (f .entry))) (now (out .entry)) ⌝ }
+// The message goes into `out`; the session waits for kind 5.
+fn compute(
+    pool: &[u32],
+    size: usize,
+    index: usize,
+    scratch: &[u32],
+    s: BlinderSession,
+    a: Head,
+    residues: &[u32],
+    out: &mut [u32],
+) -> BlinderAnswer
+    requires { ⌜ judged (blinderSecondTests s (slotAt (now pool) size index) (now scratch) (messageWith a (now residues)) (length (now out))) ≡ done tt ⌝ }
+    ensures { λ r. ⌜ _≡_ {A = Computed BlinderSession}
+        (record { answer = answerReply (r .answer); session = r .session; head = r .head; scratch = now (scratch .entry); sent = now (out .exit); result = [] })
+        (computed (now (scratch .entry)) (now (out .entry)) []
+        (blinderSecondEffect s (slotAt (now (pool .entry)) size index) (now (scratch .entry)) (messageWith a (now (residues .entry))))) ⌝ }
 {
     let t = s.terms;
     let mm = s.mm;
     let y = s.y;
-    let n = t.m as usize;
-    let rhs = (t.p - t.m) as usize;
     let square = times(t.m, t.m);
     let side = side_size(t);
-    write_message(
-        t.q,
-        n,
-        rhs,
-        slot,
+    send(
+        pool,
+        size,
+        index,
         scratch,
+        t,
         &mm[..square],
         &y[..side],
-        f,
+        residues,
         out,
     );
+    BlinderAnswer {
+        answer: Answer::Accepted(0),
+        session: BlinderSession {
+            terms: t,
+            due: 5,
+            mm: mm,
+            y: y,
+        },
+        head: Head { kind: 4, terms: t },
+    }
 }
 
 // Step 4 (RULES 5.6): W = (U' − F) × Q + P × M × Q − G and c = u + P × y. The pool and the scratch stay as they are.
@@ -106,28 +185,9 @@ pub fn blinder_second(
         (leaves s (slotAt (now (pool .entry)) size index) (now (scratch .entry)) (now (out .entry)) []
         (blinderSecond s (slotAt (now (pool .entry)) size index) (now (scratch .entry)) (record { head = a; residues = now (residues .entry) }) (length (now (out .entry))))) ⌝ }
 {
-    let t = s.terms;
-    let mm = s.mm;
-    let y = s.y;
-    let checked = check(3, pool, size, index, scratch, s, a, residues, out.len());
+    let checked = check(pool, size, index, scratch, s, a, residues, out.len());
     let Check::Passed = checked else {
-        return BlinderAnswer {
-            answer: answer_of(checked),
-            session: s,
-            head: no_head(),
-        };
+        return refused(checked, s);
     };
-    let at = index * size;
-    let end = at + size;
-    write(s, &pool[at..end], scratch, residues, out);
-    BlinderAnswer {
-        answer: Answer::Accepted(0),
-        session: BlinderSession {
-            terms: t,
-            due: 5,
-            mm: mm,
-            y: y,
-        },
-        head: Head { kind: 4, terms: t },
-    }
+    compute(pool, size, index, scratch, s, a, residues, out)
 }

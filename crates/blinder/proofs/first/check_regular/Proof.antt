@@ -6,10 +6,10 @@ use lib.ListN.{length, length-replicate}
 use borrow.Author.Needs.{needs}
 use Rattle.judging.proofs.Join.{also}
 use mathlib.Core.List.{[], _∷_}
-use Rattle.blinder.specs.FirstGroups.{firstRegular}
+use Rattle.blinder.specs.First.{firstRegular}
 use Rattle.protocol.specs.System.{regularTests}
 use Rattle.tape.proofs.Sides.{unknowns}
-use Rattle.blinder.proofs.FirstKnown.{p-drawn, p-residues}
+use Rattle.blinder.proofs.Known.{p-drawn, p-residues}
 use Rattle.protocol.specs.Drawing.{residuesOf}
 use Rattle.drawing.proofs.Then.{drawn-count, coins-part}
 use Rattle.blinder.proofs.Kept.{square-bound, scratch-sum}

@@ -6,7 +6,7 @@ use native.Mathlib.Omega.{arith}
 use lib.ListN.{length, getD, set, take, drop}
 use borrow.Author.Needs.{needs}
 use Rattle.algebra.proofs.Columns.{cols-length}
-use Rattle.blinder.specs.SecondShapes.{innerW}
+use Rattle.blinder.specs.Second.{innerW}
 use Rattle.blinder.proofs.Start.{start-is, start-length}
 use Rattle.blinder.proofs.formula.write_inner.Statement.{statement}
 use Rattle.blinder.proofs.formula.write_inner.Tie as tie

@@ -1,25 +1,20 @@
 -- `blinder::last::blinder_last` meets its contract. Assumes nothing.
 use mathlib.Core.Path.{sym, ap, _∙_}
-use native.Mathlib.Omega.{arith}
-use lib.ListN.{length}
-use borrow.Author.Needs.{needs}
-use Rattle.tape.proofs.Slots.{slot-part, slot-part-length, slot-written, spent-keeps}
-use Rattle.protocol.specs.Tape.{slotAt, blinder, wordsSpent}
-use Rattle.blinder.proofs.LaterKnown.{last-tests, last-known, last-shape}
-use Rattle.judging.specs.InOrder.{checked, judged}
 use mathlib.Core.List.{[]}
-use Rattle.judging.proofs.Leaving.{refused-leaves}
-use Rattle.blinder.proofs.LastLeaving.{last-done}
-use Rattle.protocol.proofs.Slots.{slot-room}
+use lib.ListN.{length}
+use Rattle.protocol.specs.Tape.{slotAt, blinder}
+use Rattle.protocol.specs.Message.{messageWith}
 use Rattle.protocol.specs.System.{blinderLastEffect, blinderLast}
+use Rattle.judging.specs.InOrder.{checked}
+use Rattle.judging.proofs.Fits.{open-placed}
+use Rattle.judging.proofs.Leaving.{refused-leaves, step-leaves}
+use Rattle.blinder.proofs.Known.{last-known}
+use borrow.Author.Needs.{needs}
 use Rattle.blinder.proofs.last.blinder_last.Statement.{statement}
 use Rattle.blinder.proofs.last.blinder_last.Tie as tie
 
 check-requires : tie.Need-check-requires
 check-requires c κs = search needs
-
-no-head-requires : tie.Need-no-head-requires
-no-head-requires c κs = search needs
 
 enum-told : tie.Need-enum-told
 enum-told c = search needs
@@ -27,8 +22,8 @@ enum-told c = search needs
 enum-told-2 : tie.Need-enum-told-2
 enum-told-2 c = search needs
 
-answer-of-requires : tie.Need-answer-of-requires
-answer-of-requires c κs = search needs
+refused-requires : tie.Need-refused-requires
+refused-requires c κs = search needs
 
 same-length : tie.Need-same-length
 same-length c = search needs
@@ -39,57 +34,24 @@ same-length-2 c = search needs
 returns : tie.Need-returns
 unfolding blinderLast
 returns c =
-    let a = c .before .before .before .before .before .before .before .before .before .before .before .before .args in
+    let told = c .before .before .before .before .before .before .before .before .before .before in
+    let a = told .args in
     let s = slotAt (a .pool .now) (a .size) (a .index) in
-    rw (c .answer-of .ensures, c .before .enum-told2 .given .1, c .before .before .before .no-head .ensures)
-    (sym (refused-leaves (a .s) s (a .scratch .now) [] (a .out .now) _ (blinderLastEffect (a .s) s (a .scratch .now) (record { head = a .a; residues = a .residues .now })) (sym ((c .before .before .before .before .check .ensures ∙ ap judged (last-tests (a .s) s (a .scratch .now) (record { head = a .a; residues = a .residues .now }) (length (a .out .now))))) ∙ ap checked (c .before .enum-told2 .given .1))))
+    let m = messageWith (a .a) (a .residues .now) in
+    let e = c .before .enum-told2 .given .1 in
+    rw (c .refused .ensures, e)
+    (sym (refused-leaves (a .s) s (a .scratch .now) [] (a .out .now) _ (blinderLastEffect (a .s) s (a .scratch .now) m) (sym (c .before .before .before .check .ensures) ∙ ap checked e)))
 
-mul-at : tie.Need-mul-at
-mul-at c =
-    let a = c .before .before .before .before .before .before .before .before .before .before .before .args in
+compute-requires : tie.Need-compute-requires
+compute-requires c κs = sym (c .before .before .before .before .before .check .ensures) ∙ ap checked (c .before .before .before .enum-told .given .1)
+
+spend-at-requires : tie.Need-spend-at-requires
+spend-at-requires c κs =
+    let told = c .before .before .before .before .before .before .before .before .before in
+    let a = told .before .before .before .before .before .before .before .before .before .args in
     let s = slotAt (a .pool .now) (a .size) (a .index) in
-    let i = slot-room s (last-known (a .s) s (a .scratch .now) (record { head = a .a; residues = a .residues .now }) (length (a .out .now)) (sym ((c .before .before .before .check .ensures ∙ ap judged (last-tests (a .s) s (a .scratch .now) (record { head = a .a; residues = a .residues .now }) (length (a .out .now))))) ∙ ap checked (c .enum-told .given .1)) .later .session-open .half .inside) in
-    search needs
-
-add-end : tie.Need-add-end
-add-end c =
-    let a = c .before .before .before .before .before .before .before .before .before .before .before .args in
-    let s = slotAt (a .pool .now) (a .size) (a .index) in
-    let i = slot-room s (last-known (a .s) s (a .scratch .now) (record { head = a .a; residues = a .residues .now }) (length (a .out .now)) (sym ((c .before .before .before .check .ensures ∙ ap judged (last-tests (a .s) s (a .scratch .now) (record { head = a .a; residues = a .residues .now }) (length (a .out .now))))) ∙ ap checked (c .enum-told .given .1)) .later .session-open .half .inside) in
-    search needs
-
-mul-write : tie.Need-mul-write
-mul-write c =
-    let a = c .before .before .before .before .before .before .before .before .before .before .before .args in
-    let s = slotAt (a .pool .now) (a .size) (a .index) in
-    let i = slot-room s (last-known (a .s) s (a .scratch .now) (record { head = a .a; residues = a .residues .now }) (length (a .out .now)) (sym ((c .before .before .before .check .ensures ∙ ap judged (last-tests (a .s) s (a .scratch .now) (record { head = a .a; residues = a .residues .now }) (length (a .out .now))))) ∙ ap checked (c .enum-told .given .1)) .later .session-open .half .inside) in
-    search needs
-
-sub-write : tie.Need-sub-write
-sub-write c = search needs
-
-part-write-start : tie.Need-part-write-start
-part-write-start c = search needs
-
-part-write-end : tie.Need-part-write-end
-part-write-end c =
-    let a = c .before .before .before .before .before .before .before .before .before .before .before .args in
-    let s = slotAt (a .pool .now) (a .size) (a .index) in
-    let i = slot-room s (last-known (a .s) s (a .scratch .now) (record { head = a .a; residues = a .residues .now }) (length (a .out .now)) (sym ((c .before .before .before .check .ensures ∙ ap judged (last-tests (a .s) s (a .scratch .now) (record { head = a .a; residues = a .residues .now }) (length (a .out .now))))) ∙ ap checked (c .enum-told .given .1)) .later .session-open .half .inside) in
-    search needs
-
-write-requires : tie.Need-write-requires
-write-requires c κs =
-    let a = c .before .before .before .before .before .before .before .before .before .before .before .before .before .before .args in
-    let s = slotAt (a .pool .now) (a .size) (a .index) in
-    let f = last-known (a .s) s (a .scratch .now) (record { head = a .a; residues = a .residues .now }) (length (a .out .now))
-    (sym ((c .before .before .before .before .before .before .check .ensures ∙ ap judged (last-tests (a .s) s (a .scratch .now) (record { head = a .a; residues = a .residues .now }) (length (a .out .now))))) ∙ ap checked (c .before .before .before .enum-told .given .1)) in
-    let i = slot-room s (f .later .session-open .half .inside) in
-    last-shape (a .s) s (a .scratch .now) (record { head = a .a; residues = a .residues .now }) (length (a .out .now)) _
-    (slot-part-length (a .pool .now) (a .size) (a .index) i) f
-
-closed-requires : tie.Need-closed-requires
-closed-requires c κs = search needs
+    let m = messageWith (a .a) (a .residues .now) in
+    open-placed blinder (a .s .terms) s (last-known (a .s) s m (a .scratch .now) (length (a .out .now)) (sym (told .before .before .check .ensures) ∙ ap checked (told .enum-told .given .1)) .later .session-open)
 
 same-length-3 : tie.Need-same-length-3
 same-length-3 c = search needs
@@ -101,43 +63,28 @@ same-length-5 : tie.Need-same-length-5
 same-length-5 c = search needs
 
 returns-2 : tie.Need-returns-2
+unfolding blinderLast blinderLastEffect
 returns-2 c =
-    let a = c .before .before .before .before .before .before .before .before .before .before .before .before .before .before .before .before .before .before .before .before .before .before .args in
-    let check = c .before .before .before .before .before .before .before .before .before .before .before .before .before .before .check in
-    let enum-told = c .before .before .before .before .before .before .before .before .before .before .before .enum-told in
-    let write = c .before .before .before .before .before .before .before .write in
+    let told = c .before .before .before .before .before .before .before .before in
+    let a = told .before .before .before .before .before .before .before .before .before .before .before .before .before .args in
     let s = slotAt (a .pool .now) (a .size) (a .index) in
-    let f = last-known (a .s) s (a .scratch .now) (record { head = a .a; residues = a .residues .now }) (length (a .out .now))
-    (sym ((check .ensures ∙ ap judged (last-tests (a .s) s (a .scratch .now) (record { head = a .a; residues = a .residues .now }) (length (a .out .now))))) ∙ ap checked (enum-told .given .1)) in
-    let i = slot-room s (f .later .session-open .half .inside) in
-    last-done (a .s) s (a .scratch .now) (record { head = a .a; residues = a .residues .now }) (a .out .now)
-    (sym ((check .ensures ∙ ap judged (last-tests (a .s) s (a .scratch .now) (record { head = a .a; residues = a .residues .now }) (length (a .out .now))))) ∙ ap checked (enum-told .given .1)) (f .later .session-open .terms .sides) (last-shape (a .s) s (a .scratch .now) (record { head = a .a; residues = a .residues .now }) (length (a .out .now)) _ (slot-part-length (a .pool .now) (a .size) (a .index) i) f .full)
-    (c .closed .ensures)
-    (c .before .before .before .before .before .before .before .before .before .before .before .before .before .no-head .ensures)
-    (slot-written (a .pool .now) _ (a .size) (a .index) (wordsSpent blinder (a .s .terms)) i (λ ws e. spent-keeps blinder (a .s .terms) ws (omega (arith, f .later .session-open .half .room, e)) ∙ e) (write .ensures .0))
-    (write .ensures .1 .0)
-    (rw (slot-part (a .pool .now) (a .size) (a .index)) at (write .ensures .1 .1))
+    let m = messageWith (a .a) (a .residues .now) in
+    step-leaves (a .s) s (a .scratch .now) [] (a .out .now) _ (blinderLastEffect (a .s) s (a .scratch .now) m)
+    (sym (told .before .before .before .before .before .before .check .ensures) ∙ ap checked (told .before .before .before .before .enum-told .given .1)) (told .compute .ensures) (c .before .before .spend-at .ensures)
 
 pub blinder-last-spec : {M : Type 1} → statement M
 blinder-last-spec =
     tie.close
     (tie.spec
     check-requires
-    no-head-requires
     enum-told
     enum-told-2
-    answer-of-requires
+    refused-requires
     same-length
     same-length-2
     returns
-    mul-at
-    add-end
-    mul-write
-    sub-write
-    part-write-start
-    part-write-end
-    write-requires
-    closed-requires
+    compute-requires
+    spend-at-requires
     same-length-3
     same-length-4
     same-length-5

@@ -1,29 +1,35 @@
 -- `blinder::later::check` meets its contract. Assumes nothing.
 use mathlib.Core.Path.{_≡_, sym, ap, _∙_}
-use native.Mathlib.Omega.{arith}
+use Rattle.protocol.specs.Bounds.{roomTests}
+use Rattle.protocol.specs.Tape.{slotAt}
+use Rattle.protocol.specs.Message.{messageWith}
+use Rattle.judging.specs.InOrder.{checked, judged}
+use Rattle.judging.proofs.Join.{also, hands-on, goes-past}
+use lib.ListN.{length}
+use Rattle.blinder.specs.Later.{laterOpen}
+use Rattle.blinder.proofs.Known.{kept-known}
+use Rattle.blinder.proofs.Order.{later-phases}
 use borrow.Author.Needs.{needs}
-use Rattle.judging.proofs.Join.{hands-on, goes-past}
-use Rattle.tape.proofs.Slots.{slot-part, slot-part-length}
-use Rattle.protocol.specs.Tape.{slotAt, blinder}
-use Rattle.judging.proofs.Fits.{received-fits}
-use Rattle.blinder.proofs.LaterKnown.{scratch-lent}
-use Rattle.judging.specs.InOrder.{checked}
-use Rattle.blinder.proofs.LaterOrder.{open-phases, closed-judged}
-use Rattle.judging.proofs.Phases.{is-open}
 use Rattle.blinder.proofs.later.check.Statement.{statement}
 use Rattle.blinder.proofs.later.check.Tie as tie
 
-check-closed-requires : tie.Need-check-closed-requires
-check-closed-requires c κs = search needs
+check-later-requires : tie.Need-check-later-requires
+check-later-requires c κs = search needs
 
-returns : tie.Need-returns
-returns c =
-    let a = c .before .before .before .before .before .before .before .args in
-    c .check-closed .ensures ∙ sym
-    (closed-judged (a .step) (a .s) (slotAt (a .pool .now) (a .size) (a .index)) (a .scratch .now) (a .a) (a .residues .now) (a .room) (c .before .if1 .taken) (λ (e : 0 ≡ a .step). omega (arith, e, c .before .before .before .before .before .before .before .pre)))
+scratch-fits-requires : tie.Need-scratch-fits-requires
+scratch-fits-requires c κs = search needs
 
-check-numbers-requires : tie.Need-check-numbers-requires
-check-numbers-requires c κs = search needs
+check-room-requires : tie.Need-check-room-requires
+check-room-requires c κs = search needs
+
+check-room-requires-2 : tie.Need-check-room-requires-2
+check-room-requires-2 c κs = search needs
+
+worst-requires : tie.Need-worst-requires
+worst-requires c κs = search needs
+
+worst-requires-2 : tie.Need-worst-requires-2
+worst-requires-2 c κs = search needs
 
 enum-told : tie.Need-enum-told
 enum-told c = search needs
@@ -31,100 +37,55 @@ enum-told c = search needs
 enum-told-2 : tie.Need-enum-told-2
 enum-told-2 c = search needs
 
+returns : tie.Need-returns
+unfolding laterOpen roomTests
+returns c =
+    let told = c .before .before .before .before in
+    let a = told .before .before .before .before .before .before .before .before .args in
+    let s = slotAt (a .pool .now) (a .size) (a .index) in
+    let m = messageWith (a .a) (a .residues .now) in
+    let known : checked (c .before .before .worst2 .result) ≡ judged (laterOpen (a .step) (a .fits) (a .s) s (length (a .scratch .now)) m) =
+    also _ _ (c .before .before .worst2 .ensures) (told .before .before .before .check-later .ensures)
+    (also _ _ (c .before .before .before .worst .ensures) (rw (told .before .before .scratch-fits .ensures) at (told .before .check-room .ensures)) (told .check-room2 .ensures)) in
+    hands-on (c .before .before .worst2 .result) _ known (c .enum-told2 .given .1) ∙ sym (later-phases (a .s) s (a .scratch .now) m (a .step) (a .fits))
+
+check-kept-requires : tie.Need-check-kept-requires
+unfolding laterOpen roomTests
+check-kept-requires c κs =
+    let told = c .before .before .before .before in
+    let a = told .before .before .before .before .before .before .before .before .args in
+    let s = slotAt (a .pool .now) (a .size) (a .index) in
+    let m = messageWith (a .a) (a .residues .now) in
+    let known : checked (c .before .before .worst2 .result) ≡ judged (laterOpen (a .step) (a .fits) (a .s) s (length (a .scratch .now)) m) =
+    also _ _ (c .before .before .worst2 .ensures) (told .before .before .before .check-later .ensures)
+    (also _ _ (c .before .before .before .worst .ensures) (rw (told .before .before .scratch-fits .ensures) at (told .before .check-room .ensures)) (told .check-room2 .ensures)) in
+    kept-known (a .s) s m (a .step) (a .fits) _ (sym known ∙ ap checked (c .enum-told .given .1))
+
 returns-2 : tie.Need-returns-2
+unfolding laterOpen roomTests
 returns-2 c =
-    let a = c .before .before .before .before .before .before .before .before .before .args in
-    hands-on (c .before .before .check-numbers .result) _ (c .before .before .check-numbers .ensures) (c .enum-told2 .given .1) ∙ sym
-    (open-phases (a .step) (a .s) (slotAt (a .pool .now) (a .size) (a .index)) (a .scratch .now) (a .a) (a .residues .now) (a .room) (is-open (a .s .due) (c .before .before .before .if1 .left)))
-
-check-turn-requires : tie.Need-check-turn-requires
-check-turn-requires c κs =
-    let a = c .before .before .before .before .before .before .before .before .before .args in
-    let k = received-fits blinder (a .s .terms) (a .a) _ _ _ _
-    (sym (c .before .before .check-numbers .ensures) ∙ ap checked (c .enum-told .given .1)) in
-    k .sides-fit
-
-enum-told-3 : tie.Need-enum-told-3
-enum-told-3 c = search needs
-
-enum-told-4 : tie.Need-enum-told-4
-enum-told-4 c = search needs
-
-returns-3 : tie.Need-returns-3
-returns-3 c =
-    let a = c .before .before .before .before .before .before .before .before .before .before .before .before .args in
-    let check-numbers = c .before .before .before .before .before .check-numbers in
-    hands-on (c .before .before .check-turn .result) _ (c .before .before .check-turn .ensures) (c .enum-told4 .given .1) ∙ sym
-    (open-phases (a .step) (a .s) (slotAt (a .pool .now) (a .size) (a .index)) (a .scratch .now) (a .a) (a .residues .now) (a .room) (is-open (a .s .due) (c .before .before .before .before .before .before .if1 .left)) ∙ goes-past (check-numbers .result) (check-numbers .ensures) (c .before .before .before .enum-told .given .1))
-
-mul-at : tie.Need-mul-at
-mul-at c =
-    let a = c .before .before .before .before .before .before .before .before .before .before .before .before .args in
-    let k = received-fits blinder (a .s .terms) (a .a) _ _ _ _
-    (sym (c .before .before .before .before .before .check-numbers .ensures) ∙ ap checked (c .before .before .before .enum-told .given .1)) .inside in
-    search needs
-
-add-end : tie.Need-add-end
-add-end c =
-    let a = c .before .before .before .before .before .before .before .before .before .before .before .before .args in
-    let k = received-fits blinder (a .s .terms) (a .a) _ _ _ _
-    (sym (c .before .before .before .before .before .check-numbers .ensures) ∙ ap checked (c .before .before .before .enum-told .given .1)) .inside in
-    search needs
-
-mul-check-words : tie.Need-mul-check-words
-mul-check-words c =
-    let a = c .before .before .before .before .before .before .before .before .before .before .before .before .args in
-    let k = received-fits blinder (a .s .terms) (a .a) _ _ _ _
-    (sym (c .before .before .before .before .before .check-numbers .ensures) ∙ ap checked (c .before .before .before .enum-told .given .1)) .inside in
-    search needs
-
-sub-check-words : tie.Need-sub-check-words
-sub-check-words c = search needs
-
-part-check-words-start : tie.Need-part-check-words-start
-part-check-words-start c = search needs
-
-part-check-words-end : tie.Need-part-check-words-end
-part-check-words-end c =
-    let a = c .before .before .before .before .before .before .before .before .before .before .before .before .args in
-    let k = received-fits blinder (a .s .terms) (a .a) _ _ _ _
-    (sym (c .before .before .before .before .before .check-numbers .ensures) ∙ ap checked (c .before .before .before .enum-told .given .1)) .inside in
-    search needs
-
-check-words-requires : tie.Need-check-words-requires
-check-words-requires c κs =
-    let a = c .before .before .before .before .before .before .before .before .before .before .before .before .before .args in
-    let k = received-fits blinder (a .s .terms) (a .a) _ _ _ _
-    (sym (c .before .before .before .before .before .before .check-numbers .ensures) ∙ ap checked (c .before .before .before .before .enum-told .given .1)) in
-    (k .sides-fit, omega (arith, k .half, slot-part-length (a .pool .now) (a .size) (a .index) (k .inside)), scratch-lent (a .step) (a .s .terms) (a .s .due) (a .a .kind) _ _ (sym (c .before .before .before .check-turn .ensures) ∙ ap checked (c .before .enum-told3 .given .1)))
-
-returns-4 : tie.Need-returns-4
-returns-4 c =
-    let a = c .before .before .before .before .before .before .before .before .before .before .before .before .before .before .args in
-    let check-numbers = c .before .before .before .before .before .before .before .check-numbers in
-    let check-turn = c .before .before .before .before .check-turn in
-    (rw (slot-part (a .pool .now) (a .size) (a .index)) at (c .check-words .ensures)) ∙ sym
-    (open-phases (a .step) (a .s) (slotAt (a .pool .now) (a .size) (a .index)) (a .scratch .now) (a .a) (a .residues .now) (a .room) (is-open (a .s .due) (c .before .before .before .before .before .before .before .before .if1 .left)) ∙ goes-past (check-numbers .result) (check-numbers .ensures) (c .before .before .before .before .before .enum-told .given .1) ∙ goes-past (check-turn .result) (check-turn .ensures) (c .before .before .enum-told3 .given .1))
+    let told = c .before .before .before .before in
+    let a = told .before .before .before .before .before .before .before .before .before .args in
+    let s = slotAt (a .pool .now) (a .size) (a .index) in
+    let m = messageWith (a .a) (a .residues .now) in
+    let known : checked (c .before .before .before .worst2 .result) ≡ judged (laterOpen (a .step) (a .fits) (a .s) s (length (a .scratch .now)) m) =
+    also _ _ (c .before .before .before .worst2 .ensures) (told .before .before .before .before .check-later .ensures)
+    (also _ _ (told .worst .ensures) (rw (told .before .before .before .scratch-fits .ensures) at (told .before .before .check-room .ensures)) (told .before .check-room2 .ensures)) in
+    c .check-kept .ensures
+    ∙ sym (later-phases (a .s) s (a .scratch .now) m (a .step) (a .fits) ∙ goes-past (c .before .before .before .worst2 .result) known (c .before .enum-told .given .1))
 
 pub check-spec : {M : Type 1} → statement M
 check-spec =
     tie.close
     (tie.spec
-    check-closed-requires
-    returns
-    check-numbers-requires
+    check-later-requires
+    scratch-fits-requires
+    check-room-requires
+    check-room-requires-2
+    worst-requires
+    worst-requires-2
     enum-told
     enum-told-2
-    returns-2
-    check-turn-requires
-    enum-told-3
-    enum-told-4
-    returns-3
-    mul-at
-    add-end
-    mul-check-words
-    sub-check-words
-    part-check-words-start
-    part-check-words-end
-    check-words-requires
-    returns-4)
+    returns
+    check-kept-requires
+    returns-2)

@@ -1,0 +1,138 @@
+-- `blinder::first::compute` meets its contract. Assumes nothing.
+use mathlib.Core.Path.{_≡_, sym, ap, _∙_}
+use mathlib.Core.List.{append-nil}
+use native.Mathlib.Omega.{arith}
+use lib.ListN.{length}
+use Prim.Native.Nat.{ℕ, _≤_, _*_}
+use Rattle.algebra.specs.Count.{join}
+use Rattle.algebra.specs.Words.{over}
+use Rattle.protocol.specs.Drawing.{residuesOf}
+use Rattle.protocol.specs.Tape.{slotAt, blinder}
+use Rattle.protocol.specs.Message.{messageWith}
+use Rattle.protocol.specs.System.{coinsOf, blinderFirstEffect}
+use Rattle.drawing.proofs.Then.{drawn-count, coins-part}
+use Rattle.tape.proofs.Sides.{unknowns}
+use Rattle.judging.proofs.Fits.{first-placed}
+use Rattle.judging.proofs.KindLaws.{size-1, size-2, whole-message}
+use Rattle.blinder.specs.First.{firstX, firstR, firstSent}
+use Rattle.blinder.proofs.Kept.{square-is, square-bound, side-bound}
+use Rattle.blinder.proofs.Known.{first-known}
+use borrow.Author.Needs.{needs}
+use Rattle.blinder.proofs.first.compute.Statement.{statement}
+use Rattle.blinder.proofs.first.compute.Tie as tie
+
+scratch-size-requires : tie.Need-scratch-size-requires
+scratch-size-requires c κs =
+    let told = c .before .before .before .before .before .before .before in
+    let a = told .args in
+    let t = a .t in
+    let s = slotAt (a .pool .now) (a .size) (a .index) in
+    let m = messageWith (a .a) (a .residues .now) in
+    let f = first-known t s (length (a .scratch .now)) (a .mm .now) (a .y .now) m (length (a .out .now)) (a .words .now) (told .pre) in
+    let fits = f .first .terms .sides in
+    fits
+
+draw-requires : tie.Need-draw-requires
+draw-requires c κs =
+    let told = c .before .before .before .before .before .before .before .before .before in
+    let a = told .args in
+    let t = a .t in
+    let s = slotAt (a .pool .now) (a .size) (a .index) in
+    let m = messageWith (a .a) (a .residues .now) in
+    let f = first-known t s (length (a .scratch .now)) (a .mm .now) (a .y .now) m (length (a .out .now)) (a .words .now) (told .pre) in
+    let fits = f .first .terms .sides in
+    (omega (arith, f .first .terms .big), omega (arith, c .before .scratch-size .ensures, f .enough), omega (arith, c .before .scratch-size .ensures, f .scratch-room))
+
+slice-reshare-prefix-send : tie.Need-slice-reshare-prefix-send
+slice-reshare-prefix-send c =
+    let told = c .before .before .before .before in
+    let a = told .before .before .before .before .before .before .before .before .args in
+    let t = a .t in
+    let s = slotAt (a .pool .now) (a .size) (a .index) in
+    let m = messageWith (a .a) (a .residues .now) in
+    let f = first-known t s (length (a .scratch .now)) (a .mm .now) (a .y .now) m (length (a .out .now)) (a .words .now) (told .before .before .before .before .before .before .before .before .pre) in
+    let fits = f .first .terms .sides in
+    let room = f .scratch-room in
+    let size = told .scratch-size .ensures in
+    search needs
+
+slice-aggregate-send : tie.Need-slice-aggregate-send
+slice-aggregate-send c =
+    let told = c .before .before .before .before .before in
+    let a = told .before .before .before .before .before .before .before .before .args in
+    let t = a .t in
+    let s = slotAt (a .pool .now) (a .size) (a .index) in
+    let m = messageWith (a .a) (a .residues .now) in
+    let f = first-known t s (length (a .scratch .now)) (a .mm .now) (a .y .now) m (length (a .out .now)) (a .words .now) (told .before .before .before .before .before .before .before .before .pre) in
+    let fits = f .first .terms .sides in
+    let few : told .scratch-size .result ≤ length (residuesOf (t .q) (a .words .now)) = omega (arith, told .scratch-size .ensures, f .enough) in
+    let u = coins-part _ _ (a .words .now) _ _ few (c .before .before .before .draw .ensures .1) in
+    sym (ap length u ∙ drawn-count _ _ _ few)
+
+send-requires : tie.Need-send-requires
+send-requires c κs =
+    let told = c .before .before .before .before in
+    let a = told .before .before .before .before .before .before .before .before .before .before .args in
+    let t = a .t in
+    let s = slotAt (a .pool .now) (a .size) (a .index) in
+    let m = messageWith (a .a) (a .residues .now) in
+    let f = first-known t s (length (a .scratch .now)) (a .mm .now) (a .y .now) m (length (a .out .now)) (a .words .now) (told .before .before .before .before .before .before .before .before .before .before .pre) in
+    let fits = f .first .terms .sides in
+    let few : told .before .before .scratch-size .result ≤ length (residuesOf (t .q) (a .words .now)) = omega (arith, told .before .before .scratch-size .ensures, f .enough) in
+    let u = coins-part _ _ (a .words .now) _ _ few (told .draw .ensures .1) in
+    let long : t .k * t .p ≡ t .m * t .p = ap (λ (k : ℕ). k * t .p) (unknowns (t .m) (t .k) (t .p) fits .square) in (
+      record {
+        some-q = omega (arith, f .first .terms .big);
+        small-q = omega (arith, f .first .terms .small);
+        placed = first-placed blinder t s (f .first);
+        drawn = ap length u ∙ (drawn-count _ _ _ few ∙ told .before .before .scratch-size .ensures);
+      },
+      f .message .residues .size ∙ (sym (size-1 t) ∙ long),
+      omega (arith, f .message-room, size-2 t, square-is t fits),
+    )
+
+opened-requires : tie.Need-opened-requires
+opened-requires c κs =
+    let told = c .before .before .before .before .before .before .before .before .before .before .before .before .before .before .before .before .before in
+    let a = told .args in
+    let t = a .t in
+    let s = slotAt (a .pool .now) (a .size) (a .index) in
+    let m = messageWith (a .a) (a .residues .now) in
+    let f = first-known t s (length (a .scratch .now)) (a .mm .now) (a .y .now) m (length (a .out .now)) (a .words .now) (told .pre) in
+    let fits = f .first .terms .sides in
+    (omega (arith, f .m-fits .size, square-bound t fits), omega (arith, f .y-fits .size, side-bound t fits))
+
+same-length : tie.Need-same-length
+same-length c = search needs
+
+same-length-2 : tie.Need-same-length-2
+same-length-2 c = search needs
+
+returns : tie.Need-returns
+unfolding blinderFirstEffect coinsOf firstSent firstX firstR join over
+returns c =
+    let told = c .before .before .before .before .before .before .before .before in
+    let a = told .before .before .before .before .before .before .before .before .before .before .args in
+    let t = a .t in
+    let s = slotAt (a .pool .now) (a .size) (a .index) in
+    let m = messageWith (a .a) (a .residues .now) in
+    let f = first-known t s (length (a .scratch .now)) (a .mm .now) (a .y .now) m (length (a .out .now)) (a .words .now) (told .before .before .before .before .before .before .before .before .before .before .pre) in
+    let fits = f .first .terms .sides in
+    let few : told .before .before .scratch-size .result ≤ length (residuesOf (t .q) (a .words .now)) = omega (arith, told .before .before .scratch-size .ensures, f .enough) in
+    let u = coins-part _ _ (a .words .now) _ _ few (told .draw .ensures .1) in
+    let full = whole-message t m (f .message .residues .size ∙ sym (size-1 t)) in
+    rw (c .before .before .before .send .ensures, u, told .draw .ensures .0, told .draw .ensures .1, c .opened .ensures, told .before .before .scratch-size .ensures) (simp (append-nil, full))
+
+pub compute-spec : {M : Type 1} → statement M
+compute-spec =
+    tie.close
+    (tie.spec
+    scratch-size-requires
+    draw-requires
+    slice-reshare-prefix-send
+    slice-aggregate-send
+    send-requires
+    opened-requires
+    same-length
+    same-length-2
+    returns)
