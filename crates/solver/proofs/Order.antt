@@ -10,7 +10,7 @@ use Rattle.protocol.specs.declared.Refusal.{Refusal}
 use Rattle.protocol.specs.declared.Refusal.the-variants.{Form, Modulus, Composite, Size, Turn, Mark, Stranger, Residue, Dry, Singular}
 use Rattle.protocol.specs.declared.Terms.{Terms}
 use Rattle.protocol.specs.declared.SolverSession.{SolverSession}
-use Rattle.protocol.specs.Judge.{placeIn, placeOf, given, clear}
+use Rattle.protocol.specs.Judge.{placeIn, placeOf, given}
 use Rattle.protocol.specs.Bounds.{shapeTests, termsTests, inputTests, roomTests}
 use Rattle.protocol.specs.Tape.{Slot, solver, slotTests, halfTests, tapeTests, bodyTests}
 use Rattle.protocol.specs.Message.{Message, messageSize, messageTests, dueTests}

@@ -1,7 +1,6 @@
 -- `solver::session_of` meets its contract. Assumes nothing.
 use mathlib.Core.Path.{refl}
 use Rattle.algebra.specs.Matrix.{zeros, tabulate}
-use borrow.Author.Needs.{needs}
 use Rattle.solver.proofs.session_of.Statement.{statement}
 use Rattle.solver.proofs.session_of.Tie as tie
 

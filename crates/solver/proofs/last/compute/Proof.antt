@@ -1,6 +1,5 @@
 -- `solver::last::compute` meets its contract. Assumes nothing.
-use mathlib.Core.Path.{_≡_, refl, sym, ap, _∙_}
-use mathlib.Core.Bool.{Bool}
+use mathlib.Core.Path.{refl, sym, _∙_}
 use native.Mathlib.Omega.{arith}
 use lib.ListN.{length}
 use lib.Seq.{length-take-le}
@@ -12,9 +11,19 @@ use Rattle.judging.proofs.Fits.{open-placed as placed}
 use Rattle.solver.specs.Formulas.{sumOf}
 use Rattle.solver.proofs.Known.{few, one-side, last-known, last-counts, session-array}
 use Rattle.solver.proofs.Formulas.{sum-residues, last-left}
+use Rattle.protocol.proofs.StepTests.{SolverFits}
+use Rattle.protocol.specs.Message.{messageSize}
 use borrow.Author.Needs.{needs}
 use Rattle.solver.proofs.last.compute.Statement.{statement}
 use Rattle.solver.proofs.last.compute.Tie as tie
+
+known : (c : tie.Start) →
+    let a = c .args in
+    let s = slotAt (a .pool .now) (a .size) (a .index) in
+    SolverFits 4 (a .s) s (messageWith (a .a) (a .residues .now)) (messageSize 5 (a .s .terms)) (length (a .out .now))
+known c =
+    let a = c .args in
+    last-known (a .s) (slotAt (a .pool .now) (a .size) (a .index)) (messageWith (a .a) (a .residues .now)) (length (a .out .now)) (c .pre)
 
 times-requires : tie.Need-times-requires
 times-requires c κs = search needs
@@ -24,11 +33,10 @@ slice-aggregate-write-joint c = refl
 
 write-joint-requires : tie.Need-write-joint-requires
 write-joint-requires c κs =
-    let pre = c .before .before .before .before .before .before .pre in
     let a = c .before .before .before .before .before .before .args in
     let t = a .s .terms in
     let s = slotAt (a .pool .now) (a .size) (a .index) in
-    let k = last-known (a .s) s (messageWith (a .a) (a .residues .now)) (length (a .out .now)) (pre) in
+    let k = known (c .before .before .before .before .before .before) in
     let o = k .later .session-open in
     let n = last-counts (a .s) s (messageWith (a .a) (a .residues .now)) (length (a .out .now)) k in
     let f = few t (o .terms .sides) in
@@ -36,11 +44,10 @@ write-joint-requires c κs =
 
 array-share-prefix-sum : tie.Need-array-share-prefix-sum
 array-share-prefix-sum c =
-    let pre = c .before .before .before .before .before .before .before .before .before .pre in
     let a = c .before .before .before .before .before .before .before .before .before .args in
     let t = a .s .terms in
     let s = slotAt (a .pool .now) (a .size) (a .index) in
-    let o = last-known (a .s) s (messageWith (a .a) (a .residues .now)) (length (a .out .now)) (pre) .later .session-open in
+    let o = known (c .before .before .before .before .before .before .before .before .before) .later .session-open in
     let f = few t (o .terms .sides) in
     let r = sum-residues t s (a .residues .now) (omega (arith, o .terms .big)) .size in
     let n = after-over (sumOf t s (a .residues .now)) _ (c .before .before .write-joint .ensures) (omega (arith, r, f .mm)) in
@@ -48,11 +55,10 @@ array-share-prefix-sum c =
 
 slice-aggregate-find-t : tie.Need-slice-aggregate-find-t
 slice-aggregate-find-t c =
-    let pre = c .before .before .before .before .before .before .before .before .before .before .pre in
     let a = c .before .before .before .before .before .before .before .before .before .before .args in
     let t = a .s .terms in
     let s = slotAt (a .pool .now) (a .size) (a .index) in
-    let o = last-known (a .s) s (messageWith (a .a) (a .residues .now)) (length (a .out .now)) (pre) .later .session-open in
+    let o = known (c .before .before .before .before .before .before .before .before .before .before) .later .session-open in
     let f = few t (o .terms .sides) in
     let r = sum-residues t s (a .residues .now) (omega (arith, o .terms .big)) .size in
     let n = after-over (sumOf t s (a .residues .now)) _ (c .before .before .before .write-joint .ensures) (omega (arith, r, f .mm)) in
@@ -67,14 +73,13 @@ slice-aggregate-find-t-2 c =
 find-t-requires : tie.Need-find-t-requires
 unfolding fieldFits
 find-t-requires c κs =
-    let pre = c .before .before .before .before .before .before .before .before .before .before .before .before .pre in
     let times = c .before .before .before .before .before .before .before .times in
     let write-joint = c .before .before .before .before .before .write-joint in
     let good = c .before .before .before .before .before .before .before .before .before .before .before .before .good in
     let a = c .before .before .before .before .before .before .before .before .before .before .before .before .args in
     let t = a .s .terms in
     let s = slotAt (a .pool .now) (a .size) (a .index) in
-    let k = last-known (a .s) s (messageWith (a .a) (a .residues .now)) (length (a .out .now)) (pre) in
+    let k = known (c .before .before .before .before .before .before .before .before .before .before .before .before) in
     let o = k .later .session-open in
     let n = last-counts (a .s) s (messageWith (a .a) (a .residues .now)) (length (a .out .now)) k in
     let r = sum-residues t s (a .residues .now) (omega (arith, o .terms .big)) in
@@ -98,12 +103,11 @@ same-length c = search needs
 returns : tie.Need-returns
 returns c =
     let far = c .before .before .before .before .before .before .before .before .before .before in
-    let pre = far .before .before .before .before .before .before .pre in
     let write-joint = c .before .before .before .before .before .before .before .before .before .write-joint in
     let a = far .before .before .before .before .before .before .args in
     let t = a .s .terms in
     let s = slotAt (a .pool .now) (a .size) (a .index) in
-    let k = last-known (a .s) s (messageWith (a .a) (a .residues .now)) (length (a .out .now)) (pre) in
+    let k = known (far .before .before .before .before .before .before) in
     let r = sum-residues t s (a .residues .now) (omega (arith, k .later .session-open .terms .big)) in
     let times = far .before .times in
     let e = over-part (times .result) (sumOf t s (a .residues .now)) _ (write-joint .ensures) (r .size ∙ sym (times .ensures)) in

@@ -1,8 +1,7 @@
 -- `solver::last::find_t` meets its contract. Assumes nothing.
-use mathlib.Core.Path.{_≡_, refl, sym, ap, _∙_}
+use mathlib.Core.Path.{_≡_, sym, _∙_}
 use Prim.Native.Nat.{_*_}
 use native.Mathlib.Omega.{arith}
-use lib.ListN.{length}
 use lib.Seq.{length-take-le}
 use Rattle.vectors.proofs.Written.{after-over, over-part}
 use Rattle.protocol.specs.System.{sideSize}

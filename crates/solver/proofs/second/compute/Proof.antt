@@ -14,9 +14,19 @@ use Rattle.judging.proofs.Fits.{open-placed as placed}
 use Rattle.solver.specs.Formulas.{sentPart, shareOf}
 use Rattle.solver.proofs.Known.{few, second-known, second-counts}
 use Rattle.solver.proofs.Formulas.{share-length}
+use Rattle.protocol.proofs.StepTests.{SolverFits}
+use Rattle.protocol.specs.Message.{messageSize}
 use borrow.Author.Needs.{needs}
 use Rattle.solver.proofs.second.compute.Statement.{statement}
 use Rattle.solver.proofs.second.compute.Tie as tie
+
+known : (c : tie.Start) →
+    let a = c .args in
+    let s = slotAt (a .pool .now) (a .size) (a .index) in
+    SolverFits 2 (a .s) s (messageWith (a .a) (a .residues .now)) (messageSize 3 (a .s .terms)) (length (a .out .now))
+known c =
+    let a = c .args in
+    second-known (a .s) (slotAt (a .pool .now) (a .size) (a .index)) (messageWith (a .a) (a .residues .now)) (length (a .out .now)) (c .pre)
 
 times-requires : tie.Need-times-requires
 times-requires c κs = search needs
@@ -26,22 +36,20 @@ slice-aggregate-find-share c = refl
 
 find-share-requires : tie.Need-find-share-requires
 find-share-requires c κs =
-    let pre = c .before .before .before .before .before .before .pre in
     let a = c .before .before .before .before .before .before .args in
     let t = a .s .terms in
     let s = slotAt (a .pool .now) (a .size) (a .index) in
-    let k = second-known (a .s) s (messageWith (a .a) (a .residues .now)) (length (a .out .now)) (pre) in
+    let k = known (c .before .before .before .before .before .before) in
     let o = k .later .session-open in
     let n = second-counts (a .s) s (messageWith (a .a) (a .residues .now)) (length (a .out .now)) k in
     (placed solver t s o, omega (arith, o .terms .big), omega (arith, o .terms .small), n .0, omega (arith, few t (o .terms .sides) .mp))
 
 array-share-prefix-share : tie.Need-array-share-prefix-share
 array-share-prefix-share c =
-    let pre = c .before .before .before .before .before .before .before .before .pre in
     let a = c .before .before .before .before .before .before .before .before .args in
     let t = a .s .terms in
     let s = slotAt (a .pool .now) (a .size) (a .index) in
-    let k = second-known (a .s) s (messageWith (a .a) (a .residues .now)) (length (a .out .now)) (pre) in
+    let k = known (c .before .before .before .before .before .before .before .before) in
     let f = few t (k .later .session-open .terms .sides) in
     let l = share-length t s (a .residues .now) (f .whole) in
     let z = after-over (shareOf t s (a .residues .now)) _ (c .before .find-share .ensures) (omega (arith, l, f .mp)) in
@@ -49,11 +57,10 @@ array-share-prefix-share c =
 
 slice-aggregate-finish : tie.Need-slice-aggregate-finish
 slice-aggregate-finish c =
-    let pre = c .before .before .before .before .before .before .before .before .before .pre in
     let a = c .before .before .before .before .before .before .before .before .before .args in
     let t = a .s .terms in
     let s = slotAt (a .pool .now) (a .size) (a .index) in
-    let k = second-known (a .s) s (messageWith (a .a) (a .residues .now)) (length (a .out .now)) (pre) in
+    let k = known (c .before .before .before .before .before .before .before .before .before) in
     let f = few t (k .later .session-open .terms .sides) in
     let l = share-length t s (a .residues .now) (f .whole) in
     let z = after-over (shareOf t s (a .residues .now)) _ (c .before .before .find-share .ensures) (omega (arith, l, f .mp)) in
@@ -61,12 +68,11 @@ slice-aggregate-finish c =
 
 finish-requires : tie.Need-finish-requires
 finish-requires c κs =
-    let pre = c .before .before .before .before .before .before .before .before .before .before .pre in
     let find-share = c .before .before .before .find-share in
     let a = c .before .before .before .before .before .before .before .before .before .before .args in
     let t = a .s .terms in
     let s = slotAt (a .pool .now) (a .size) (a .index) in
-    let k = second-known (a .s) s (messageWith (a .a) (a .residues .now)) (length (a .out .now)) (pre) in
+    let k = known (c .before .before .before .before .before .before .before .before .before .before) in
     let o = k .later .session-open in
     let l = share-length t s (a .residues .now) (few t (o .terms .sides) .whole) in
     let times = c .before .before .before .before .before .times in
@@ -80,12 +86,11 @@ same-length c = search needs
 returns : tie.Need-returns
 unfolding solverSecondEffect shareOf sentPart messageParts join over
 returns c =
-    let pre = c .before .before .before .before .before .before .before .before .before .before .before .before .before .pre in
     let find-share = c .before .before .before .before .before .before .find-share in
     let a = c .before .before .before .before .before .before .before .before .before .before .before .before .before .args in
     let t = a .s .terms in
     let s = slotAt (a .pool .now) (a .size) (a .index) in
-    let k = second-known (a .s) s (messageWith (a .a) (a .residues .now)) (length (a .out .now)) (pre) in
+    let k = known (c .before .before .before .before .before .before .before .before .before .before .before .before .before) in
     let l = share-length t s (a .residues .now) (few t (k .later .session-open .terms .sides) .whole) in
     let times = c .before .before .before .before .before .before .before .before .times in
     let e = over-part (times .result) (shareOf t s (a .residues .now)) _ (find-share .ensures) (l ∙ sym (times .ensures)) in
