@@ -99,24 +99,7 @@ verdict-all (needs s h ∷ g) e = go h e (λ f. verdict-all g f)
     go true e rec = (refl, rec e)
     go false e rec = absurd (refused≢done e)
 
--- a group of one test
-pub test-holds : (r : Refusal) {h : Bool} → h ≡ true → verdict (needs r h ∷ []) ≡ done tt
-unfolding inOrder
-test-holds r e = rw e
-
-pub test-fails : (r : Refusal) {h : Bool} → h ≡ false → verdict (needs r h ∷ []) ≡ refused r
-unfolding inOrder
-test-fails r e = rw e
-
 -- after the last group nothing is left to test
 pub after-last : (v : Judged Unit) → v ≡ after v (done tt)
 after-last (refused r) = refl
 after-last (done u) = refl
-
-pub after-first : (a b : Judged Unit) → after a b ≡ done tt → a ≡ done tt
-after-first (refused r) b e = e
-after-first (done u) b e = refl
-
-pub after-second : (a b : Judged Unit) → after a b ≡ done tt → b ≡ done tt
-after-second (refused r) b e = absurd (refused≢done e)
-after-second (done u) b e = e

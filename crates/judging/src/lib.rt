@@ -8,7 +8,7 @@
 //   received           what every step checks that takes a message
 //   step               what steps and drops check, whatever their end
 // No function here is for hosts.
-pub mod half;
+mod half;
 pub mod held;
 pub mod message;
 pub mod numbers;

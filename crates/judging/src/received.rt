@@ -1,15 +1,11 @@
 // What every step that takes a message checks before and beside its own inputs.
 //   check_numbers  the numbers of the session, its slot and its message: refusals 1 to 4
-//   check_words    the words of its half and of the message: refusals 6 to 8
 //   check_closed   where the session is closed
 //   check_coins    enough raw words are kept: refusal 9
 use crate::Check;
-use crate::half::check_body;
-use crate::half::check_tape;
 use crate::numbers::check_head;
 use crate::numbers::check_kind;
 use crate::numbers::check_moduli;
-use crate::numbers::check_same;
 use crate::numbers::check_sizes;
 use crate::order::need;
 use crate::order::worst;
@@ -20,17 +16,12 @@ use protocol::Refusal;
 use protocol::Terms;
 use tape::End;
 use tape::is_slot;
-use vectors::all_below;
 ghost use mathlib.Core.Path.{_≡_};
-ghost use mathlib.Core.Bool.{true};
-ghost use Prim.Native.Nat.{_≤_, _<_};
-ghost use lib.ListN.{length};
-ghost use Rattle.protocol.specs.Bounds.{sidesFit};
+ghost use Prim.Native.Nat.{_<_};
 ghost use Rattle.protocol.specs.Drawing.{drawTests};
-ghost use Rattle.protocol.specs.Tape.{tapeSize};
-ghost use Rattle.tape.specs.Ends.{role, sort};
+ghost use Rattle.tape.specs.Ends.{role};
 ghost use Rattle.judging.specs.InOrder.{checked, judged};
-ghost use Rattle.judging.specs.Received.{receivedNumbers, receivedWords, closedTests};
+ghost use Rattle.judging.specs.Received.{receivedNumbers, closedTests};
 
 // Of the message's residues and of the pool's words it is told how many there are.
 pub fn check_numbers(
@@ -48,26 +39,6 @@ pub fn check_numbers(
     let head = check_head(a, count);
     let sizes = check_sizes(end, t, pool, size, index);
     worst(moduli, worst(head, sizes))
-}
-
-// The tape's status and numbers, the message's numbers, and the residues of both.
-pub fn check_words(
-    end: End,
-    status: u32,
-    t: Terms,
-    a: Head,
-    slot: &[u32],
-    residues: &[u32],
-) -> Check
-    requires { ⌜ (sidesFit (sort end) (t .m) (t .k) (t .p) ≡ true) × (tapeSize (role end) (t .m) (t .k) (t .p) ≤ length (now slot)) ⌝ }
-    ensures { λ r. ⌜ checked r ≡ judged (receivedWords (role end) status t a (now (slot .entry)) (now (residues .entry))) ⌝ }
-{
-    let b = a.terms;
-    let tape = check_tape(end, status, t, slot);
-    let same = check_same(a, t);
-    let sent = need(Refusal::Residue, all_below(b.q, residues));
-    let body = check_body(end, t, slot);
-    worst(tape, worst(same, worst(sent, body)))
 }
 
 // A closed session: its own numbers aren't judged, and no step is due.

@@ -19,7 +19,7 @@ use Rattle.algebra.specs.Matrix.{zeros}
 use Rattle.algebra.specs.Words.{over, writtenAt}
 use Rattle.algebra.proofs.Lists.{length-tabulate}
 use Rattle.protocol.specs.declared.Terms.{Terms}
-use Rattle.protocol.specs.Tape.{left, right, Role, Slot, isSlot, slotAt, slotWords, poolWith, bodySize, tapeSize, body, withStatus, spent, headerSize, IN-USE, SPENT, wordsInUse, wordsSpent}
+use Rattle.protocol.specs.Tape.{Role, Slot, isSlot, slotAt, slotWords, poolWith, bodySize, tapeSize, body, withStatus, spent, headerSize, IN-USE, SPENT, wordsInUse, wordsSpent}
 use Rattle.vectors.proofs.Written.{part-written, written-length}
 use Rattle.protocol.proofs.Slots.{slot-length}
 use mathlib.Core.Bool.{true, false}
@@ -130,12 +130,3 @@ module _ (role : Role) (t : Terms) where
   pub spent-keeps : (words : List ℕ) → tapeSize role (t .m) (t .k) (t .p) ≤ length words → length (wordsSpent role t words) ≡ length words
   unfolding wordsSpent
   spent-keeps words h = spent-length _ words (omega (arith, half-body, h))
-
--- the words of a product's halves
-pub left-size : (m k p : ℕ) → headerSize + m * k + m * p ≡ tapeSize left m k p
-unfolding tapeSize bodySize
-left-size m k p = omega arith
-
-pub right-size : (m k p : ℕ) → headerSize + k * p + m * p ≡ tapeSize right m k p
-unfolding tapeSize bodySize
-right-size m k p = omega arith

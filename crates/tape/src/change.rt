@@ -1,6 +1,6 @@
 // The changes of a tape's status (RULES 3.5), in its slot of a pool.
-//   take_up   a session's first step takes the half up
-//   spend     its end
+//   take_up_at   a session's first step takes the half up
+//   spend_at     its end
 use crate::End;
 use crate::half::half_size;
 use crate::header;
@@ -23,7 +23,7 @@ fn set_status(status: u32, slot: &mut [u32])
 }
 
 // Status 2.
-pub fn take_up(slot: &mut [u32])
+fn take_up(slot: &mut [u32])
     requires { ⌜ headerSize ≤ length (now slot) ⌝ }
     ensures { λ _. ⌜ now (slot .exit) ≡ wordsInUse (now (slot .entry)) ⌝ }
 {
@@ -50,7 +50,7 @@ fn write_spent(n: usize, slot: &mut [u32])
 }
 
 // Status 3, and zeros in the matrices.
-pub fn spend(end: End, t: Terms, slot: &mut [u32])
+fn spend(end: End, t: Terms, slot: &mut [u32])
     requires { ⌜ (sidesFit (sort end) (t .m) (t .k) (t .p) ≡ true) × (tapeSize (role end) (t .m) (t .k) (t .p) ≤ length (now slot)) ⌝ }
     ensures { λ _. ⌜ now (slot .exit) ≡ wordsSpent (role end) t (now (slot .entry)) ⌝ }
 {
