@@ -3,7 +3,7 @@
 --   inputs-known, arriving-known             before the last phase of a check
 --   first-known, second-known, last-known    an accepted step
 --   second-counts, last-counts               the lengths that its writers ask for
---   session-array                            the length of what a session keeps
+--   kept-length, len-le                      the length of what a session keeps
 -- Assumes nothing.
 use mathlib.Core.Path.{_≡_, sym, ap, _∙_}
 use mathlib.Core.Bool.{true}
@@ -126,5 +126,8 @@ module _ (x : SolverSession) (s : Slot) (a : Message) (room : ℕ) where
   )
 
 -- a session's array, whose model is its list, mapped
-pub session-array : (l : List ℕ) → length (map (λ (x : ℕ). x) l) ≡ 16 → length l ≡ 16
-session-array l e = sym (length-map l (λ (x : ℕ). x)) ∙ e
+pub kept-length : (l : List ℕ) → length (map (λ (x : ℕ). x) l) ≡ 16 → length l ≡ 16
+kept-length l e = sym (length-map l (λ (x : ℕ). x)) ∙ e
+
+pub len-le : {n k : ℕ} → n ≡ k → k ≤ n
+len-le e = omega arith

@@ -9,7 +9,7 @@ use Rattle.protocol.specs.Message.{messageWith}
 use Rattle.vectors.proofs.Written.{after-over, over-part}
 use Rattle.judging.proofs.Fits.{open-placed as placed}
 use Rattle.solver.specs.Formulas.{sumOf}
-use Rattle.solver.proofs.Known.{few, one-side, last-known, last-counts, session-array}
+use Rattle.solver.proofs.Known.{few, one-side, last-known, last-counts, kept-length}
 use Rattle.solver.proofs.Formulas.{sum-residues, last-left}
 use Rattle.protocol.proofs.StepTests.{SolverFits}
 use Rattle.protocol.specs.Message.{messageSize}
@@ -68,7 +68,7 @@ slice-aggregate-find-t-2 : tie.Need-slice-aggregate-find-t-2
 slice-aggregate-find-t-2 c =
     let args = c .before .before .before .before .before .before .before .before .before .before .before .args in
     let good = c .before .before .before .before .before .before .before .before .before .before .before .good in
-    sym (session-array (args .s .s) (good .1 .1 .1 .0 .1 .1 .1 .1 .0 .1 .0 .1))
+    sym (kept-length (args .s .s) (good .1 .1 .1 .0 .1 .1 .1 .1 .0 .1 .0 .1))
 
 find-t-requires : tie.Need-find-t-requires
 unfolding fieldFits
@@ -90,7 +90,7 @@ find-t-requires c κs =
       o .terms .sides,
       rw e r,
       n .0,
-      session-array (a .s .s) (good .1 .1 .1 .0 .1 .1 .1 .1 .0 .1 .0 .1),
+      kept-length (a .s .s) (good .1 .1 .1 .0 .1 .1 .1 .1 .0 .1 .0 .1),
       omega (arith, n .1, one-side t (o .terms .sides)),
     )
 
