@@ -6,12 +6,12 @@ use mathlib.Core.Path.{_≡_, sym, ap, _∙_}
 use mathlib.Core.List.{List}
 use Prim.Native.Nat.{ℕ, _*_, _<_}
 use native.Mathlib.Omega.{arith}
-use lib.ListN.{length, getD}
+use lib.ListN.{length}
 use Rattle.algebra.specs.Matrix.{matAdd, matSub, matMul}
 use Rattle.algebra.specs.System.{sendW}
 use Rattle.algebra.proofs.Congruence.{cong-sym, linear, _⊕_}
 use Rattle.algebra.proofs.Lists.{add-residues, sub-residues}
-use Rattle.algebra.proofs.Matrix.{Sum, sum-add, sum-sub, is-sub, mul-add-left}
+use Rattle.algebra.proofs.Matrix.{sum-add, sum-sub, is-sub, mul-add-left}
 use Rattle.blinder.specs.Second.{innerW}
 
 module _ {q : ℕ} (hq : 0 < q) where

@@ -3,7 +3,7 @@
 --   side-bound .. wide-enough, scratch-sum   the sizes
 --   p-stands, u0-stands      P and U0, as parts of the scratch
 -- Assumes nothing.
-use mathlib.Core.Path.{_≡_, refl, sym, ap, _∙_}
+use mathlib.Core.Path.{_≡_, refl, ap, _∙_}
 use mathlib.Core.Bool.{true}
 use mathlib.Core.List.{List, [], _∷_}
 use Prim.Native.Nat.{ℕ, zero, suc, _+_, _-_, _*_, _≤_, _<_}
@@ -90,7 +90,8 @@ module _ (t : Terms) (scratch : List ℕ) where
   unfolding scratchParts parts
   p-stands e = rw e
 
-  pub u0-stands : {square coins : ℕ} → square ≡ t .m * t .m → coins ≡ scratchSize t → take (coins - square) (drop square scratch) ≡ part 1 (scratchParts t scratch)
+  pub u0-stands : {square coins : ℕ} → square ≡ t .m * t .m → coins ≡ scratchSize t
+      → take (coins - square) (drop square scratch) ≡ part 1 (scratchParts t scratch)
   unfolding scratchParts parts scratchSize
   u0-stands {square} {coins} e f =
       let n : coins - square ≡ t .m * t .p = omega arith in

@@ -46,10 +46,12 @@ module _ (t : Terms) (s : Slot) (scratch : ℕ) (mm y : List ℕ) (a : Message) 
       let first = firstTests blinder t s in
       let due = dueTests 1 t a in
       let matrix = inputTests (t .q) (t .m * t .m) mm in
-      let (in-session, in-inputs) = all-split (messageTests a ++ (first ++ due)) (firstInputs t mm y scratch room) (passed (firstNumbers t s scratch mm y a room) e .0) in
+      let (in-session, in-inputs) = all-split (messageTests a ++ (first ++ due)) (firstInputs t mm y scratch room)
+      (passed (firstNumbers t s scratch mm y a room) e .0) in
       let in-first = all-split first due (all-split (messageTests a) (first ++ due) in-session .1) .0 in
       let f = first-tests blinder t s .0 (record { all = in-first }) .terms in
-      let in-matrix = all-split matrix (inputTests (t .q) (sideSize t) y ++ (roomTests (scratchSize t) scratch ++ roomTests (messageSize 2 t) room)) in-inputs .0 in
+      let others = inputTests (t .q) (sideSize t) y ++ (roomTests (scratchSize t) scratch ++ roomTests (messageSize 2 t) room) in
+      let in-matrix = all-split matrix others in-inputs .0 in
       record {
         some-q = omega (arith, f .big);
         small-q = omega (arith, f .small);
@@ -88,7 +90,8 @@ module _ (x : BlinderSession) (s : Slot) (a : Message) where
       let in-lent = holds-given (isOpen (x .due)) _ (open-due (x .due) .1 (o .is-open)) (all-split lent written in-rooms .0) in
       (o .terms .sides, room-tests _ _ .0 (record { all = in-lent }))
 
-  pub last-known : (scratch : List ℕ) (room : ℕ) → judged (blinderLastTests x s scratch a room) ≡ done tt → BlinderFits 5 x s scratch a (sideSize (x .terms)) room
+  pub last-known : (scratch : List ℕ) (room : ℕ) → judged (blinderLastTests x s scratch a room) ≡ done tt
+      → BlinderFits 5 x s scratch a (sideSize (x .terms)) room
   unfolding blinderLast
   last-known scratch room h = blinder-last x s scratch a room .means (accepted-by (blinderLastTests x s scratch a room) (blinderLastEffect x s scratch a) h) .0
 

@@ -49,8 +49,8 @@ innerW q n rhs u0 f pm mm = matSub q (n * n) (matAdd q (n * n) (matMul q n n n p
 -- from F, the scratch, the half, and M or y
 unfoldable pub secondW : Terms → Slot → (scratch mm f : List ℕ) → List ℕ
 secondW t s scratch mm f =
-    sendW (t .q) (t .m) (columns (t .m) (t .p)) (part 1 (scratchParts t scratch)) f (part 2 (matrices blinder t (slotWords s))) (part 0 (scratchParts t scratch)) mm
-    (part 3 (matrices blinder t (slotWords s)))
+    sendW (t .q) (t .m) (columns (t .m) (t .p)) (part 1 (scratchParts t scratch)) f (part 2 (matrices blinder t (slotWords s)))
+    (part 0 (scratchParts t scratch)) mm (part 3 (matrices blinder t (slotWords s)))
 
 unfoldable pub secondC : Terms → (scratch y : List ℕ) → List ℕ
 secondC t scratch y = sendC (t .q) (t .m) (columns (t .m) (t .p)) (part 1 (scratchParts t scratch)) (part 0 (scratchParts t scratch)) y

@@ -31,7 +31,8 @@ pub struct BlinderDropped {
 
 // Of the scratch is told how many words it has.
 fn check(pool: &[u32], size: usize, index: usize, room: usize, s: BlinderSession) -> Check
-    ensures { λ r. ⌜ checked r ≡ judged (openTests blinder (s .due) (s .terms) (slotAt (now (pool .entry)) size index) ++ given (isOpen (s .due)) (roomTests (scratchSize (s .terms)) room)) ⌝ }
+    ensures { λ r. ⌜ checked r ≡ judged (openTests blinder (s .due) (s .terms) (slotAt (now (pool .entry)) size index) ++ given (isOpen (s .due))
+        (roomTests (scratchSize (s .terms)) room)) ⌝ }
 {
     let session = check_open(End::Blinder, s.due, s.terms, pool, size, index);
     let scratch = check_room(s.due, scratch_fits(s.terms, room));

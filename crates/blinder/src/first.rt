@@ -82,7 +82,8 @@ fn check_regular(t: Terms, mm: &[u32], words: &[u32]) -> Check
 // Enough raw words are kept for P and U0.
 fn check_drawn(t: Terms, mm: &[u32], words: &[u32]) -> Check
     requires { ⌜ Eliminable t (now mm) ⌝ }
-    ensures { λ r. ⌜ checked r ≡ after (judged (drawTests (t .q) (scratchSize t) (now (words .entry)))) (judged (firstRegular t (now (mm .entry)) (now (words .entry)))) ⌝ }
+    ensures { λ r. ⌜ checked r ≡ after (judged (drawTests (t .q) (scratchSize t) (now (words .entry))))
+        (judged (firstRegular t (now (mm .entry)) (now (words .entry)))) ⌝ }
 {
     let coins = check_coins(t.q, scratch_size(t), words);
     let Check::Passed = coins else {
@@ -104,7 +105,8 @@ fn check(
     residues: &[u32],
     room: usize,
 ) -> Check
-    ensures { λ r. ⌜ checked r ≡ judged (blinderFirstTests t (slotAt (now (pool .entry)) size index) scratch (now (mm .entry)) (now (y .entry)) (now (words .entry)) (messageWith a (now (residues .entry))) room) ⌝ }
+    ensures { λ r. ⌜ checked r ≡ judged (blinderFirstTests t (slotAt (now (pool .entry)) size index) scratch (now (mm .entry)) (now (y .entry))
+        (now (words .entry)) (messageWith a (now (residues .entry))) room) ⌝ }
 {
     let session = check_first_received(End::Blinder, 1, t, a, residues, pool, size, index);
     let inputs = check_inputs(t, mm, y, scratch, room);
@@ -168,7 +170,8 @@ fn send(
     coins: &[u32],
     out: &mut [u32],
 )
-    requires { ⌜ Masking t (slotAt (now pool) size index) (length (now coins)) × (length (now y1) ≡ t .m * t .p) × (t .m * t .m + t .m * t .p ≤ length (now out)) ⌝ }
+    requires { ⌜ Masking t (slotAt (now pool) size index) (length (now coins)) × (length (now y1) ≡ t .m * t .p)
+        × (t .m * t .m + t .m * t .p ≤ length (now out)) ⌝ }
     ensures { λ _. ⌜ now (out .exit) ≡ over (firstSent t (slotAt (now (pool .entry)) size index) (now (y1 .entry)) (now (coins .entry))) (now (out .entry)) ⌝ }
 {
     let square = times(t.m, t.m);
@@ -190,7 +193,8 @@ fn compute(
     residues: &[u32],
     out: &mut [u32],
 ) -> BlinderAnswer
-    requires { ⌜ judged (blinderFirstTests t (slotAt (now pool) size index) (length (now scratch)) (now mm) (now y) (now words) (messageWith a (now residues)) (length (now out))) ≡ done tt ⌝ }
+    requires { ⌜ judged (blinderFirstTests t (slotAt (now pool) size index) (length (now scratch)) (now mm) (now y) (now words)
+        (messageWith a (now residues)) (length (now out))) ≡ done tt ⌝ }
     ensures { λ r. ⌜ _≡_ {A = Computed BlinderSession}
         (record { answer = answerReply (r .answer); session = r .session; head = r .head; scratch = now (scratch .exit); sent = now (out .exit); result = [] })
         (computed (now (scratch .entry)) (now (out .entry)) []

@@ -22,7 +22,8 @@ fn write_inner(
     mm: &[u32],
     out: &mut [u32],
 )
-    requires { ⌜ Small q n rhs × (length (now u0) ≡ n * (n + rhs)) × (length (now f) ≡ n * n) × (length (now pm) ≡ n * n) × (length (now mm) ≡ n * n) × (n * n ≤ length (now out)) ⌝ }
+    requires { ⌜ Small q n rhs × (length (now u0) ≡ n * (n + rhs)) × (length (now f) ≡ n * n) × (length (now pm) ≡ n * n)
+        × (length (now mm) ≡ n * n) × (n * n ≤ length (now out)) ⌝ }
     ensures { λ _. ⌜ now (out .exit) ≡ over (innerW q n rhs (now (u0 .entry)) (now (f .entry)) (now (pm .entry)) (now (mm .entry))) (now (out .entry)) ⌝ }
 {
     let square = n * n;
@@ -44,8 +45,10 @@ pub fn write_w(
     g: &[u32],
     out: &mut [u32],
 )
-    requires { ⌜ Small q n rhs × (length (now u0) ≡ n * (n + rhs)) × (length (now f) ≡ n * n) × (length (now qm) ≡ n * n) × (length (now pm) ≡ n * n) × (length (now mm) ≡ n * n) × (length (now g) ≡ n * n) × (n * n ≤ length (now out)) ⌝ }
-    ensures { λ _. ⌜ now (out .exit) ≡ over (sendW q n rhs (now (u0 .entry)) (now (f .entry)) (now (qm .entry)) (now (pm .entry)) (now (mm .entry)) (now (g .entry))) (now (out .entry)) ⌝ }
+    requires { ⌜ Small q n rhs × (length (now u0) ≡ n * (n + rhs)) × (length (now f) ≡ n * n) × (length (now qm) ≡ n * n)
+        × (length (now pm) ≡ n * n) × (length (now mm) ≡ n * n) × (length (now g) ≡ n * n) × (n * n ≤ length (now out)) ⌝ }
+    ensures { λ _. ⌜ now (out .exit) ≡ over (sendW q n rhs (now (u0 .entry)) (now (f .entry)) (now (qm .entry)) (now (pm .entry)) (now (mm .entry))
+        (now (g .entry))) (now (out .entry)) ⌝ }
 {
     let square = n * n;
     let mut inner = [0u32; 256];

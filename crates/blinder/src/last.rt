@@ -37,7 +37,8 @@ fn check(
     residues: &[u32],
     room: usize,
 ) -> Check
-    ensures { λ r. ⌜ checked r ≡ judged (blinderLastTests s (slotAt (now (pool .entry)) size index) (now (scratch .entry)) (messageWith a (now (residues .entry))) room) ⌝ }
+    ensures { λ r. ⌜ checked r ≡ judged (blinderLastTests s (slotAt (now (pool .entry)) size index) (now (scratch .entry))
+        (messageWith a (now (residues .entry))) room) ⌝ }
 {
     let fits = side_size(s.terms) <= room;
     later::check(5, fits, pool, size, index, scratch, s, a, residues)

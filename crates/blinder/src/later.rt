@@ -58,7 +58,8 @@ pub fn check(
     a: Head,
     residues: &[u32],
 ) -> Check
-    ensures { λ r. ⌜ checked r ≡ judged (laterStep step fits s (slotAt (now (pool .entry)) size index) (now (scratch .entry)) (messageWith a (now (residues .entry)))) ⌝ }
+    ensures { λ r. ⌜ checked r ≡ judged (laterStep step fits s (slotAt (now (pool .entry)) size index) (now (scratch .entry))
+        (messageWith a (now (residues .entry)))) ⌝ }
 {
     let t = s.terms;
     let session = check_later(End::Blinder, step, s.due, t, a, residues, pool, size, index);

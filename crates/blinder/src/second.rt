@@ -42,7 +42,8 @@ fn check(
     residues: &[u32],
     room: usize,
 ) -> Check
-    ensures { λ r. ⌜ checked r ≡ judged (blinderSecondTests s (slotAt (now (pool .entry)) size index) (now (scratch .entry)) (messageWith a (now (residues .entry))) room) ⌝ }
+    ensures { λ r. ⌜ checked r ≡ judged (blinderSecondTests s (slotAt (now (pool .entry)) size index) (now (scratch .entry))
+        (messageWith a (now (residues .entry))) room) ⌝ }
 {
     let fits = has_room(4, s.terms, room);
     later::check(3, fits, pool, size, index, scratch, s, a, residues)
@@ -60,7 +61,8 @@ fn send_w(
     out: &mut [u32],
 )
     requires { ⌜ Sending t (slotAt (now pool) size index) (length (now scratch)) (length (now mm)) (length (now f)) (length (now out)) ⌝ }
-    ensures { λ _. ⌜ now (out .exit) ≡ over (secondW t (slotAt (now (pool .entry)) size index) (now (scratch .entry)) (now (mm .entry)) (now (f .entry))) (now (out .entry)) ⌝ }
+    ensures { λ _. ⌜ now (out .exit) ≡ over (secondW t (slotAt (now (pool .entry)) size index) (now (scratch .entry)) (now (mm .entry))
+        (now (f .entry))) (now (out .entry)) ⌝ }
 {
     let n = t.m as usize;
     let rhs = (t.p - t.m) as usize;
@@ -117,7 +119,8 @@ fn send(
 )
     requires { ⌜ Sending t (slotAt (now pool) size index) (length (now scratch)) (length (now mm)) (length (now f)) (length (now out))
         × Coins t (length (now scratch)) (length (now y)) × (t .m * t .m + sideSize t ≤ length (now out)) ⌝ }
-    ensures { λ _. ⌜ now (out .exit) ≡ over (secondSent t (slotAt (now (pool .entry)) size index) (now (scratch .entry)) (now (mm .entry)) (now (y .entry)) (now (f .entry))) (now (out .entry)) ⌝ }
+    ensures { λ _. ⌜ now (out .exit) ≡ over (secondSent t (slotAt (now (pool .entry)) size index) (now (scratch .entry)) (now (mm .entry))
+        (now (y .entry)) (now (f .entry))) (now (out .entry)) ⌝ }
 {
     let square = times(t.m, t.m);
     send_w(pool, size, index, scratch, t, mm, f, out);

@@ -1,11 +1,6 @@
 -- `blinder::closed` meets its contract. Assumes nothing.
-use mathlib.Core.Path.{_≡_, refl, sym, ap, _∙_}
-use mathlib.Core.List.{List, _++_}
-use Prim.Native.Nat.{ℕ, _+_, _*_, _-_, _/_, _%_, _≤_, _<_}
-use native.Mathlib.Omega.{arith}
-use lib.ListN.{length, getD, set, take, drop}
-use borrow.Author.Needs.{needs}
-use Rattle.blinder.proofs.Kept.{zero-array, kept-array, side-is, side-bound, square-bound, wide-bound, wide-enough, scratch-sum}
+use Prim.Native.Nat.{_-_}
+use Rattle.blinder.proofs.Kept.{zero-array}
 use Rattle.blinder.proofs.closed.Statement.{statement}
 use Rattle.blinder.proofs.closed.Tie as tie
 

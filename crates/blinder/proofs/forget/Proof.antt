@@ -21,8 +21,11 @@ same-length c = search needs
 
 returns : tie.Need-returns
 returns c =
-    let told = c .before .before .before .before .before in
-    (c .closed .ensures, c .before .before .before .write-zeros .ensures ∙ ap (λ (n : ℕ). over (zeros n) (told .before .before .args .scratch .now)) (told .scratch-size .ensures))
+    let told = c .before .before .before .before .before in (
+      c .closed .ensures,
+      c .before .before .before .write-zeros .ensures ∙ ap (λ (n : ℕ). over (zeros n) (told .before .before .args .scratch .now))
+          (told .scratch-size .ensures),
+    )
 
 pub forget-spec : {M : Type 1} → statement M
 forget-spec =

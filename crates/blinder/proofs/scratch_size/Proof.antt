@@ -1,11 +1,8 @@
 -- `blinder::scratch_size` meets its contract. Assumes nothing.
-use mathlib.Core.Path.{_≡_, refl, sym, ap, _∙_}
-use mathlib.Core.List.{List, _++_}
-use Prim.Native.Nat.{ℕ, _+_, _*_, _-_, _/_, _%_, _≤_, _<_}
+use Prim.Native.Nat.{_-_}
 use native.Mathlib.Omega.{arith}
-use lib.ListN.{length, getD, set, take, drop}
 use borrow.Author.Needs.{needs}
-use Rattle.blinder.proofs.Kept.{zero-array, kept-array, side-is, side-bound, square-bound, wide-bound, wide-enough, scratch-sum}
+use Rattle.blinder.proofs.Kept.{square-bound, wide-bound, scratch-sum}
 use Rattle.blinder.proofs.scratch_size.Statement.{statement}
 use Rattle.blinder.proofs.scratch_size.Tie as tie
 

@@ -65,7 +65,9 @@ returns-2 c =
     let a = told .before .before .before .before .before .before .before .before .before .args in
     let s = slotAt (a .pool .now) (a .size) (a .index) in
     rw (told .forget .ensures .0, told .forget .ensures .1)
-    (step-leaves (a .s) s (a .scratch .now) [] [] _ _ (sym (told .before .before .before .before .check .ensures) ∙ ap checked (told .before .before .enum-told .given .1)) refl (c .before .before .spend-at .ensures))
+    (step-leaves (a .s) s (a .scratch .now) [] [] _ _
+    (sym (told .before .before .before .before .check .ensures) ∙ ap checked (told .before .before .enum-told .given .1)) refl
+    (c .before .before .spend-at .ensures))
 
 pub blinder-drop-spec : {M : Type 1} → statement M
 blinder-drop-spec =

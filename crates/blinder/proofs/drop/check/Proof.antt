@@ -20,7 +20,8 @@ worst-requires c κs = search needs
 returns : tie.Need-returns
 unfolding roomTests
 returns c =
-    also _ _ (c .worst .ensures) (c .before .before .before .check-open .ensures) (rw (c .before .before .scratch-fits .ensures) at (c .before .check-room .ensures))
+    also _ _ (c .worst .ensures) (c .before .before .before .check-open .ensures)
+    (rw (c .before .before .scratch-fits .ensures) at (c .before .check-room .ensures))
 
 pub check-spec : {M : Type 1} → statement M
 check-spec =

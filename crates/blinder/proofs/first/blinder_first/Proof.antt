@@ -40,7 +40,8 @@ returns c =
     let m = messageWith (a .a) (a .residues .now) in
     let e = c .before .before .enum-told2 .given .1 in
     rw (c .refused .ensures, c .before .no-session .ensures, e)
-    (sym (refused-leaves noBlinder s (a .scratch .now) (a .out .now) [] _ (blinderFirstEffect (a .t) s (a .mm .now) (a .y .now) (a .words .now) m) (sym (told .check .ensures) ∙ ap checked e)))
+    (sym (refused-leaves noBlinder s (a .scratch .now) (a .out .now) [] _ (blinderFirstEffect (a .t) s (a .mm .now) (a .y .now) (a .words .now) m)
+    (sym (told .check .ensures) ∙ ap checked e)))
 
 compute-requires : tie.Need-compute-requires
 compute-requires c κs = sym (c .before .before .before .before .before .check .ensures) ∙ ap checked (c .before .before .before .enum-told .given .1)
@@ -51,7 +52,8 @@ take-up-at-requires c κs =
     let a = told .before .before .before .before .before .before .before .before .before .before .before .args in
     let s = slotAt (a .pool .now) (a .size) (a .index) in
     let m = messageWith (a .a) (a .residues .now) in
-    let f = first-known (a .t) s (length (a .scratch .now)) (a .mm .now) (a .y .now) m (length (a .out .now)) (a .words .now) (sym (told .before .before .check .ensures) ∙ ap checked (told .enum-told .given .1)) in
+    let f = first-known (a .t) s (length (a .scratch .now)) (a .mm .now) (a .y .now) m (length (a .out .now)) (a .words .now)
+    (sym (told .before .before .check .ensures) ∙ ap checked (told .enum-told .given .1)) in
     first-placed blinder (a .t) s (f .first)
 
 same-length-2 : tie.Need-same-length-2
@@ -66,12 +68,13 @@ same-length-4 c = search needs
 returns-2 : tie.Need-returns-2
 unfolding blinderFirst blinderFirstEffect
 returns-2 c =
-    let told = c .before .before .before .before .before .before .before .before .before .before .before .before .before .before .before in
-    let a = told .before .before .before .before .before .before .before .before .args in
+    let told = c .before .before .before .before .before .before .before .before .before .before in
+    let a = told .before .before .before .before .before .before .before .before .before .before .before .before .before .args in
     let s = slotAt (a .pool .now) (a .size) (a .index) in
     let m = messageWith (a .a) (a .residues .now) in
     step-leaves noBlinder s (a .scratch .now) (a .out .now) [] _ (blinderFirstEffect (a .t) s (a .mm .now) (a .y .now) (a .words .now) m)
-    (sym (c .before .before .before .before .before .before .before .before .before .before .before .before .before .before .check .ensures) ∙ ap checked (c .before .before .before .before .before .before .before .before .before .before .before .before .enum-told .given .1)) (c .before .before .before .before .before .before .before .before .compute .ensures) (c .before .before .take-up-at .ensures)
+    (sym (told .before .before .before .before .check .ensures) ∙ ap checked (told .before .before .enum-told .given .1))
+    (c .before .before .before .before .before .before .before .before .compute .ensures) (c .before .before .take-up-at .ensures)
 
 pub blinder-first-spec : {M : Type 1} → statement M
 blinder-first-spec =

@@ -35,7 +35,8 @@ returns c =
     let m = messageWith (a .a) (a .residues .now) in
     let known : checked (c .before .before .worst .result) ≡ judged (firstNumbers (a .t) s (a .scratch) (a .mm .now) (a .y .now) m (a .room)) =
     also _ _ (c .before .before .worst .ensures) (told .check-first-received .ensures) (c .before .before .before .check-inputs .ensures) in
-    hands-on (c .before .before .worst .result) _ known (c .enum-told2 .given .1) ∙ sym (first-phases (a .t) s (a .scratch) (a .mm .now) (a .y .now) (a .words .now) m (a .room))
+    hands-on (c .before .before .worst .result) _ known (c .enum-told2 .given .1) ∙ sym
+    (first-phases (a .t) s (a .scratch) (a .mm .now) (a .y .now) (a .words .now) m (a .room))
 
 check-drawn-requires : tie.Need-check-drawn-requires
 unfolding firstNumbers
@@ -58,7 +59,8 @@ returns-2 c =
     let known : checked (c .before .before .before .worst .result) ≡ judged (firstNumbers (a .t) s (a .scratch) (a .mm .now) (a .y .now) m (a .room)) =
     also _ _ (c .before .before .before .worst .ensures) (told .before .check-first-received .ensures) (told .check-inputs .ensures) in
     c .check-drawn .ensures
-    ∙ sym (first-phases (a .t) s (a .scratch) (a .mm .now) (a .y .now) (a .words .now) m (a .room) ∙ goes-past (c .before .before .before .worst .result) known (c .before .enum-told .given .1))
+    ∙ sym (first-phases (a .t) s (a .scratch) (a .mm .now) (a .y .now) (a .words .now) m (a .room) ∙ goes-past
+    (c .before .before .before .worst .result) known (c .before .enum-told .given .1))
 
 pub check-spec : {M : Type 1} → statement M
 check-spec =

@@ -43,9 +43,12 @@ returns : tie.Need-returns
 unfolding firstInputs roomTests
 returns c =
     let told = c .before .before .before .before in
-    also _ _ (c .worst3 .ensures) (rw (told .before .before .before .before .before .before .times .ensures) at (told .before .before .before .before .before .check-input .ensures))
-    (also _ _ (c .before .worst2 .ensures) (rw (told .before .before .before .before .side-size .ensures) at (told .before .before .before .check-input2 .ensures))
-    (also _ _ (c .before .before .worst .ensures) (rw (told .before .before .scratch-fits .ensures) at (told .before .need .ensures)) (rw (told .has-room .ensures) at (c .before .before .before .need2 .ensures))))
+    also _ _ (c .worst3 .ensures) (rw (told .before .before .before .before .before .before .times .ensures) at
+    (told .before .before .before .before .before .check-input .ensures))
+    (also _ _ (c .before .worst2 .ensures)
+    (rw (told .before .before .before .before .side-size .ensures) at (told .before .before .before .check-input2 .ensures))
+    (also _ _ (c .before .before .worst .ensures) (rw (told .before .before .scratch-fits .ensures) at (told .before .need .ensures))
+    (rw (told .has-room .ensures) at (c .before .before .before .need2 .ensures))))
 
 pub check-inputs-spec : {M : Type 1} → statement M
 check-inputs-spec =

@@ -45,14 +45,21 @@ need-requires c κs = search needs
 
 array-share-prefix-pm : tie.Need-array-share-prefix-pm
 array-share-prefix-pm c =
-    omega (arith, c .before .before .before .before .before .times .ensures, square-bound (c .before .before .before .before .before .before .before .before .before .args .t) (c .before .before .before .before .before .before .before .before .before .pre .0 .sides))
+    omega (
+      arith,
+      c .before .before .before .before .before .times .ensures,
+      square-bound
+          (c .before .before .before .before .before .before .before .before .before .args .t)
+          (c .before .before .before .before .before .before .before .before .before .pre .0 .sides),
+    )
 
 slice-aggregate-has-inverse : tie.Need-slice-aggregate-has-inverse
 slice-aggregate-has-inverse c =
     let a = c .before .before .before .before .before .before .before .before .before .before .args in
     let times = c .before .before .before .before .before .before .times in
     let few : times .result ≤ length
-    (residuesOf (a .t .q) (a .words .now)) = omega (arith, times .ensures, scratch-sum (a .t), c .before .before .before .before .before .before .before .before .before .before .pre .1) in
+    (residuesOf (a .t .q) (a .words .now)) = omega
+    (arith, times .ensures, scratch-sum (a .t), c .before .before .before .before .before .before .before .before .before .before .pre .1) in
     let u = coins-part _ _ (a .words .now) _ _ few (c .before .before .before .before .draw .ensures .1) in
     sym (ap length u ∙ drawn-count _ _ _ few)
 
@@ -62,8 +69,13 @@ has-inverse-requires-2 c κs =
     let h = c .before .before .before .before .before .before .before .before .before .before .pre in
     let times = c .before .before .before .before .before .before .times in
     let few : times .result ≤ length (residuesOf (a .t .q) (a .words .now)) = omega (arith, times .ensures, scratch-sum (a .t), h .1) in
-    let u = coins-part _ _ (a .words .now) _ _ few (c .before .before .before .before .draw .ensures .1) in
-    (h .0 .prime, h .0 .small-q, unknowns (a .t .m) (a .t .k) (a .t .p) (h .0 .sides) .few, rw (u, times .ensures) (p-residues (a .t .q) (a .t .m * a .t .m) (a .words .now) (h .0 .some-q) (omega (arith, scratch-sum (a .t), h .1))))
+    let u = coins-part _ _ (a .words .now) _ _ few (c .before .before .before .before .draw .ensures .1) in (
+      h .0 .prime,
+      h .0 .small-q,
+      unknowns (a .t .m) (a .t .k) (a .t .p) (h .0 .sides) .few,
+      rw (u, times .ensures)
+          (p-residues (a .t .q) (a .t .m * a .t .m) (a .words .now) (h .0 .some-q) (omega (arith, scratch-sum (a .t), h .1))),
+    )
 
 need-requires-2 : tie.Need-need-requires-2
 need-requires-2 c κs = search needs
@@ -74,13 +86,15 @@ worst-requires c κs = search needs
 returns : tie.Need-returns
 unfolding firstRegular regularTests
 returns c =
-    let a = c .before .before .before .before .before .before .before .before .before .before .before .before .before .args in
-    let times = c .before .before .before .before .before .before .before .before .before .times in
+    let told = c .before .before .before .before in
+    let a = told .before .before .before .before .before .before .before .before .before .args in
+    let times = told .before .before .before .before .before .times in
     let few : times .result ≤ length
-    (residuesOf (a .t .q) (a .words .now)) = omega (arith, times .ensures, scratch-sum (a .t), c .before .before .before .before .before .before .before .before .before .before .before .before .before .pre .1) in
-    let u = coins-part _ _ (a .words .now) _ _ few (c .before .before .before .before .before .before .before .draw .ensures .1) in
+    (residuesOf (a .t .q) (a .words .now)) = omega
+    (arith, times .ensures, scratch-sum (a .t), told .before .before .before .before .before .before .before .before .before .pre .1) in
+    let u = coins-part _ _ (a .words .now) _ _ few (told .before .before .before .draw .ensures .1) in
     also (_ ∷ []) _ (c .worst .ensures)
-    (rw (c .before .before .before .before .before .has-inverse .ensures) at (c .before .before .before .before .need .ensures))
+    (rw (told .before .has-inverse .ensures) at (told .need .ensures))
     (rw (c .before .before .has-inverse2 .ensures, u, times .ensures, p-drawn (a .t) (a .words .now)) at (c .before .need2 .ensures))
 
 pub check-regular-spec : {M : Type 1} → statement M

@@ -1,5 +1,5 @@
 -- `blinder::first::send` meets its contract. Assumes nothing.
-use mathlib.Core.Path.{_≡_, sym, _∙_}
+use mathlib.Core.Path.{sym, _∙_}
 use native.Mathlib.Omega.{arith}
 use Rattle.protocol.specs.Tape.{slotAt}
 use Rattle.vectors.proofs.Written.{part-then}

@@ -1,16 +1,9 @@
 -- `blinder::formula::write_c` meets its contract. Assumes nothing.
-use mathlib.Core.Path.{_≡_, refl, sym, ap, _∙_}
-use mathlib.Core.List.{List, _++_}
-use Prim.Native.Nat.{ℕ, _+_, _*_, _-_, _/_, _%_, _≤_, _<_}
+use Prim.Native.Nat.{_+_, _*_, _-_}
 use native.Mathlib.Omega.{arith}
-use lib.ListN.{length, getD, set, take, drop}
 use borrow.Author.Needs.{needs}
-use lib.ListN.{length-take, length-drop, length-map}
-use lib.Seq.{length-take-le}
-use Rattle.algebra.specs.Matrix.{matAdd, matSub, matMul}
-use Rattle.algebra.specs.Columns.{cols}
-use Rattle.algebra.specs.System.{sendW, sendC}
-use Rattle.algebra.proofs.Lists.{add-residues, sub-residues, mul-residues}
+use Rattle.algebra.specs.System.{sendC}
+use Rattle.algebra.proofs.Lists.{mul-residues}
 use Rattle.algebra.proofs.Columns.{cols-length}
 use Rattle.blinder.proofs.Start.{start-is, start-length}
 use Rattle.blinder.proofs.formula.write_c.Statement.{statement}
@@ -50,13 +43,27 @@ slice-aggregate-write-sum-2 : tie.Need-slice-aggregate-write-sum-2
 slice-aggregate-write-sum-2 c =
     let a = c .before .before .before .before .before .before .before .before .before .before .before .before .args in
     start-length (a .n * a .rhs) _ _ _
-    (mul-residues (c .before .before .before .before .before .before .before .before .before .before .before .before .pre .0 .some-q) (a .n) (a .n) (a .rhs) (a .pm .now) (a .y .now) .size) (c .before .before .before .write-product .ensures)
+    (mul-residues (c .before .before .before .before .before .before .before .before .before .before .before .before .pre .0 .some-q) (a .n) (a .n) (a .rhs)
+    (a .pm .now) (a .y .now) .size) (c .before .before .before .write-product .ensures)
 
 write-sum-requires : tie.Need-write-sum-requires
 write-sum-requires c κs =
-    let a = c .before .before .before .before .before .before .before .before .before .before .before .before .before .args in
-    let h = c .before .before .before .before .before .before .before .before .before .before .before .before .before .pre in
-    (h .0 .some-q, omega (arith, start-length (a .n * a .rhs) _ _ _ (cols-length (a .n) (a .n + a .rhs) (a .n) (a .rhs) (a .u0 .now)) (c .before .before .before .before .before .before .before .write-cols .ensures)), omega (arith, start-length (a .n * a .rhs) _ _ _ (mul-residues (h .0 .some-q) (a .n) (a .n) (a .rhs) (a .pm .now) (a .y .now) .size) (c .before .before .before .before .write-product .ensures)), h .4)
+    let told = c .before .before .before .before in
+    let a = told .before .before .before .before .before .before .before .before .before .args in
+    let h = told .before .before .before .before .before .before .before .before .before .pre in (
+      h .0 .some-q,
+      omega (
+        arith,
+        start-length (a .n * a .rhs) _ _ _ (cols-length (a .n) (a .n + a .rhs) (a .n) (a .rhs) (a .u0 .now))
+            (told .before .before .before .write-cols .ensures),
+      ),
+      omega (
+        arith,
+        start-length (a .n * a .rhs) _ _ _ (mul-residues (h .0 .some-q) (a .n) (a .n) (a .rhs) (a .pm .now) (a .y .now) .size)
+            (told .write-product .ensures),
+      ),
+      h .4,
+    )
 
 same-length : tie.Need-same-length
 same-length c = search needs
@@ -64,8 +71,14 @@ same-length c = search needs
 returns : tie.Need-returns
 unfolding sendC
 returns c =
-    let a = c .before .before .before .before .before .before .before .before .before .before .before .before .before .before .before .before .args in
-    rw (start-is (a .n * a .rhs) _ _ _ (cols-length (a .n) (a .n + a .rhs) (a .n) (a .rhs) (a .u0 .now)) (c .before .before .before .before .before .before .before .before .before .before .write-cols .ensures), start-is (a .n * a .rhs) _ _ _ (mul-residues (c .before .before .before .before .before .before .before .before .before .before .before .before .before .before .before .before .pre .0 .some-q) (a .n) (a .n) (a .rhs) (a .pm .now) (a .y .now) .size) (c .before .before .before .before .before .before .before .write-product .ensures)) at (c .before .before .write-sum .ensures)
+    let told = c .before .before .before .before .before .before .before in
+    let a = told .before .before .before .before .before .before .before .before .before .args in
+    rw (
+      start-is (a .n * a .rhs) _ _ _ (cols-length (a .n) (a .n + a .rhs) (a .n) (a .rhs) (a .u0 .now)) (told .before .before .before .write-cols .ensures),
+      start-is (a .n * a .rhs) _ _ _
+          (mul-residues (told .before .before .before .before .before .before .before .before .before .pre .0 .some-q) (a .n) (a .n) (a .rhs) (a .pm .now)
+          (a .y .now) .size) (told .write-product .ensures),
+    ) at (c .before .before .write-sum .ensures)
 
 pub write-c-spec : {M : Type 1} → statement M
 write-c-spec =

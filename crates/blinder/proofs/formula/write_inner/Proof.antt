@@ -1,9 +1,6 @@
 -- `blinder::formula::write_inner` meets its contract. Assumes nothing.
-use mathlib.Core.Path.{_≡_, refl, sym, ap, _∙_}
-use mathlib.Core.List.{List, _++_}
-use Prim.Native.Nat.{ℕ, _+_, _*_, _-_, _/_, _%_, _≤_, _<_}
+use Prim.Native.Nat.{_+_, _*_, _-_}
 use native.Mathlib.Omega.{arith}
-use lib.ListN.{length, getD, set, take, drop}
 use borrow.Author.Needs.{needs}
 use Rattle.algebra.proofs.Columns.{cols-length}
 use Rattle.blinder.specs.Second.{innerW}
@@ -34,8 +31,22 @@ slice-aggregate-write-share c =
 write-share-requires : tie.Need-write-share-requires
 write-share-requires c κs =
     let a = c .before .before .before .before .before .before .before .before .before .before .args in
-    let h = c .before .before .before .before .before .before .before .before .before .before .pre in
-    (record { some-q = h .0 .some-q; small-q = h .0 .small-q; some-p = h .0 .some-n; few-k = omega (arith, h .0 .few-n); few-y = omega (arith, h .0 .square); full-x = omega (arith, h .3); full-y = omega (arith, h .4); room = h .5 }, omega (arith, start-length (a .n * a .n) _ _ _ (cols-length (a .n) (a .n + a .rhs) 0 (a .n) (a .u0 .now)) (c .before .before .before .write-cols .ensures)), omega (arith, h .2))
+    let h = c .before .before .before .before .before .before .before .before .before .before .pre in (
+      record {
+        some-q = h .0 .some-q;
+        small-q = h .0 .small-q;
+        some-p = h .0 .some-n;
+        few-k = omega (arith, h .0 .few-n);
+        few-y = omega
+            (arith, h .0 .square);
+        full-x = omega (arith, h .3);
+        full-y = omega (arith, h .4);
+        room = h .5;
+      },
+      omega
+          (arith, start-length (a .n * a .n) _ _ _ (cols-length (a .n) (a .n + a .rhs) 0 (a .n) (a .u0 .now)) (c .before .before .before .write-cols .ensures)),
+      omega (arith, h .2),
+    )
 
 same-length : tie.Need-same-length
 same-length c = search needs
@@ -43,8 +54,10 @@ same-length c = search needs
 returns : tie.Need-returns
 unfolding innerW
 returns c =
-    let a = c .before .before .before .before .before .before .before .before .before .before .before .before .before .args in
-    rw (start-is (a .n * a .n) _ _ _ (cols-length (a .n) (a .n + a .rhs) 0 (a .n) (a .u0 .now)) (c .before .before .before .before .before .before .write-cols .ensures)) at (c .before .before .write-share .ensures)
+    let told = c .before .before .before .before .before .before in
+    let a = told .before .before .before .before .before .before .before .args in
+    rw (start-is (a .n * a .n) _ _ _ (cols-length (a .n) (a .n + a .rhs) 0 (a .n) (a .u0 .now)) (told .write-cols .ensures)) at
+    (c .before .before .write-share .ensures)
 
 pub write-inner-spec : {M : Type 1} → statement M
 write-inner-spec =

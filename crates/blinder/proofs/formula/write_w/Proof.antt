@@ -1,9 +1,6 @@
 -- `blinder::formula::write_w` meets its contract. Assumes nothing.
-use mathlib.Core.Path.{_≡_, refl, sym, ap, _∙_}
-use mathlib.Core.List.{List, _++_}
-use Prim.Native.Nat.{ℕ, _+_, _*_, _-_, _/_, _%_, _≤_, _<_}
+use Prim.Native.Nat.{_*_, _-_}
 use native.Mathlib.Omega.{arith}
-use lib.ListN.{length, getD, set, take, drop}
 use borrow.Author.Needs.{needs}
 use Rattle.blinder.proofs.Factored.{inner-length, factored}
 use Rattle.blinder.proofs.Start.{start-is, start-length}
@@ -26,22 +23,45 @@ slice-aggregate-write-deal : tie.Need-slice-aggregate-write-deal
 slice-aggregate-write-deal c =
     let a = c .before .before .before .before .before .before .before .before .before .before .before .args in
     start-length (a .n * a .n) _ _ _
-    (inner-length (c .before .before .before .before .before .before .before .before .before .before .before .pre .0 .some-q) (a .n) (a .rhs) (a .u0 .now) (a .f .now) (a .pm .now) (a .mm .now)) (c .before .before .write-inner .ensures)
+    (inner-length (c .before .before .before .before .before .before .before .before .before .before .before .pre .0 .some-q) (a .n) (a .rhs) (a .u0 .now)
+    (a .f .now) (a .pm .now) (a .mm .now)) (c .before .before .write-inner .ensures)
 
 write-deal-requires : tie.Need-write-deal-requires
 write-deal-requires c κs =
     let a = c .before .before .before .before .before .before .before .before .before .before .before .before .args in
-    let h = c .before .before .before .before .before .before .before .before .before .before .before .before .pre in
-    (record { some-q = h .0 .some-q; small-q = h .0 .small-q; some-p = h .0 .some-n; few-k = omega (arith, h .0 .few-n); few-y = omega (arith, h .0 .square); full-x = omega (arith, start-length (a .n * a .n) _ _ _ (inner-length (h .0 .some-q) (a .n) (a .rhs) (a .u0 .now) (a .f .now) (a .pm .now) (a .mm .now)) (c .before .before .before .write-inner .ensures)); full-y = omega (arith, h .3); room = h .7 }, omega (arith, h .6))
+    let h = c .before .before .before .before .before .before .before .before .before .before .before .before .pre in (
+      record {
+        some-q = h .0 .some-q;
+        small-q = h .0 .small-q;
+        some-p = h .0 .some-n;
+        few-k = omega (arith, h .0 .few-n);
+        few-y = omega
+            (arith, h .0 .square);
+        full-x = omega (
+          arith,
+          start-length (a .n * a .n) _ _ _ (inner-length (h .0 .some-q) (a .n) (a .rhs) (a .u0 .now) (a .f .now) (a .pm .now) (a .mm .now))
+              (c .before .before .before .write-inner .ensures),
+        );
+        full-y = omega (arith, h .3);
+        room = h .7;
+      },
+      omega (arith, h .6),
+    )
 
 same-length : tie.Need-same-length
 same-length c = search needs
 
 returns : tie.Need-returns
 returns c =
-    let a = c .before .before .before .before .before .before .before .before .before .before .before .before .before .before .before .args in
-    let h = c .before .before .before .before .before .before .before .before .before .before .before .before .before .before .before .pre in
-    rw (start-is (a .n * a .n) _ _ _ (inner-length (h .0 .some-q) (a .n) (a .rhs) (a .u0 .now) (a .f .now) (a .pm .now) (a .mm .now)) (c .before .before .before .before .before .before .write-inner .ensures), factored (h .0 .some-q) (a .n) (a .rhs) (a .u0 .now) (a .f .now) (a .pm .now) (a .mm .now) (a .qm .now) (a .g .now)) at (c .before .before .write-deal .ensures)
+    let told = c .before .before .before .before .before .before in
+    let a = told .before .before .before .before .before .before .before .before .before .args in
+    let h = told .before .before .before .before .before .before .before .before .before .pre in
+    rw (
+      start-is (a .n * a .n) _ _ _ (inner-length (h .0 .some-q) (a .n) (a .rhs) (a .u0 .now) (a .f .now) (a .pm .now) (a .mm .now))
+          (told .write-inner .ensures),
+      factored (h .0 .some-q) (a .n) (a .rhs) (a .u0 .now) (a .f .now) (a .pm .now) (a .mm .now) (a .qm .now) (a .g .now),
+    ) at
+    (c .before .before .write-deal .ensures)
 
 pub write-w-spec : {M : Type 1} → statement M
 write-w-spec =

@@ -40,7 +40,8 @@ returns c =
     let m = messageWith (a .a) (a .residues .now) in
     let e = c .before .enum-told2 .given .1 in
     rw (c .refused .ensures, e)
-    (sym (refused-leaves (a .s) s (a .scratch .now) [] (a .out .now) _ (blinderLastEffect (a .s) s (a .scratch .now) m) (sym (c .before .before .before .check .ensures) ∙ ap checked e)))
+    (sym (refused-leaves (a .s) s (a .scratch .now) [] (a .out .now) _ (blinderLastEffect (a .s) s (a .scratch .now) m)
+    (sym (c .before .before .before .check .ensures) ∙ ap checked e)))
 
 compute-requires : tie.Need-compute-requires
 compute-requires c κs = sym (c .before .before .before .before .before .check .ensures) ∙ ap checked (c .before .before .before .enum-told .given .1)
@@ -51,7 +52,9 @@ spend-at-requires c κs =
     let a = told .before .before .before .before .before .before .before .before .before .args in
     let s = slotAt (a .pool .now) (a .size) (a .index) in
     let m = messageWith (a .a) (a .residues .now) in
-    open-placed blinder (a .s .terms) s (last-known (a .s) s m (a .scratch .now) (length (a .out .now)) (sym (told .before .before .check .ensures) ∙ ap checked (told .enum-told .given .1)) .later .session-open)
+    open-placed blinder (a .s .terms) s
+    (last-known (a .s) s m (a .scratch .now) (length (a .out .now))
+    (sym (told .before .before .check .ensures) ∙ ap checked (told .enum-told .given .1)) .later .session-open)
 
 same-length-3 : tie.Need-same-length-3
 same-length-3 c = search needs
@@ -70,7 +73,8 @@ returns-2 c =
     let s = slotAt (a .pool .now) (a .size) (a .index) in
     let m = messageWith (a .a) (a .residues .now) in
     step-leaves (a .s) s (a .scratch .now) [] (a .out .now) _ (blinderLastEffect (a .s) s (a .scratch .now) m)
-    (sym (told .before .before .before .before .before .before .check .ensures) ∙ ap checked (told .before .before .before .before .enum-told .given .1)) (told .compute .ensures) (c .before .before .spend-at .ensures)
+    (sym (told .before .before .before .before .before .before .check .ensures) ∙ ap checked (told .before .before .before .before .enum-told .given .1))
+    (told .compute .ensures) (c .before .before .spend-at .ensures)
 
 pub blinder-last-spec : {M : Type 1} → statement M
 blinder-last-spec =

@@ -18,7 +18,8 @@ returns : tie.Need-returns
 returns c =
     let a = c .before .before .before .before .before .args in
     let s = slotAt (a .pool .now) (a .size) (a .index) in
-    (rw (c .before .side-size .ensures) at (c .check .ensures)) ∙ ap judged (last-tests (a .s) s (a .scratch .now) (messageWith (a .a) (a .residues .now)) (a .room))
+    (rw (c .before .side-size .ensures) at (c .check .ensures)) ∙ ap judged
+    (last-tests (a .s) s (a .scratch .now) (messageWith (a .a) (a .residues .now)) (a .room))
 
 pub check-spec : {M : Type 1} → statement M
 check-spec = tie.close (tie.spec side-size-requires check-requires returns)

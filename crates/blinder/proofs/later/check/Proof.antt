@@ -46,7 +46,8 @@ returns c =
     let m = messageWith (a .a) (a .residues .now) in
     let known : checked (c .before .before .worst2 .result) ≡ judged (laterOpen (a .step) (a .fits) (a .s) s (length (a .scratch .now)) m) =
     also _ _ (c .before .before .worst2 .ensures) (told .before .before .before .check-later .ensures)
-    (also _ _ (c .before .before .before .worst .ensures) (rw (told .before .before .scratch-fits .ensures) at (told .before .check-room .ensures)) (told .check-room2 .ensures)) in
+    (also _ _ (c .before .before .before .worst .ensures) (rw (told .before .before .scratch-fits .ensures) at (told .before .check-room .ensures))
+    (told .check-room2 .ensures)) in
     hands-on (c .before .before .worst2 .result) _ known (c .enum-told2 .given .1) ∙ sym (later-phases (a .s) s (a .scratch .now) m (a .step) (a .fits))
 
 check-kept-requires : tie.Need-check-kept-requires
@@ -58,7 +59,8 @@ check-kept-requires c κs =
     let m = messageWith (a .a) (a .residues .now) in
     let known : checked (c .before .before .worst2 .result) ≡ judged (laterOpen (a .step) (a .fits) (a .s) s (length (a .scratch .now)) m) =
     also _ _ (c .before .before .worst2 .ensures) (told .before .before .before .check-later .ensures)
-    (also _ _ (c .before .before .before .worst .ensures) (rw (told .before .before .scratch-fits .ensures) at (told .before .check-room .ensures)) (told .check-room2 .ensures)) in
+    (also _ _ (c .before .before .before .worst .ensures) (rw (told .before .before .scratch-fits .ensures) at (told .before .check-room .ensures))
+    (told .check-room2 .ensures)) in
     kept-known (a .s) s m (a .step) (a .fits) _ (sym known ∙ ap checked (c .enum-told .given .1))
 
 returns-2 : tie.Need-returns-2
@@ -70,9 +72,11 @@ returns-2 c =
     let m = messageWith (a .a) (a .residues .now) in
     let known : checked (c .before .before .before .worst2 .result) ≡ judged (laterOpen (a .step) (a .fits) (a .s) s (length (a .scratch .now)) m) =
     also _ _ (c .before .before .before .worst2 .ensures) (told .before .before .before .before .check-later .ensures)
-    (also _ _ (told .worst .ensures) (rw (told .before .before .before .scratch-fits .ensures) at (told .before .before .check-room .ensures)) (told .before .check-room2 .ensures)) in
+    (also _ _ (told .worst .ensures) (rw (told .before .before .before .scratch-fits .ensures) at (told .before .before .check-room .ensures))
+    (told .before .check-room2 .ensures)) in
     c .check-kept .ensures
-    ∙ sym (later-phases (a .s) s (a .scratch .now) m (a .step) (a .fits) ∙ goes-past (c .before .before .before .worst2 .result) known (c .before .enum-told .given .1))
+    ∙ sym (later-phases (a .s) s (a .scratch .now) m (a .step) (a .fits) ∙ goes-past (c .before .before .before .worst2 .result) known
+    (c .before .enum-told .given .1))
 
 pub check-spec : {M : Type 1} → statement M
 check-spec =

@@ -52,7 +52,8 @@ unfolding keptWords keptM keptY
 returns c =
     let told = c .before .before .before .before in
     also _ _ (c .worst2 .ensures) (rw (told .before .before .before .before .before .times .ensures) at (told .before .before .before .check-start .ensures))
-    (also _ _ (c .before .worst .ensures) (rw (told .before .before .side-size .ensures) at (told .check-start2 .ensures)) (rw (c .before .before .before .scratch-size .ensures) at (c .before .before .check-start3 .ensures)))
+    (also _ _ (c .before .worst .ensures) (rw (told .before .before .side-size .ensures) at (told .check-start2 .ensures))
+    (rw (c .before .before .before .scratch-size .ensures) at (c .before .before .check-start3 .ensures)))
 
 pub check-kept-spec : {M : Type 1} → statement M
 check-kept-spec =

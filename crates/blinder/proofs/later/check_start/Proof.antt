@@ -1,6 +1,5 @@
 -- `blinder::later::check_start` meets its contract. Assumes nothing.
 use mathlib.Core.Path.{sym}
-use native.Mathlib.Omega.{arith}
 use lib.Seq.{length-take-le}
 use Rattle.protocol.specs.System.{keptTests}
 use borrow.Author.Needs.{needs}

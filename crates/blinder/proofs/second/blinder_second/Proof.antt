@@ -34,7 +34,8 @@ returns c =
     let m = messageWith (a .a) (a .residues .now) in
     let e = c .before .enum-told2 .given .1 in
     rw (c .refused .ensures, e)
-    (sym (refused-leaves (a .s) s (a .scratch .now) (a .out .now) [] _ (blinderSecondEffect (a .s) s (a .scratch .now) m) (sym (c .before .before .before .check .ensures) ∙ ap checked e)))
+    (sym (refused-leaves (a .s) s (a .scratch .now) (a .out .now) [] _ (blinderSecondEffect (a .s) s (a .scratch .now) m)
+    (sym (c .before .before .before .check .ensures) ∙ ap checked e)))
 
 compute-requires : tie.Need-compute-requires
 compute-requires c κs = sym (c .before .before .before .check .ensures) ∙ ap checked (c .before .enum-told .given .1)
@@ -49,9 +50,11 @@ returns-2 c =
     let a = told .before .before .before .before .before .before .before .args in
     let s = slotAt (a .pool .now) (a .size) (a .index) in
     let m = messageWith (a .a) (a .residues .now) in
-    let f = second-known (a .s) s m (a .scratch .now) (length (a .out .now)) (sym (told .before .before .check .ensures) ∙ ap checked (told .enum-told .given .1)) in
+    let f = second-known (a .s) s m (a .scratch .now) (length (a .out .now))
+    (sym (told .before .before .check .ensures) ∙ ap checked (told .enum-told .given .1)) in
     step-leaves (a .s) s (a .scratch .now) (a .out .now) [] _ (blinderSecondEffect (a .s) s (a .scratch .now) m)
-    (sym (told .before .before .check .ensures) ∙ ap checked (told .enum-told .given .1)) (c .before .before .compute .ensures) (sym (same-pool s (f .later .session-open .half .inside)))
+    (sym (told .before .before .check .ensures) ∙ ap checked (told .enum-told .given .1)) (c .before .before .compute .ensures)
+    (sym (same-pool s (f .later .session-open .half .inside)))
 
 pub blinder-second-spec : {M : Type 1} → statement M
 blinder-second-spec =

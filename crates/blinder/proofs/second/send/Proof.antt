@@ -1,10 +1,9 @@
 -- `blinder::second::send` meets its contract. Assumes nothing.
-use mathlib.Core.Path.{_≡_, sym, _∙_}
+use mathlib.Core.Path.{sym, _∙_}
 use native.Mathlib.Omega.{arith}
 use Rattle.protocol.specs.Tape.{slotAt}
 use Rattle.vectors.proofs.Written.{part-then}
 use Rattle.blinder.specs.Second.{secondSent}
-use Rattle.blinder.proofs.Kept.{square-bound}
 use Rattle.blinder.proofs.Start.{w-length, w-after}
 use borrow.Author.Needs.{needs}
 use Rattle.blinder.proofs.second.send.Statement.{statement}
@@ -43,7 +42,8 @@ returns c =
     let s = slotAt (a .pool .now) (a .size) (a .index) in
     let square = told .before .before .times .ensures in
     let whole = w-after (a .t) s (a .scratch .now) (a .mm .now) (a .f .now) (h .0 .some-q) (a .out .now) (h .0 .room) (told .send-w .ensures) in
-    part-then _ _ (a .out .now) _ _ (told .before .before .times .result) (w-length (a .t) s (a .scratch .now) (a .mm .now) (a .f .now) (h .0 .some-q) ∙ sym square)
+    part-then _ _ (a .out .now) _ _ (told .before .before .times .result)
+    (w-length (a .t) s (a .scratch .now) (a .mm .now) (a .f .now) (h .0 .some-q) ∙ sym square)
     (omega (arith, whole, square, h .0 .room)) (told .send-w .ensures) (c .before .before .send-c .ensures)
 
 pub send-spec : {M : Type 1} → statement M
