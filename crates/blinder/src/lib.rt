@@ -3,9 +3,10 @@
 //   first, second, last   the steps: blinder_first, blinder_second, blinder_last
 //   later                 what the second and the last check
 //   formula               W = (U' − F) × Q + P × M × Q − G and c = u + P × y, where U0 = [U', u]
-//   opened, closed        the sessions, which keep M and y
-//   scratch_size          how many residues P and U0 have
 //   drop                  blinder_drop
+//   refused, no_session   what a refused step answers and leaves
+//   opened, closed        the sessions, which keep M and y; forget zeroes the scratch too
+//   scratch_size, scratch_fits   how many residues P and U0 have, and room for them
 // For hosts: blinder_first, blinder_second, blinder_last, blinder_drop.
 mod drop;
 mod first;
