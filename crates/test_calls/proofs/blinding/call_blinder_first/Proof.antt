@@ -3,14 +3,6 @@ use mathlib.Core.Path.{refl}
 use borrow.Author.Needs.{needs}
 use Rattle.test_calls.proofs.blinding.call_blinder_first.Statement.{statement}
 use Rattle.test_calls.proofs.blinding.call_blinder_first.Tie as tie
-use Rattle.test_calls.proofs.blinding.call_blinder_first.Reads as reads
-use Rattle.test_calls.proofs.blinding.call_blinder_first.Lts as lts
-use Rattle.blinder.proofs.first.blinder_first.Reads as blinder-first-reads
-use Rattle.test_calls.proofs.words.answered.Reads as answered-reads
-use Rattle.test_calls.proofs.words.head_of.Reads as head-of-reads
-use Rattle.test_calls.proofs.words.put_blinder.Reads as put-blinder-reads
-use Rattle.test_calls.proofs.words.put_report.Reads as put-report-reads
-use Rattle.test_calls.proofs.words.terms_of.Reads as terms-of-reads
 
 returns : tie.Need-returns
 returns c = search needs

@@ -3,13 +3,6 @@ use mathlib.Core.Path.{refl}
 use borrow.Author.Needs.{needs}
 use Rattle.test_calls.proofs.solving.call_solver_first.Statement.{statement}
 use Rattle.test_calls.proofs.solving.call_solver_first.Tie as tie
-use Rattle.test_calls.proofs.solving.call_solver_first.Reads as reads
-use Rattle.test_calls.proofs.solving.call_solver_first.Lts as lts
-use Rattle.test_calls.proofs.words.answered.Reads as answered-reads
-use Rattle.test_calls.proofs.words.put_report.Reads as put-report-reads
-use Rattle.test_calls.proofs.words.put_solver.Reads as put-solver-reads
-use Rattle.test_calls.proofs.words.terms_of.Reads as terms-of-reads
-use Rattle.solver.proofs.solver_first.Reads as solver-first-reads
 
 returns : tie.Need-returns
 returns c = search needs
