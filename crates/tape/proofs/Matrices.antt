@@ -7,6 +7,7 @@ use mathlib.Core.Path.{_≡_, refl, sym, ap, _∙_}
 use mathlib.Core.Bool.{true}
 use mathlib.Core.List.{List}
 use Prim.Native.Nat.{ℕ, zero, suc, _+_, _-_, _*_, _≤_, _<_}
+use native.Mathlib.Numerals.{unary-clauses}
 use native.Mathlib.Omega.{arith}
 use lib.ListN.{length, getD, take, drop, length-take, length-drop}
 use lib.Seq.{drop-drop}
@@ -50,10 +51,11 @@ pub record Stands (from stop : ℕ) (pool words : List ℕ) : Type 0 where
 
 -- where matrix j stands in the pool, for a half that has its place
 pub matrix-stands : (role : Role) (t : Terms) (j : ℕ) (pool : List ℕ) (size index : ℕ) {from stop : ℕ} → Placed role t (slotAt pool size index)
-    → from ≡ index * size + matrixAt role (t .m) (t .k) (t .p) j → stop ≡ index * size + matrixAt role (t .m) (t .k) (t .p) (suc j)
+    → from ≡ index * size + matrixAt role (t .m) (t .k) (t .p) j → stop ≡ index * size + matrixAt role (t .m) (t .k) (t .p) (j + 1)
     → Stands from stop pool (part j (matrices role t (slotWords (slotAt pool size index))))
 unfolding slotWords
-matrix-stands role t j pool size index {from} {stop} p e f =
+matrix-stands role t j pool size index {from} {stop} p e f′ =
+    let f = simp unary-clauses at f′ in
     let a = matrixAt role (t .m) (t .k) (t .p) j in
     let b = matrixAt role (t .m) (t .k) (t .p) (suc j) in
     let next = matrix-next role (t .m) (t .k) (t .p) j in
@@ -72,6 +74,6 @@ matrix-stands role t j pool size index {from} {stop} p e f =
 pub matrix-length : (role : Role) (t : Terms) (j : ℕ) (pool : List ℕ) (size index : ℕ) → Placed role t (slotAt pool size index)
     → length (part j (matrices role t (slotWords (slotAt pool size index)))) ≡ getD (layout role (t .m) (t .k) (t .p)) j 0
 matrix-length role t j pool size index p =
-    let m = matrix-stands role t j pool size index p refl refl in
+    let m = matrix-stands role t j pool size index {stop = index * size + matrixAt role (t .m) (t .k) (t .p) (suc j)} p refl (simp unary-clauses refl) in
     let next = matrix-next role (t .m) (t .k) (t .p) j in
     ap length (sym (m .is)) ∙ simp (length-take, length-drop) (omega (arith, m .ends))

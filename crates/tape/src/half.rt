@@ -1,6 +1,6 @@
 // A half in its slot: where each of its matrices stands, and its tests. Left: X0, A0. Right: Y0, B0. Blinder: X0, A0, Q, G. Solver: Y0, B0, R, V.
 //   matrix_at          where a matrix begins: matrix j stands in slot[matrix_at(j)..matrix_at(j + 1)]
-//   matrix_start       the same in a pool
+//   matrix             the words of a matrix of a half that stands in a pool
 //   half_size          the words of a half
 //   holds_residues     its matrices hold residues
 use crate::End;
@@ -13,7 +13,8 @@ ghost use mathlib.Core.Bool.{true};
 ghost use Prim.Native.Nat.{_+_, _*_, _≤_};
 ghost use lib.ListN.{length, getD};
 ghost use Rattle.protocol.specs.Bounds.{sidesFit, allBelow};
-ghost use Rattle.protocol.specs.Tape.{slotAt, layout, matrixAt, tapeSize, body};
+ghost use Rattle.algebra.specs.Count.{part};
+ghost use Rattle.protocol.specs.Tape.{slotAt, slotWords, layout, matrixAt, tapeSize, body, matrices};
 ghost use Rattle.tape.specs.Ends.{role, sort};
 ghost use Rattle.tape.specs.Placed.{Placed};
 
@@ -66,12 +67,21 @@ pub fn matrix_at(end: End, t: Terms, j: usize) -> usize
     at
 }
 
-// The same in a pool.
+// Where a matrix of a half begins in its pool.
 pub fn matrix_start(end: End, t: Terms, j: usize, pool: &[u32], size: usize, index: usize) -> usize
     requires { ⌜ Placed (role end) t (slotAt (now pool) size index) × (j ≤ 4) ⌝ }
     ensures { λ r. ⌜ r ≡ index * size + matrixAt (role end) (t .m) (t .k) (t .p) j ⌝ }
 {
     index * size + matrix_at(end, t, j)
+}
+
+pub fn matrix(end: End, t: Terms, j: usize, pool: &[u32], size: usize, index: usize) -> &[u32]
+    requires { ⌜ Placed (role end) t (slotAt (now pool) size index) × (j ≤ 3) ⌝ }
+    ensures { λ r. ⌜ now r ≡ part j (matrices (role end) t (slotWords (slotAt (now (pool .entry)) size index))) ⌝ }
+{
+    let from = matrix_start(end, t, j, pool, size, index);
+    let stop = matrix_start(end, t, j + 1, pool, size, index);
+    &pool[from..stop]
 }
 
 pub fn half_size(end: End, t: Terms) -> usize
