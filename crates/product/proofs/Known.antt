@@ -13,7 +13,7 @@ use Rattle.algebra.specs.Count.{part, parts}
 use Rattle.protocol.specs.declared.Terms.{Terms}
 use Rattle.protocol.specs.declared.RightSession.{RightSession}
 use Rattle.protocol.specs.Judge.{done}
-use Rattle.protocol.specs.Tape.{Slot, left, right}
+use Rattle.protocol.specs.Tape.{Slot, slotWords, left, right, matrices}
 use Rattle.protocol.specs.Message.{Message, messageLayout, messageParts}
 use Rattle.protocol.specs.Step.{openTests}
 use Rattle.protocol.specs.Product.{rightFirstEffect, rightFirstTests, rightFirst, leftEffect, leftTests, leftStep, rightLastEffect, rightLastTests, rightLast}
@@ -24,7 +24,8 @@ use Rattle.protocol.proofs.CompletionLaws.{first-of}
 use Rattle.judging.specs.InOrder.{judged}
 use Rattle.judging.proofs.InOrder.{accepted-by}
 use Rattle.judging.proofs.Fits.{first-placed, open-placed}
-use Rattle.judging.proofs.KindLaws.{size-2}
+use Rattle.tape.proofs.Matrices.{matrix-length}
+use Rattle.judging.proofs.KindLaws.{size-1, size-2}
 use Rattle.product.specs.Shape.{Answering, Sharing}
 
 -- ---- a step that is accepted
@@ -48,23 +49,35 @@ drop-known due t s h = open-tests right due t s .0 (record { all = passed (openT
 
 -- ---- what the writers ask
 
-pub answering : (t : Terms) (s : Slot) (x words : List ℕ) (a : Message) (room share : ℕ) → LeftFits t s x words a room share → Answering t s x
-answering t s x words a room share f = record {
-  placed = first-placed left t s (f .first);
-  some-q = omega (arith, f .first .terms .big);
-  small-q = omega (arith, f .first .terms .small);
-  plain = f .x-fits;
-  mask = first-of (f .first .matrices-fit);
-}
+pub answering : (t : Terms) (s : Slot) (x words : List ℕ) (a : Message) (room share : ℕ) {u : ℕ} → LeftFits t s x words a room share → u ≡ t .m * t .p
+    → Answering t x (part 0 (matrices left t (slotWords s))) (length (a .residues)) u (length (part 1 (matrices left t (slotWords s)))) room
+answering t s x words a room share f e =
+    let p = first-placed left t s (f .first) in
+    record {
+      sides = p .sides;
+      some-q = omega (arith, f .first .terms .big);
+      small-q = omega (arith, f .first .terms .small);
+      plain = f .x-fits;
+      mask = first-of (f .first .matrices-fit);
+      full-y = f .message .residues .size ∙ sym (size-1 t);
+      full-u = e;
+      full-a = matrix-length left t 1 (s .pool) (s .size) (s .index) p;
+      room = omega (arith, f .message-room, size-2 t);
+    }
 
-pub sharing : (x : RightSession) (s : Slot) (a : Message) (share : ℕ) → RightLastFits x s a share → Sharing (x .terms) s (length (a .residues)) share
+pub sharing : (x : RightSession) (s : Slot) (a : Message) (share : ℕ) → RightLastFits x s a share
+    → Sharing (x .terms) (length (a .residues)) (length (part 0 (matrices right (x .terms) (slotWords s))))
+    (length (part 1 (matrices right (x .terms) (slotWords s)))) share
 sharing x s a share f =
     let o = f .later .session-open in
+    let p = open-placed right (x .terms) s o in
     record {
-      placed = open-placed right (x .terms) s o;
+      sides = p .sides;
       some-q = omega (arith, o .terms .big);
       small-q = omega (arith, o .terms .small);
       full = f .message .residues .size ∙ sym (size-2 (x .terms));
+      full-y = matrix-length right (x .terms) 0 (s .pool) (s .size) (s .index) p;
+      full-b = matrix-length right (x .terms) 1 (s .pool) (s .size) (s .index) p;
       room = f .share-room;
     }
 

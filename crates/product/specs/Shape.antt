@@ -2,26 +2,31 @@
 --   Answering  at step 2
 --   Sharing    at step 3
 use mathlib.Core.Path.{_≡_}
+use mathlib.Core.Bool.{true}
 use mathlib.Core.List.{List}
 use Prim.Native.Nat.{ℕ, _+_, _*_, _≤_, _<_}
-use Rattle.algebra.specs.Count.{part}
 use Rattle.algebra.specs.Matrix.{Residues}
 use Rattle.protocol.specs.declared.Terms.{Terms}
-use Rattle.protocol.specs.Tape.{Slot, slotWords, left, right, matrices}
-use Rattle.tape.specs.Placed.{Placed}
+use Rattle.protocol.specs.Bounds.{product, sidesFit}
 
--- X and the mask X0 are residues
-pub record Answering (t : Terms) (s : Slot) (x : List ℕ) : Type 0 where
-  pub placed : Placed left t s
+-- X and the mask X0 are residues; of Y1, U, A0 and the message's slice: their lengths
+pub record Answering (t : Terms) (x x0 : List ℕ) (y1 u a0 out : ℕ) : Type 0 where
+  pub sides : sidesFit product (t .m) (t .k) (t .p) ≡ true
   pub some-q : 0 < t .q
   pub small-q : t .q < 2147483648
   pub plain : Residues (t .q) (t .m * t .k) x
-  pub mask : Residues (t .q) (t .m * t .k) (part 0 (matrices left t (slotWords s)))
+  pub mask : Residues (t .q) (t .m * t .k) x0
+  pub full-y : y1 ≡ t .k * t .p
+  pub full-u : u ≡ t .m * t .p
+  pub full-a : a0 ≡ t .m * t .p
+  pub room : t .m * t .k + t .m * t .p ≤ out
 
--- of the message's residues and of the share's slice: their lengths
-pub record Sharing (t : Terms) (s : Slot) (residues share : ℕ) : Type 0 where
-  pub placed : Placed right t s
+-- of the message's residues, Y0, B0 and the share's slice: their lengths
+pub record Sharing (t : Terms) (residues y0 b0 share : ℕ) : Type 0 where
+  pub sides : sidesFit product (t .m) (t .k) (t .p) ≡ true
   pub some-q : 0 < t .q
   pub small-q : t .q < 2147483648
   pub full : residues ≡ t .m * t .k + t .m * t .p
+  pub full-y : y0 ≡ t .k * t .p
+  pub full-b : b0 ≡ t .m * t .p
   pub room : t .m * t .p ≤ share

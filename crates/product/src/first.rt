@@ -14,7 +14,7 @@ use protocol::RightSession;
 use protocol::Terms;
 use tape::End;
 use tape::change::take_up_at;
-use tape::half::matrix_start;
+use tape::half::matrix;
 use vectors::subtract_residues;
 use vectors::times;
 ghost use mathlib.Core.Path.{_≡_};
@@ -61,9 +61,8 @@ fn compute(
         (record { answer = answerReply (r .answer); session = r .session; head = r .head; scratch = []; sent = now (out .exit); result = [] })
         (computed [] (now (out .entry)) [] (rightFirstEffect t (slotAt (now (pool .entry)) size index) (now (y .entry)))) ⌝ }
 {
-    let from = matrix_start(End::Right, t, 0, pool, size, index);
-    let stop = matrix_start(End::Right, t, 1, pool, size, index);
-    subtract_residues(t.q, times(t.k, t.p), y, &pool[from..stop], out);
+    let y0 = matrix(End::Right, t, 0, pool, size, index);
+    subtract_residues(t.q, times(t.k, t.p), y, y0, out);
     RightAnswer {
         answer: Answer::Accepted(0),
         session: RightSession { terms: t, due: 2 },

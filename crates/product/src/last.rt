@@ -13,17 +13,16 @@ use protocol::RightSession;
 use protocol::Terms;
 use tape::End;
 use tape::change::spend_at;
-use tape::half::matrix_start;
+use tape::half::matrix;
 use vectors::times;
 ghost use mathlib.Core.Path.{_≡_};
 ghost use mathlib.Core.List.{[]};
 ghost use Prim.Native.Nat.{_*_};
 ghost use lib.ListN.{length, take, drop};
-ghost use Rattle.algebra.specs.Count.{part};
 ghost use Rattle.algebra.specs.Words.{over};
 ghost use Rattle.algebra.specs.Product.{rightShare};
 ghost use Rattle.protocol.specs.Judge.{done};
-ghost use Rattle.protocol.specs.Tape.{right, slotAt, slotWords, matrices};
+ghost use Rattle.protocol.specs.Tape.{slotAt};
 ghost use Rattle.protocol.specs.Product.{rightLastEffect, rightLastTests, rightLast};
 ghost use Rattle.protocol.specs.Step.{answerReply};
 ghost use Rattle.judging.specs.InOrder.{checked, judged};
@@ -48,24 +47,21 @@ fn check(
 }
 
 // X1 × Y0 + R1 − B0, of a message's residues.
-fn write_own(t: Terms, residues: &[u32], pool: &[u32], size: usize, index: usize, share: &mut [u32])
-    requires { ⌜ Sharing t (slotAt (now pool) size index) (length (now residues)) (length (now share)) ⌝ }
-    ensures { λ _. ⌜ now (share .exit) ≡ over (rightShare (t .q) (t .m) (t .k) (t .p) (take (t .m * t .k) (now (residues .entry))) (part 0 (matrices right t (slotWords (slotAt (now (pool .entry)) size index))))
-        (drop (t .m * t .k) (now (residues .entry))) (part 1 (matrices right t (slotWords (slotAt (now (pool .entry)) size index))))) (now (share .entry)) ⌝ }
+fn write_own(t: Terms, residues: &[u32], y0: &[u32], b0: &[u32], share: &mut [u32])
+    requires { ⌜ Sharing t (length (now residues)) (length (now y0)) (length (now b0)) (length (now share)) ⌝ }
+    ensures { λ _. ⌜ now (share .exit) ≡ over (rightShare (t .q) (t .m) (t .k) (t .p) (take (t .m * t .k) (now (residues .entry))) (now (y0 .entry))
+        (drop (t .m * t .k) (now (residues .entry))) (now (b0 .entry))) (now (share .entry)) ⌝ }
 {
     let mk = times(t.m, t.k);
-    let from = matrix_start(End::Right, t, 0, pool, size, index);
-    let middle = matrix_start(End::Right, t, 1, pool, size, index);
-    let stop = matrix_start(End::Right, t, 2, pool, size, index);
     write_share(
         t.q,
         t.m as usize,
         t.k as usize,
         t.p as usize,
         &residues[..mk],
-        &pool[from..middle],
+        y0,
         &residues[mk..],
-        &pool[middle..stop],
+        b0,
         share,
     );
 }
@@ -86,7 +82,9 @@ fn compute(
         (computed [] [] (now (share .entry)) (rightLastEffect s (slotAt (now (pool .entry)) size index) (record { head = a; residues = now (residues .entry) }))) ⌝ }
 {
     let t = s.terms;
-    write_own(t, residues, pool, size, index, share);
+    let y0 = matrix(End::Right, t, 0, pool, size, index);
+    let b0 = matrix(End::Right, t, 1, pool, size, index);
+    write_own(t, residues, y0, b0, share);
     RightAnswer {
         answer: Answer::Accepted(0),
         session: RightSession { terms: t, due: 0 },

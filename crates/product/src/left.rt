@@ -17,19 +17,18 @@ use protocol::Refusal;
 use protocol::Terms;
 use tape::End;
 use tape::change::spend_at;
-use tape::half::matrix_start;
+use tape::half::matrix;
 use vectors::add_residues;
 use vectors::times;
 ghost use mathlib.Core.Path.{_≡_};
 ghost use mathlib.Core.List.{[], _++_};
-ghost use Prim.Native.Nat.{_+_, _*_, _≤_};
+ghost use Prim.Native.Nat.{_*_};
 ghost use lib.ListN.{length};
-ghost use Rattle.algebra.specs.Count.{part};
 ghost use Rattle.algebra.specs.Words.{over};
 ghost use Rattle.algebra.specs.Product.{sendX, sendR};
 ghost use Rattle.protocol.specs.Judge.{done};
 ghost use Rattle.protocol.specs.Bounds.{inputTests, roomTests};
-ghost use Rattle.protocol.specs.Tape.{left, slotAt, slotWords, matrices};
+ghost use Rattle.protocol.specs.Tape.{slotAt};
 ghost use Rattle.protocol.specs.Message.{messageSize};
 ghost use Rattle.protocol.specs.Product.{leftEffect, leftTests, leftStep};
 ghost use Rattle.protocol.specs.Step.{answerReply};
@@ -70,32 +69,22 @@ fn check(
     check_coins(t.q, times(t.m, t.p), words)
 }
 
-// X1 = X + X0.
-fn write_x(t: Terms, x: &[u32], pool: &[u32], size: usize, index: usize, out: &mut [u32])
-    requires { ⌜ Answering t (slotAt (now pool) size index) (now x) × (t .m * t .k ≤ length (now out)) ⌝ }
-    ensures { λ _. ⌜ now (out .exit) ≡ over (sendX (t .q) (t .m) (t .k) (t .p) (now (x .entry)) (part 0 (matrices left t (slotWords (slotAt (now (pool .entry)) size index))))) (now (out .entry)) ⌝ }
-{
-    let from = matrix_start(End::Left, t, 0, pool, size, index);
-    let stop = matrix_start(End::Left, t, 1, pool, size, index);
-    add_residues(t.q, times(t.m, t.k), x, &pool[from..stop], out);
-}
-
-// R1 = X × Y1 − U − A0.
-fn write_r(
+// X1 = X + X0, and then R1 = X × Y1 − U − A0.
+fn write_message(
     t: Terms,
     x: &[u32],
     y1: &[u32],
     u: &[u32],
-    pool: &[u32],
-    size: usize,
-    index: usize,
+    x0: &[u32],
+    a0: &[u32],
     out: &mut [u32],
 )
-    requires { ⌜ Answering t (slotAt (now pool) size index) (now x) × (length (now y1) ≡ t .k * t .p) × (length (now u) ≡ t .m * t .p) × (t .m * t .p ≤ length (now out)) ⌝ }
-    ensures { λ _. ⌜ now (out .exit) ≡ over (sendR (t .q) (t .m) (t .k) (t .p) (now (x .entry)) (now (y1 .entry)) (now (u .entry)) (part 1 (matrices left t (slotWords (slotAt (now (pool .entry)) size index))))) (now (out .entry)) ⌝ }
+    requires { ⌜ Answering t (now x) (now x0) (length (now y1)) (length (now u)) (length (now a0)) (length (now out)) ⌝ }
+    ensures { λ _. ⌜ now (out .exit) ≡ over (sendX (t .q) (t .m) (t .k) (t .p) (now (x .entry)) (now (x0 .entry))
+        ++ sendR (t .q) (t .m) (t .k) (t .p) (now (x .entry)) (now (y1 .entry)) (now (u .entry)) (now (a0 .entry))) (now (out .entry)) ⌝ }
 {
-    let from = matrix_start(End::Left, t, 1, pool, size, index);
-    let stop = matrix_start(End::Left, t, 2, pool, size, index);
+    let mk = times(t.m, t.k);
+    add_residues(t.q, mk, x, x0, out);
     write_reply(
         t.q,
         t.m as usize,
@@ -104,29 +93,9 @@ fn write_r(
         x,
         y1,
         u,
-        &pool[from..stop],
-        out,
+        a0,
+        &mut out[mk..],
     );
-}
-
-// X1, and then R1.
-fn write_message(
-    t: Terms,
-    x: &[u32],
-    y1: &[u32],
-    u: &[u32],
-    pool: &[u32],
-    size: usize,
-    index: usize,
-    out: &mut [u32],
-)
-    requires { ⌜ Answering t (slotAt (now pool) size index) (now x) × (length (now y1) ≡ t .k * t .p) × (length (now u) ≡ t .m * t .p) × (t .m * t .k + t .m * t .p ≤ length (now out)) ⌝ }
-    ensures { λ _. ⌜ now (out .exit) ≡ over (sendX (t .q) (t .m) (t .k) (t .p) (now (x .entry)) (part 0 (matrices left t (slotWords (slotAt (now (pool .entry)) size index))))
-        ++ sendR (t .q) (t .m) (t .k) (t .p) (now (x .entry)) (now (y1 .entry)) (now (u .entry)) (part 1 (matrices left t (slotWords (slotAt (now (pool .entry)) size index))))) (now (out .entry)) ⌝ }
-{
-    let mk = times(t.m, t.k);
-    write_x(t, x, pool, size, index, out);
-    write_r(t, x, y1, u, pool, size, index, &mut out[mk..]);
 }
 
 // U is drawn into the share; X1 and R1 go into `out`.
@@ -148,9 +117,11 @@ fn compute(
         (computed [] (now (out .entry)) (now (share .entry))
         (leftEffect t (slotAt (now (pool .entry)) size index) (now (x .entry)) (now (words .entry)) (record { head = a; residues = now (residues .entry) }))) ⌝ }
 {
+    let x0 = matrix(End::Left, t, 0, pool, size, index);
+    let a0 = matrix(End::Left, t, 1, pool, size, index);
     let mp = times(t.m, t.p);
     let count = draw(t.q, mp, words, share);
-    write_message(t, x, residues, &share[..mp], pool, size, index, out);
+    write_message(t, x, residues, &share[..mp], x0, a0, out);
     LeftAnswer {
         answer: Answer::Accepted(count),
         head: Head { kind: 2, terms: t },

@@ -3,10 +3,12 @@ use mathlib.Core.Path.{ap, _∙_}
 use Prim.Native.Nat.{_*_}
 use native.Mathlib.Omega.{arith}
 use lib.ListN.{length}
-use Rattle.algebra.specs.Product.{sendX}
+use Rattle.algebra.specs.Product.{sendX, sendR}
 use Rattle.algebra.proofs.Lists.{add-residues as sum-residues}
+use Rattle.protocol.specs.Bounds.{product}
 use Rattle.protocol.proofs.Residues.{over-length}
 use Rattle.vectors.proofs.Written.{part-then}
+use Rattle.tape.proofs.Sides.{sides-of}
 use borrow.Author.Needs.{needs}
 use Rattle.product.proofs.left.write_message.Statement.{statement}
 use Rattle.product.proofs.left.write_message.Tie as tie
@@ -14,50 +16,92 @@ use Rattle.product.proofs.left.write_message.Tie as tie
 times-requires : tie.Need-times-requires
 times-requires c κs = search needs
 
-write-x-requires : tie.Need-write-x-requires
-write-x-requires c κs = search needs
+add-residues-requires : tie.Need-add-residues-requires
+add-residues-requires c κs =
+    let h = c .before .before .before .before .before .before .before .before .pre in
+    let n = c .before .times .ensures in (
+      h .small-q,
+      λ j l. h .plain .below j (omega (arith, n)),
+      λ j l. h .mask .below j (omega (arith, n)),
+      omega (arith, h .plain .size, n),
+      omega (arith, h .mask .size, n),
+      omega (arith, h .room, n),
+    )
 
-mul-write-r : tie.Need-mul-write-r
-mul-write-r c = search needs
+cast-write-reply : tie.Need-cast-write-reply
+cast-write-reply c = search needs
 
-sub-write-r : tie.Need-sub-write-r
-sub-write-r c = search needs
+cast-write-reply-2 : tie.Need-cast-write-reply-2
+cast-write-reply-2 c = search needs
 
-part-write-r-start : tie.Need-part-write-r-start
-part-write-r-start c = search needs
+cast-write-reply-3 : tie.Need-cast-write-reply-3
+cast-write-reply-3 c = search needs
 
-part-write-r-end : tie.Need-part-write-r-end
-part-write-r-end c = search needs
+mul-write-reply : tie.Need-mul-write-reply
+mul-write-reply c = search needs
 
-write-r-requires : tie.Need-write-r-requires
-write-r-requires c κs = search needs
+sub-write-reply : tie.Need-sub-write-reply
+sub-write-reply c = search needs
+
+part-write-reply-start : tie.Need-part-write-reply-start
+part-write-reply-start c = search needs
+
+part-write-reply-end : tie.Need-part-write-reply-end
+part-write-reply-end c = search needs
+
+write-reply-requires : tie.Need-write-reply-requires
+write-reply-requires c κs =
+    let at = c .before .before .before .before .before .before .before .before in
+    let start = at .before .before .before .before .before .before .before in
+    let a = start .args in
+    let h = start .pre in
+    let n = at .times .ensures in
+    let b = sides-of product (a .t .m) (a .t .k) (a .t .p) (h .sides) in
+    let full = sum-residues (h .some-q) (a .t .m * a .t .k) (a .x .now) (a .x0 .now) .size in (
+      record {
+        some-q = h .some-q;
+        small-q = h .small-q;
+        some-p = b .some-p;
+        few-k = b .few-k;
+        few-y = b .few-kp;
+        full-x = omega (arith, h .plain .size);
+        full-y = omega (arith, h .full-y);
+        room = omega (arith, h .room, n);
+      },
+      omega (arith, h .full-u),
+      omega (arith, h .full-a),
+    )
 
 same-length : tie.Need-same-length
 same-length c = search needs
 
 returns : tie.Need-returns
-unfolding sendX
+unfolding sendX sendR
 returns c =
-    let start = c .before .before .before .before .before .before .before .before .before .before .before .before .before .before in
+    let at = c .before .before .before .before .before .before .before .before .before in
+    let start = at .before .before .before .before .before .before .before .before .before in
     let a = start .args in
     let h = start .pre in
-    let n = c .before .before .before .before .before .before .before .before .times .ensures in
-    let full = sum-residues (h .0 .some-q) (a .t .m * a .t .k) (a .x .now) _ .size in
-    let first = c .before .before .before .before .before .before .write-x .ensures in
+    let n = at .before .before .times .ensures in
+    let full = sum-residues (h .some-q) (a .t .m * a .t .k) (a .x .now) (a .x0 .now) .size in
+    let first = rw n at (at .add-residues .ensures) in
     rw n
-    (part-then _ _ (a .out .now) _ _ (a .t .m * a .t .k) full (omega (arith, ap length first ∙ over-length _ (a .out .now) (omega (arith, full, h .3)), h .3))
-    first (rw n at (c .before .before .write-r .ensures)))
+    (part-then _ _ (a .out .now) _ _ (a .t .m * a .t .k) full (omega (arith, ap length first ∙ over-length _ (a .out .now) (omega (arith, full, h .room)), h .room))
+    first (rw n at (c .before .before .write-reply .ensures)))
 
 pub write-message-spec : {M : Type 1} → statement M
 write-message-spec =
     tie.close
     (tie.spec
     times-requires
-    write-x-requires
-    mul-write-r
-    sub-write-r
-    part-write-r-start
-    part-write-r-end
-    write-r-requires
+    add-residues-requires
+    cast-write-reply
+    cast-write-reply-2
+    cast-write-reply-3
+    mul-write-reply
+    sub-write-reply
+    part-write-reply-start
+    part-write-reply-end
+    write-reply-requires
     same-length
     returns)
