@@ -22,38 +22,29 @@ use Rattle.algebra.proofs.Lists.{length-tabulate, add-residues}
 use Rattle.protocol.specs.declared.Terms.{Terms}
 use Rattle.protocol.specs.declared.SolverSession.{SolverSession}
 use Rattle.protocol.specs.Bounds.{columns}
-use Rattle.protocol.specs.Tape.{Slot, slotWords, solver, layout, matrices}
+use Rattle.protocol.specs.Tape.{Slot, slotWords, solver, matrices}
 use Rattle.protocol.specs.Message.{Message, messageLayout, messageParts}
 use Rattle.protocol.specs.System.{padded, sideSize, keptS, jointSum, solverLastEffect}
 use Rattle.protocol.specs.Step.{answerReply}
-use Rattle.protocol.proofs.Matrices.{matrix-next, matrix-within, matrix-part}
-use Rattle.protocol.proofs.Slots.{slot-length}
 use Rattle.tape.specs.Placed.{Placed}
+use Rattle.tape.proofs.Matrices.{matrix-length}
 use Rattle.judging.specs.Leaves.{Computed, computed}
 use Rattle.solver.specs.Formulas.{sentPart, shareOf, sumOf, sideOf, lastAnswer, lastHead, closedTerms}
 
 -- ---- the matrices of a half that has its place
 
-part-full : (t : Terms) (s : Slot) (j : ℕ) → Placed solver t s
-    → length (part j (matrices solver t (slotWords s))) ≡ getD (layout solver (t .m) (t .k) (t .p)) j 0
-part-full t s j p =
-    let next = matrix-next solver (t .m) (t .k) (t .p) j in
-    let within = matrix-within solver (t .m) (t .k) (t .p) (suc j) in
-    ap length (sym (matrix-part solver t j (slotWords s)))
-    ∙ simp (length-take, length-drop) (omega (arith, next, within, p .room, slot-length s (p .inside)))
-
 module _ (t : Terms) (s : Slot) (p : Placed solver t s) where
   pub y0-size : length (part 0 (matrices solver t (slotWords s))) ≡ t .k * t .p
-  y0-size = part-full t s 0 p
+  y0-size = matrix-length solver t 0 (s .pool) (s .size) (s .index) p
 
   pub b0-size : length (part 1 (matrices solver t (slotWords s))) ≡ t .m * t .p
-  b0-size = part-full t s 1 p
+  b0-size = matrix-length solver t 1 (s .pool) (s .size) (s .index) p
 
   pub r-size : length (part 2 (matrices solver t (slotWords s))) ≡ t .m * t .k
-  r-size = part-full t s 2 p
+  r-size = matrix-length solver t 2 (s .pool) (s .size) (s .index) p
 
   pub v-size : length (part 3 (matrices solver t (slotWords s))) ≡ t .m * t .k
-  v-size = part-full t s 3 p
+  v-size = matrix-length solver t 3 (s .pool) (s .size) (s .index) p
 
 -- ---- step 1
 
@@ -93,9 +84,9 @@ pub share-found : (q m k p rhs : ℕ) {x y r b : List ℕ} (x1 y0 r1 b0 out : Li
 unfolding solverShare rightShare
 share-found q m k p rhs x1 y0 r1 b0 out e ex ey er eb s w = e ∙ rw (ex, ey, er, eb, s, w) refl
 
-pub share-length : (t : Terms) (s : Slot) (residues : List ℕ) → t .m + columns (t .m) (t .p) ≡ t .p → length (shareOf t s residues) ≡ t .m * t .p
+pub share-length : (t : Terms) (y0 b0 residues : List ℕ) → t .m + columns (t .m) (t .p) ≡ t .p → length (shareOf t y0 b0 residues) ≡ t .m * t .p
 unfolding shareOf solverShare rightShare matSub
-share-length t s residues w = length-tabulate (t .m * (t .m + columns (t .m) (t .p))) _ ∙ ap (λ (n : ℕ). t .m * n) w
+share-length t y0 b0 residues w = length-tabulate (t .m * (t .m + columns (t .m) (t .p))) _ ∙ ap (λ (n : ℕ). t .m * n) w
 
 pub f-sent : (q m p rhs size : ℕ) {c : List ℕ} (r share out : List ℕ) {sent : List ℕ}
     → sent ≡ over (matSub q size r c) out → size ≡ m * m → c ≡ cols m p 0 m share → m + rhs ≡ p → sent ≡ over (sendF q m rhs r share) out
@@ -109,28 +100,28 @@ kept-column m p rhs share e z w = e ∙ rw (z, w) refl
 
 -- ---- step 5
 
-pub joint-sum : (t : Terms) (s : Slot) (residues : List ℕ) (n : ℕ) {w v : List ℕ} (out : List ℕ) {sum : List ℕ} → sum ≡ over (matAdd (t .q) n w v) out
-    → n ≡ t .m * t .m → w ≡ sentPart 4 t 0 residues → v ≡ part 3 (matrices solver t (slotWords s)) → sum ≡ over (sumOf t s residues) out
+pub joint-sum : (t : Terms) (v residues : List ℕ) (n : ℕ) {w : List ℕ} (out : List ℕ) {sum : List ℕ} → sum ≡ over (matAdd (t .q) n w v) out
+    → n ≡ t .m * t .m → w ≡ sentPart 4 t 0 residues → sum ≡ over (sumOf t v residues) out
 unfolding sumOf sumMatrix
-joint-sum t s residues n out e en ew ev = e ∙ rw (en, ew, ev) refl
+joint-sum t v residues n out e en ew = e ∙ rw (en, ew) refl
 
 pub joint-side : (t : Terms) (residues kept : List ℕ) (n : ℕ) {c k : List ℕ} (out : List ℕ) {side : List ℕ} → side ≡ over (matAdd (t .q) n c k) out
     → n ≡ sideSize t → c ≡ sentPart 4 t 1 residues → k ≡ take (sideSize t) kept → side ≡ over (sideOf t residues kept) out
 unfolding sideOf
 joint-side t residues kept n out e en ec ek = e ∙ rw (en, ec, ek) refl
 
-pub sum-residues : (t : Terms) (s : Slot) (residues : List ℕ) → 0 < t .q → Residues (t .q) (t .m * t .m) (sumOf t s residues)
+pub sum-residues : (t : Terms) (v residues : List ℕ) → 0 < t .q → Residues (t .q) (t .m * t .m) (sumOf t v residues)
 unfolding sumOf sumMatrix
-sum-residues t s residues h = add-residues h (t .m * t .m) _ _
+sum-residues t v residues h = add-residues h (t .m * t .m) _ _
 
 pub side-residues : (t : Terms) (residues kept : List ℕ) → 0 < t .q → Residues (t .q) (sideSize t) (sideOf t residues kept)
 unfolding sideOf
 side-residues t residues kept h = add-residues h (sideSize t) _ _
 
-pub last-left : (x : SolverSession) (s : Slot) (a : Message) (out : List ℕ) (found : Bool) {sent : List ℕ}
-    → found ≡ regular (x .terms .q) (x .terms .m) (sumOf (x .terms) s (a .residues))
-    → sent ≡ cond (regular (x .terms .q) (x .terms .m) (sumOf (x .terms) s (a .residues)))
-    (over (solution (x .terms .q) (x .terms .m) (sumOf (x .terms) s (a .residues)) (sideOf (x .terms) (a .residues) (x .s))) out) out
+pub last-left : (x : SolverSession) (s : Slot) (a : Message) (out : List ℕ) (found : Bool) {sent v : List ℕ} → v ≡ part 3 (matrices solver (x .terms) (slotWords s))
+    → found ≡ regular (x .terms .q) (x .terms .m) (sumOf (x .terms) v (a .residues))
+    → sent ≡ cond (regular (x .terms .q) (x .terms .m) (sumOf (x .terms) v (a .residues)))
+    (over (solution (x .terms .q) (x .terms .m) (sumOf (x .terms) v (a .residues)) (sideOf (x .terms) (a .residues) (x .s))) out) out
     → _≡_ {A = Computed SolverSession}
     (record {
       answer = answerReply (lastAnswer found);
@@ -142,5 +133,5 @@ pub last-left : (x : SolverSession) (s : Slot) (a : Message) (out : List ℕ) (f
     })
     (computed [] out [] (solverLastEffect x s a))
 unfolding solverLastEffect jointSum sumOf sideOf sentPart messageParts keptS sideSize join over
-last-left x s a out true r o = rw (o, sym r) (simp append-nil)
-last-left x s a out false r o = rw (o, sym r) (simp append-nil)
+last-left x s a out true e r o = rw (o, sym e, sym r) (simp append-nil)
+last-left x s a out false e r o = rw (o, sym e, sym r) (simp append-nil)

@@ -1,4 +1,4 @@
--- What the solver computes at its later steps, by its slot and a message's residues. Assumes nothing.
+-- What the solver computes at its later steps, by its matrices and a message's residues. Assumes nothing.
 --   sentPart                           a part of a message, by its residues
 --   shareOf                            S = X1 × Y0 + R1 − B0
 --   sumOf, sideOf                      W + V, and c + s
@@ -17,20 +17,17 @@ use Rattle.protocol.specs.declared.Answer.the-variants.{Accepted, Refused}
 use Rattle.protocol.specs.declared.Refusal.the-variants.{Singular}
 use Rattle.protocol.specs.declared.SolverSession.{SolverSession}
 use Rattle.protocol.specs.Bounds.{columns}
-use Rattle.protocol.specs.Tape.{Slot, slotWords, solver, matrices}
 use Rattle.protocol.specs.Message.{noMessage, messageLayout}
 use Rattle.protocol.specs.System.{sideSize}
 
 unfoldable pub sentPart : (kind : ℕ) → Terms → (j : ℕ) (residues : List ℕ) → List ℕ
 sentPart kind t j residues = part j (parts (messageLayout kind (t .m) (t .k) (t .p)) residues)
 
-unfoldable pub shareOf : Terms → Slot → (residues : List ℕ) → List ℕ
-shareOf t s residues =
-    solverShare (t .q) (t .m) (columns (t .m) (t .p)) (sentPart 2 t 0 residues) (part 0 (matrices solver t (slotWords s))) (sentPart 2 t 1 residues)
-    (part 1 (matrices solver t (slotWords s)))
+unfoldable pub shareOf : Terms → (y0 b0 residues : List ℕ) → List ℕ
+shareOf t y0 b0 residues = solverShare (t .q) (t .m) (columns (t .m) (t .p)) (sentPart 2 t 0 residues) y0 (sentPart 2 t 1 residues) b0
 
-unfoldable pub sumOf : Terms → Slot → (residues : List ℕ) → List ℕ
-sumOf t s residues = sumMatrix (t .q) (t .m) (sentPart 4 t 0 residues) (part 3 (matrices solver t (slotWords s)))
+unfoldable pub sumOf : Terms → (v residues : List ℕ) → List ℕ
+sumOf t v residues = sumMatrix (t .q) (t .m) (sentPart 4 t 0 residues) v
 
 unfoldable pub sideOf : Terms → (residues kept : List ℕ) → List ℕ
 sideOf t residues kept = matAdd (t .q) (sideSize t) (sentPart 4 t 1 residues) (take (sideSize t) kept)

@@ -1,4 +1,4 @@
 -- Groups    the tests of the later steps
--- Formulas  what the later steps compute, by the slot and a message's residues
+-- Formulas  what the later steps compute, by matrices and a message's residues
 pub mod Groups
 pub mod Formulas

@@ -21,7 +21,7 @@ use protocol::SolverSession;
 use protocol::Terms;
 use tape::End;
 use tape::change::take_up_at;
-use tape::half::matrix_start;
+use tape::half::matrix;
 use vectors::times;
 use vectors::write_beside;
 use vectors::write_difference;
@@ -109,9 +109,8 @@ fn compute(
         (record { answer = answerReply (r .answer); session = r .session; head = r .head; scratch = []; sent = now (out .exit); result = [] })
         (computed [] (now (out .entry)) [] (solverFirstEffect t (slotAt (now (pool .entry)) size index) (now (l .entry)) (now (x .entry)))) ⌝ }
 {
-    let from = matrix_start(End::Solver, t, 0, pool, size, index);
-    let stop = matrix_start(End::Solver, t, 1, pool, size, index);
-    write_y1(t, l, x, &pool[from..stop], out);
+    let y0 = matrix(End::Solver, t, 0, pool, size, index);
+    write_y1(t, l, x, y0, out);
     SolverAnswer {
         answer: Answer::Accepted(0),
         session: session_of(t, 2),

@@ -16,7 +16,7 @@ use protocol::SolverSession;
 use protocol::Terms;
 use tape::End;
 use tape::change::spend_at;
-use tape::half::matrix_start;
+use tape::half::matrix;
 use vectors::times;
 use vectors::write_sum;
 ghost use mathlib.Core.Path.{_≡_};
@@ -30,24 +30,22 @@ ghost use Rattle.algebra.specs.Prime.{isPrime};
 ghost use Rattle.algebra.specs.Words.{over};
 ghost use Rattle.protocol.specs.Judge.{done};
 ghost use Rattle.protocol.specs.Bounds.{sidesFit, system};
-ghost use Rattle.protocol.specs.Tape.{solver, slotAt};
+ghost use Rattle.protocol.specs.Tape.{slotAt};
 ghost use Rattle.protocol.specs.Message.{messageWith};
 ghost use Rattle.protocol.specs.System.{sideSize, solverLastEffect, solverLastTests, solverLast};
 ghost use Rattle.protocol.specs.Step.{answerReply};
-ghost use Rattle.tape.specs.Placed.{Placed};
 ghost use Rattle.judging.specs.InOrder.{judged};
 ghost use Rattle.judging.specs.Leaves.{Leaves, leaves, Computed, computed};
 ghost use Rattle.solver.specs.Formulas.{sumOf, sideOf, lastAnswer, lastHead, closedTerms};
 
-// W + V, by the message's residues and the half.
-fn write_joint(pool: &[u32], size: usize, index: usize, t: Terms, residues: &[u32], out: &mut [u32])
-    requires { ⌜ Placed solver t (slotAt (now pool) size index) × (0 < t .q) × (t .m * t .k ≤ length (now residues)) × (t .m * t .k ≤ length (now out)) ⌝ }
-    ensures { λ _. ⌜ now (out .exit) ≡ over (sumOf t (slotAt (now (pool .entry)) size index) (now (residues .entry))) (now (out .entry)) ⌝ }
+// W + V, by the message's residues.
+fn write_joint(t: Terms, residues: &[u32], v: &[u32], out: &mut [u32])
+    requires { ⌜ (0 < t .q) × (sidesFit system (t .m) (t .k) (t .p) ≡ true) × (t .m * t .k ≤ length (now residues))
+        × (length (now v) ≡ t .m * t .k) × (t .m * t .k ≤ length (now out)) ⌝ }
+    ensures { λ _. ⌜ now (out .exit) ≡ over (sumOf t (now (v .entry)) (now (residues .entry))) (now (out .entry)) ⌝ }
 {
     let n = times(t.m, t.k);
-    let from = matrix_start(End::Solver, t, 3, pool, size, index);
-    let stop = matrix_start(End::Solver, t, 4, pool, size, index);
-    write_sum(t.q, n, &residues[..n], &pool[from..stop], out);
+    write_sum(t.q, n, &residues[..n], v, out);
 }
 
 // c + s, by the message's residues and what the session keeps.
@@ -110,8 +108,9 @@ fn compute(
 {
     let t = s.terms;
     let n = times(t.m, t.m);
+    let v = matrix(End::Solver, t, 3, pool, size, index);
     let mut sum = [0u32; 256];
-    write_joint(pool, size, index, t, residues, &mut sum);
+    write_joint(t, residues, v, &mut sum);
     let kept = s.s;
     let found = find_t(t, &sum[..n], residues, &kept, out);
     answer(t, found)

@@ -11,7 +11,7 @@ use protocol::Head;
 use protocol::SolverSession;
 use protocol::Terms;
 use tape::End;
-use tape::half::matrix_start;
+use tape::half::matrix;
 use vectors::times;
 use vectors::write_cols;
 use vectors::write_difference;
@@ -20,27 +20,24 @@ ghost use mathlib.Core.Bool.{true};
 ghost use mathlib.Core.List.{[]};
 ghost use Prim.Native.Nat.{_+_, _*_, _≤_, _<_};
 ghost use lib.ListN.{length};
-ghost use Rattle.algebra.specs.Count.{part};
-ghost use Rattle.algebra.specs.System.{lastCols, solverShare, sendF};
+ghost use Rattle.algebra.specs.System.{lastCols, sendF};
 ghost use Rattle.algebra.specs.Words.{over};
 ghost use Rattle.protocol.specs.declared.Answer.the-variants.{Accepted};
 ghost use Rattle.protocol.specs.Judge.{done};
 ghost use Rattle.protocol.specs.Bounds.{columns, sidesFit, system};
-ghost use Rattle.protocol.specs.Tape.{solver, slotAt, slotWords, matrices};
+ghost use Rattle.protocol.specs.Tape.{slotAt};
 ghost use Rattle.protocol.specs.Message.{messageWith};
 ghost use Rattle.protocol.specs.System.{padded, solverSecondEffect, solverSecondTests, solverSecond};
 ghost use Rattle.protocol.specs.Step.{answerReply};
-ghost use Rattle.tape.specs.Placed.{Placed};
 ghost use Rattle.judging.specs.InOrder.{judged};
 ghost use Rattle.judging.specs.Leaves.{Leaves, leaves, Computed, computed};
-ghost use Rattle.solver.specs.Formulas.{sentPart, shareOf};
+ghost use Rattle.solver.specs.Formulas.{shareOf};
 
 // S, by the message's residues, Y0 and B0.
-fn join_share(t: Terms, residues: &[u32], y0: &[u32], b0: &[u32], out: &mut [u32])
+fn find_share(t: Terms, residues: &[u32], y0: &[u32], b0: &[u32], out: &mut [u32])
     requires { ⌜ (0 < t .q) × (t .q < 2147483648) × (sidesFit system (t .m) (t .k) (t .p) ≡ true) × (length (now residues) ≡ t .m * t .k + t .m * t .p)
         × (length (now y0) ≡ t .k * t .p) × (length (now b0) ≡ t .m * t .p) × (t .m * t .p ≤ length (now out)) ⌝ }
-    ensures { λ _. ⌜ now (out .exit) ≡ over (solverShare (t .q) (t .m) (columns (t .m) (t .p)) (sentPart 2 t 0 (now (residues .entry))) (now (y0 .entry))
-        (sentPart 2 t 1 (now (residues .entry))) (now (b0 .entry))) (now (out .entry)) ⌝ }
+    ensures { λ _. ⌜ now (out .exit) ≡ over (shareOf t (now (y0 .entry)) (now (b0 .entry)) (now (residues .entry))) (now (out .entry)) ⌝ }
 {
     let x1 = times(t.m, t.k);
     write_share(
@@ -54,18 +51,6 @@ fn join_share(t: Terms, residues: &[u32], y0: &[u32], b0: &[u32], out: &mut [u32
         b0,
         out,
     );
-}
-
-// The same, by the message's residues and the half.
-fn find_share(pool: &[u32], size: usize, index: usize, t: Terms, residues: &[u32], out: &mut [u32])
-    requires { ⌜ Placed solver t (slotAt (now pool) size index) × (0 < t .q) × (t .q < 2147483648)
-        × (length (now residues) ≡ t .m * t .k + t .m * t .p) × (t .m * t .p ≤ length (now out)) ⌝ }
-    ensures { λ _. ⌜ now (out .exit) ≡ over (shareOf t (slotAt (now (pool .entry)) size index) (now (residues .entry))) (now (out .entry)) ⌝ }
-{
-    let y0 = matrix_start(End::Solver, t, 0, pool, size, index);
-    let b0 = matrix_start(End::Solver, t, 1, pool, size, index);
-    let end = matrix_start(End::Solver, t, 2, pool, size, index);
-    join_share(t, residues, &pool[y0..b0], &pool[b0..end], out);
 }
 
 // F, by R and S.
@@ -93,26 +78,17 @@ fn last_column(t: Terms, share: &[u32]) -> [u32; 16]
 }
 
 // F goes into `out`; the session keeps s and waits for kind 4.
-fn finish(
-    pool: &[u32],
-    size: usize,
-    index: usize,
-    t: Terms,
-    share: &[u32],
-    out: &mut [u32],
-) -> SolverAnswer
-    requires { ⌜ Placed solver t (slotAt (now pool) size index) × (0 < t .q) × (length (now share) ≡ t .m * t .p) × (t .m * t .k ≤ length (now out)) ⌝ }
-    ensures { λ r. ⌜ r ≡ record {
+fn finish(t: Terms, r: &[u32], share: &[u32], out: &mut [u32]) -> SolverAnswer
+    requires { ⌜ (0 < t .q) × (sidesFit system (t .m) (t .k) (t .p) ≡ true) × (length (now r) ≡ t .m * t .k)
+        × (length (now share) ≡ t .m * t .p) × (t .m * t .k ≤ length (now out)) ⌝ }
+    ensures { λ a. ⌜ a ≡ record {
       answer = Accepted 0;
       session = record { terms = t; due = 4; s = padded 16 (lastCols (t .m) (columns (t .m) (t .p)) (now (share .entry))) };
       head = record { kind = 3; terms = t };
     } ⌝ }
-    ensures { λ _. ⌜ now (out .exit) ≡ over (sendF (t .q) (t .m) (columns (t .m) (t .p))
-        (part 2 (matrices solver t (slotWords (slotAt (now (pool .entry)) size index)))) (now (share .entry))) (now (out .entry)) ⌝ }
+    ensures { λ _. ⌜ now (out .exit) ≡ over (sendF (t .q) (t .m) (columns (t .m) (t .p)) (now (r .entry)) (now (share .entry))) (now (out .entry)) ⌝ }
 {
-    let from = matrix_start(End::Solver, t, 2, pool, size, index);
-    let stop = matrix_start(End::Solver, t, 3, pool, size, index);
-    write_f(t, &pool[from..stop], share, out);
+    write_f(t, r, share, out);
     let s = last_column(t, share);
     SolverAnswer {
         answer: Answer::Accepted(0),
@@ -141,9 +117,12 @@ fn compute(
 {
     let t = s.terms;
     let n = times(t.m, t.p);
+    let y0 = matrix(End::Solver, t, 0, pool, size, index);
+    let b0 = matrix(End::Solver, t, 1, pool, size, index);
+    let r = matrix(End::Solver, t, 2, pool, size, index);
     let mut share = [0u32; 272];
-    find_share(pool, size, index, t, residues, &mut share);
-    finish(pool, size, index, t, &share[..n], out)
+    find_share(t, residues, y0, b0, &mut share);
+    finish(t, r, &share[..n], out)
 }
 
 // Step 3 (RULES 5.5): S = X1 × Y0 + R1 − B0, its last column s is kept, and F = R − S' is sent. The pool stays as it is.

@@ -7,15 +7,15 @@ use lib.Seq.{length-take-le}
 use Rattle.algebra.specs.Count.{join}
 use Rattle.algebra.specs.Words.{over}
 use Rattle.protocol.specs.Tape.{solver, slotAt}
-use Rattle.protocol.specs.Message.{messageWith, messageParts}
+use Rattle.protocol.specs.Message.{messageWith, messageParts, messageSize}
 use Rattle.protocol.specs.System.{solverSecondEffect}
+use Rattle.protocol.proofs.StepTests.{SolverFits}
 use Rattle.vectors.proofs.Written.{after-over, over-part}
-use Rattle.judging.proofs.Fits.{open-placed as placed}
+use Rattle.tape.specs.Placed.{Placed}
+use Rattle.judging.proofs.Fits.{open-placed}
 use Rattle.solver.specs.Formulas.{sentPart, shareOf}
 use Rattle.solver.proofs.Known.{few, second-known, second-counts}
-use Rattle.solver.proofs.Formulas.{share-length}
-use Rattle.protocol.proofs.StepTests.{SolverFits}
-use Rattle.protocol.specs.Message.{messageSize}
+use Rattle.solver.proofs.Formulas.{y0-size, b0-size, r-size, share-length}
 use borrow.Author.Needs.{needs}
 use Rattle.solver.proofs.second.compute.Statement.{statement}
 use Rattle.solver.proofs.second.compute.Tie as tie
@@ -28,57 +28,78 @@ known c =
     let a = c .args in
     second-known (a .s) (slotAt (a .pool .now) (a .size) (a .index)) (messageWith (a .a) (a .residues .now)) (length (a .out .now)) (c .pre)
 
+place : (c : tie.Start) → Placed solver (c .args .s .terms) (slotAt (c .args .pool .now) (c .args .size) (c .args .index))
+place c = open-placed solver (c .args .s .terms) (slotAt (c .args .pool .now) (c .args .size) (c .args .index)) (known c .later .session-open)
+
 times-requires : tie.Need-times-requires
 times-requires c κs = search needs
 
+matrix-requires : tie.Need-matrix-requires
+matrix-requires c κs = (place (c .before .before .before .before .before), omega arith)
+
+matrix-requires-2 : tie.Need-matrix-requires-2
+matrix-requires-2 c κs = (place (c .before .before .before .before .before .before), omega arith)
+
+matrix-requires-3 : tie.Need-matrix-requires-3
+matrix-requires-3 c κs = (place (c .before .before .before .before .before .before .before), omega arith)
+
 slice-aggregate-find-share : tie.Need-slice-aggregate-find-share
-slice-aggregate-find-share c = refl
+slice-aggregate-find-share c = search needs
 
 find-share-requires : tie.Need-find-share-requires
 find-share-requires c κs =
-    let a = c .before .before .before .before .before .before .args in
+    let start = c .before .before .before .before .before .before .before .before .before in
+    let a = start .args in
     let t = a .s .terms in
     let s = slotAt (a .pool .now) (a .size) (a .index) in
-    let k = known (c .before .before .before .before .before .before) in
+    let k = known start in
     let o = k .later .session-open in
-    let n = second-counts (a .s) s (messageWith (a .a) (a .residues .now)) (length (a .out .now)) k in
-    (placed solver t s o, omega (arith, o .terms .big), omega (arith, o .terms .small), n .0, omega (arith, few t (o .terms .sides) .mp))
+    let n = second-counts (a .s) s (messageWith (a .a) (a .residues .now)) (length (a .out .now)) k in (
+      omega (arith, o .terms .big),
+      omega (arith, o .terms .small),
+      o .terms .sides,
+      n .0,
+      ap length (c .before .before .before .matrix .ensures) ∙ y0-size t s (place start),
+      ap length (c .before .before .matrix2 .ensures) ∙ b0-size t s (place start),
+      omega (arith, few t (o .terms .sides) .mp),
+    )
 
 array-share-prefix-share : tie.Need-array-share-prefix-share
 array-share-prefix-share c =
-    let a = c .before .before .before .before .before .before .before .before .args in
+    let at = c .before .before .before .before .before .before in
+    let start = at .before .before .before .before .before in
+    let a = start .args in
     let t = a .s .terms in
-    let s = slotAt (a .pool .now) (a .size) (a .index) in
-    let k = known (c .before .before .before .before .before .before .before .before) in
-    let f = few t (k .later .session-open .terms .sides) in
-    let l = share-length t s (a .residues .now) (f .whole) in
-    let z = after-over (shareOf t s (a .residues .now)) _ (c .before .find-share .ensures) (omega (arith, l, f .mp)) in
-    omega (arith, z, f .mp, c .before .before .before .times .ensures)
+    let f = few t (known start .later .session-open .terms .sides) in
+    let l = share-length t (c .before .before .before .before .before .matrix .result .now) (c .before .before .before .before .matrix2 .result .now) (a .residues .now) (f .whole) in
+    let z = after-over (shareOf t _ _ (a .residues .now)) _ (c .before .find-share .ensures) (omega (arith, l, f .mp)) in
+    omega (arith, z, f .mp, at .times .ensures)
 
 slice-aggregate-finish : tie.Need-slice-aggregate-finish
 slice-aggregate-finish c =
-    let a = c .before .before .before .before .before .before .before .before .before .args in
+    let at = c .before .before .before .before .before .before .before in
+    let start = at .before .before .before .before .before in
+    let a = start .args in
     let t = a .s .terms in
-    let s = slotAt (a .pool .now) (a .size) (a .index) in
-    let k = known (c .before .before .before .before .before .before .before .before .before) in
-    let f = few t (k .later .session-open .terms .sides) in
-    let l = share-length t s (a .residues .now) (f .whole) in
-    let z = after-over (shareOf t s (a .residues .now)) _ (c .before .before .find-share .ensures) (omega (arith, l, f .mp)) in
-    sym (length-take-le _ _ (omega (arith, z, f .mp, c .before .before .before .before .times .ensures)))
+    let f = few t (known start .later .session-open .terms .sides) in
+    let l = share-length t (c .before .before .before .before .before .before .matrix .result .now) (c .before .before .before .before .before .matrix2 .result .now) (a .residues .now) (f .whole) in
+    let z = after-over (shareOf t _ _ (a .residues .now)) _ (c .before .before .find-share .ensures) (omega (arith, l, f .mp)) in
+    sym (length-take-le _ _ (omega (arith, z, f .mp, at .times .ensures)))
 
 finish-requires : tie.Need-finish-requires
 finish-requires c κs =
-    let find-share = c .before .before .before .find-share in
-    let a = c .before .before .before .before .before .before .before .before .before .before .args in
+    let at = c .before .before .before .before .before .before .before .before in
+    let start = at .before .before .before .before .before in
+    let a = start .args in
     let t = a .s .terms in
     let s = slotAt (a .pool .now) (a .size) (a .index) in
-    let k = known (c .before .before .before .before .before .before .before .before .before .before) in
+    let k = known start in
     let o = k .later .session-open in
-    let l = share-length t s (a .residues .now) (few t (o .terms .sides) .whole) in
-    let times = c .before .before .before .before .before .times in
-    let e = over-part (times .result) (shareOf t s (a .residues .now)) _ (find-share .ensures) (l ∙ sym (times .ensures)) in
+    let l = share-length t _ _ (a .residues .now) (few t (o .terms .sides) .whole) in
+    let e = over-part (at .times .result) (shareOf t _ _ (a .residues .now)) _ (c .before .before .before .find-share .ensures) (l ∙ sym (at .times .ensures)) in
     let n = second-counts (a .s) s (messageWith (a .a) (a .residues .now)) (length (a .out .now)) k in
-    (placed solver t s o, omega (arith, o .terms .big), ap length e ∙ l, n .1)
+    let r = ap length (c .before .before .before .before .before .matrix3 .ensures) ∙ r-size t s (place start) in
+    (omega (arith, o .terms .big), o .terms .sides, r, ap length e ∙ l, n .1)
 
 same-length : tie.Need-same-length
 same-length c = search needs
@@ -86,21 +107,24 @@ same-length c = search needs
 returns : tie.Need-returns
 unfolding solverSecondEffect shareOf sentPart messageParts join over
 returns c =
-    let find-share = c .before .before .before .before .before .before .find-share in
-    let a = c .before .before .before .before .before .before .before .before .before .before .before .before .before .args in
+    let at = c .before .before .before .before .before .before .before .before in
+    let times = at .before .before .before .times in
+    let start = at .before .before .before .before .before .before .before .before in
+    let a = start .args in
     let t = a .s .terms in
-    let s = slotAt (a .pool .now) (a .size) (a .index) in
-    let k = known (c .before .before .before .before .before .before .before .before .before .before .before .before .before) in
-    let l = share-length t s (a .residues .now) (few t (k .later .session-open .terms .sides) .whole) in
-    let times = c .before .before .before .before .before .before .before .before .times in
-    let e = over-part (times .result) (shareOf t s (a .residues .now)) _ (find-share .ensures) (l ∙ sym (times .ensures)) in
-    rw (c .before .before .finish .ensures .0, c .before .before .finish .ensures .1, e) (simp append-nil)
+    let l = share-length t _ _ (a .residues .now) (few t (known start .later .session-open .terms .sides) .whole) in
+    let e = over-part (times .result) (shareOf t _ _ (a .residues .now)) _ (c .before .before .before .before .before .before .find-share .ensures) (l ∙ sym (times .ensures)) in
+    let share = rw (at .before .matrix2 .ensures, at .before .before .matrix .ensures) at e in
+    rw (c .before .before .finish .ensures .0, c .before .before .finish .ensures .1, share, at .matrix3 .ensures) (simp append-nil)
 
 pub compute-spec : {M : Type 1} → statement M
 compute-spec =
     tie.close
     (tie.spec
     times-requires
+    matrix-requires
+    matrix-requires-2
+    matrix-requires-3
     slice-aggregate-find-share
     find-share-requires
     array-share-prefix-share

@@ -1,76 +1,64 @@
 -- `solver::second::find_share` meets its contract. Assumes nothing.
-use mathlib.Core.Path.{ap, _∙_}
+use mathlib.Core.Path.{refl, sym}
 use native.Mathlib.Omega.{arith}
-use lib.ListN.{length}
-use Rattle.algebra.specs.Count.{part}
-use Rattle.protocol.specs.Tape.{solver, slotAt, slotWords, matrices}
-use Rattle.tape.proofs.Matrices.{Stands, matrix-stands}
+use lib.ListN.{length-take, length-drop}
+use lib.Seq.{length-take-le}
+use Rattle.protocol.specs.Bounds.{columns}
 use Rattle.solver.specs.Formulas.{shareOf}
-use Rattle.solver.proofs.Formulas.{y0-size, b0-size}
+use Rattle.solver.proofs.Known.{few}
+use Rattle.solver.proofs.Formulas.{x1-part, r1-part, share-found}
 use borrow.Author.Needs.{needs}
 use Rattle.solver.proofs.second.find_share.Statement.{statement}
 use Rattle.solver.proofs.second.find_share.Tie as tie
 
-y0 : (c : tie.After-matrix-start3) →
-    let a = c .before .before .before .before .before .before .args in
-    Stands (c .before .before .matrix-start .result) (c .before .matrix-start2 .result) (a .pool .now)
-    (part 0 (matrices solver (a .t) (slotWords (slotAt (a .pool .now) (a .size) (a .index)))))
-y0 c =
-    let a = c .before .before .before .before .before .before .args in
-    matrix-stands solver (a .t) 0 (a .pool .now) (a .size) (a .index) (c .before .before .before .before .before .before .pre .0)
-    (c .before .before .matrix-start .ensures) (c .before .matrix-start2 .ensures)
+times-requires : tie.Need-times-requires
+times-requires c κs = search needs
 
-b0 : (c : tie.After-matrix-start3) →
-    let a = c .before .before .before .before .before .before .args in
-    Stands (c .before .matrix-start2 .result) (c .matrix-start3 .result) (a .pool .now)
-    (part 1 (matrices solver (a .t) (slotWords (slotAt (a .pool .now) (a .size) (a .index)))))
-b0 c =
-    let a = c .before .before .before .before .before .before .args in
-    matrix-stands solver (a .t) 1 (a .pool .now) (a .size) (a .index) (c .before .before .before .before .before .before .pre .0)
-    (c .before .matrix-start2 .ensures) (c .matrix-start3 .ensures)
+cast-write-share : tie.Need-cast-write-share
+cast-write-share c = search needs
 
-matrix-start-requires : tie.Need-matrix-start-requires
-matrix-start-requires c κs = (c .before .before .before .pre .0, omega arith)
+cast-write-share-2 : tie.Need-cast-write-share-2
+cast-write-share-2 c = search needs
 
-matrix-start-requires-2 : tie.Need-matrix-start-requires-2
-matrix-start-requires-2 c κs = (c .before .before .before .before .pre .0, omega arith)
+cast-write-share-3 : tie.Need-cast-write-share-3
+cast-write-share-3 c = search needs
 
-matrix-start-requires-3 : tie.Need-matrix-start-requires-3
-matrix-start-requires-3 c κs = (c .before .before .before .before .before .pre .0, omega arith)
+slice-aggregate-write-share : tie.Need-slice-aggregate-write-share
+slice-aggregate-write-share c =
+    let times = c .before .before .before .before .times in
+    let pre = c .before .before .before .before .before .before .before .before .before .pre in
+    sym (length-take-le _ _ (omega (arith, times .ensures, pre .3)))
 
-mul-join-share : tie.Need-mul-join-share
-mul-join-share c = let m = y0 c in search needs
+mul-write-share : tie.Need-mul-write-share
+mul-write-share c = search needs
 
-sub-join-share : tie.Need-sub-join-share
-sub-join-share c = let m = y0 c in search needs
+sub-write-share : tie.Need-sub-write-share
+sub-write-share c = search needs
 
-part-join-share-start : tie.Need-part-join-share-start
-part-join-share-start c = let m = y0 c in search needs
+part-write-share-start : tie.Need-part-write-share-start
+part-write-share-start c = search needs
 
-part-join-share-end : tie.Need-part-join-share-end
-part-join-share-end c = let m = y0 c in search needs
+part-write-share-end : tie.Need-part-write-share-end
+part-write-share-end c = search needs
 
-mul-join-share-2 : tie.Need-mul-join-share-2
-mul-join-share-2 c = let m = b0 (c .before) in search needs
-
-sub-join-share-2 : tie.Need-sub-join-share-2
-sub-join-share-2 c = let m = b0 (c .before) in search needs
-
-part-join-share-start-2 : tie.Need-part-join-share-start-2
-part-join-share-start-2 c = let m = b0 (c .before) in search needs
-
-part-join-share-end-2 : tie.Need-part-join-share-end-2
-part-join-share-end-2 c = let m = b0 (c .before) in search needs
-
-join-share-requires : tie.Need-join-share-requires
-join-share-requires c κs =
-    let a = c .before .before .before .before .before .before .before .before .before .args in
-    let h = c .before .before .before .before .before .before .before .before .before .pre in
-    let s = slotAt (a .pool .now) (a .size) (a .index) in
-    let told = c .before .before .before in
-    let full-y0 = ap length (y0 told .is) ∙ y0-size (a .t) s (h .0) in
-    let full-b0 = ap length (b0 told .is) ∙ b0-size (a .t) s (h .0) in
-    (h .1, h .2, h .0 .sides, h .3, full-y0, full-b0, h .4)
+write-share-requires : tie.Need-write-share-requires
+write-share-requires c κs =
+    let h = c .before .before .before .before .before .before .before .before .before .before .before .pre in
+    let n = c .before .before .before .before .before .before .times .ensures in
+    let f = few (c .before .before .before .before .before .before .before .before .before .before .before .args .t) (h .2) in (
+      record {
+        some-q = h .0;
+        small-q = h .1;
+        some-p = omega (arith, f .least, f .some);
+        few-k = omega (arith, f .square, f .few);
+        few-y = omega (arith, f .kp-is, f .mp);
+        full-x = simp length-take (omega (arith, n, h .3));
+        full-y = omega (arith, h .4);
+        room = h .6;
+      },
+      simp (length-take, length-drop) (omega (arith, n, h .3)),
+      omega (arith, h .5),
+    )
 
 same-length : tie.Need-same-length
 same-length c = search needs
@@ -78,24 +66,30 @@ same-length c = search needs
 returns : tie.Need-returns
 unfolding shareOf
 returns c =
-    let told = c .before .before .before .before .before .before in
-    rw (y0 told .is, b0 told .is) at (c .before .before .join-share .ensures)
+    let far = c .before .before .before .before .before .before .before .before .before .before in
+    let write-share = c .before .before .write-share in
+    let a = far .before .before .before .before .args in
+    let h = far .before .before .before .before .pre in
+    let f = few (a .t) (h .2) in
+    let times = c .before .before .before .before .before .before .before .before .before .times in
+    let x1 = x1-part (a .t) (a .residues .now) (times .result) (times .ensures) in
+    let r1 = r1-part (a .t) (a .residues .now) (times .result) (times .ensures) (h .3) in
+    share-found (a .t .q) (a .t .m) (a .t .k) (a .t .p) (columns (a .t .m) (a .t .p)) _ (a .y0 .now) _ (a .b0 .now) (a .out .now) (write-share .ensures)
+    x1 refl r1 refl (f .square) (f .whole)
 
 pub find-share-spec : {M : Type 1} → statement M
 find-share-spec =
     tie.close
     (tie.spec
-    matrix-start-requires
-    matrix-start-requires-2
-    matrix-start-requires-3
-    mul-join-share
-    sub-join-share
-    part-join-share-start
-    part-join-share-end
-    mul-join-share-2
-    sub-join-share-2
-    part-join-share-start-2
-    part-join-share-end-2
-    join-share-requires
+    times-requires
+    cast-write-share
+    cast-write-share-2
+    cast-write-share-3
+    slice-aggregate-write-share
+    mul-write-share
+    sub-write-share
+    part-write-share-start
+    part-write-share-end
+    write-share-requires
     same-length
     returns)
