@@ -10,32 +10,30 @@ use protocol::Head;
 use protocol::Refusal;
 use protocol::Terms;
 use tape::End;
+use tape::Place;
+use tape::slot;
 use vectors::all_below;
 ghost use mathlib.Core.Path.{_≡_};
-ghost use Rattle.protocol.specs.Tape.{slotAt, slotWords, tapeTests, bodyTests};
+ghost use Rattle.protocol.specs.Tape.{slotWords, tapeTests, bodyTests};
 ghost use Rattle.tape.specs.Ends.{role};
-ghost use Rattle.tape.specs.Placed.{Placed};
+ghost use Rattle.tape.specs.Placed.{slotIn, Placed};
 ghost use Rattle.judging.specs.InOrder.{checked, judged};
 ghost use Rattle.judging.specs.Received.{sentTests, receivedWords};
 
 // The status, and the numbers of the tape.
-pub fn check_tape(end: End, status: u32, t: Terms, pool: &[u32], size: usize, index: usize) -> Check
-    requires { ⌜ Placed (role end) t (slotAt (now pool) size index) ⌝ }
-    ensures { λ r. ⌜ checked r ≡ judged (tapeTests (role end) status t (slotWords (slotAt (now (pool .entry)) size index))) ⌝ }
+pub fn check_tape(end: End, status: u32, t: Terms, pool: &[u32], at: Place) -> Check
+    requires { ⌜ Placed (role end) t (slotIn (now pool) at) ⌝ }
+    ensures { λ r. ⌜ checked r ≡ judged (tapeTests (role end) status t (slotWords (slotIn (now (pool .entry)) at))) ⌝ }
 {
-    let at = index * size;
-    let stop = at + size;
-    half::check_tape(end, status, t, &pool[at..stop])
+    half::check_tape(end, status, t, slot(pool, at))
 }
 
 // The matrices hold residues.
-pub fn check_body(end: End, t: Terms, pool: &[u32], size: usize, index: usize) -> Check
-    requires { ⌜ Placed (role end) t (slotAt (now pool) size index) ⌝ }
-    ensures { λ r. ⌜ checked r ≡ judged (bodyTests (role end) t (slotWords (slotAt (now (pool .entry)) size index))) ⌝ }
+pub fn check_body(end: End, t: Terms, pool: &[u32], at: Place) -> Check
+    requires { ⌜ Placed (role end) t (slotIn (now pool) at) ⌝ }
+    ensures { λ r. ⌜ checked r ≡ judged (bodyTests (role end) t (slotWords (slotIn (now (pool .entry)) at))) ⌝ }
 {
-    let at = index * size;
-    let stop = at + size;
-    half::check_body(end, t, &pool[at..stop])
+    half::check_body(end, t, slot(pool, at))
 }
 
 // The message's numbers are the session's, and it holds residues.
@@ -56,14 +54,13 @@ pub fn check_arrived(
     a: Head,
     residues: &[u32],
     pool: &[u32],
-    size: usize,
-    index: usize,
+    at: Place,
 ) -> Check
-    requires { ⌜ Placed (role end) t (slotAt (now pool) size index) ⌝ }
-    ensures { λ r. ⌜ checked r ≡ judged (receivedWords (role end) status t a (slotWords (slotAt (now (pool .entry)) size index)) (now (residues .entry))) ⌝ }
+    requires { ⌜ Placed (role end) t (slotIn (now pool) at) ⌝ }
+    ensures { λ r. ⌜ checked r ≡ judged (receivedWords (role end) status t a (slotWords (slotIn (now (pool .entry)) at)) (now (residues .entry))) ⌝ }
 {
-    let tape = check_tape(end, status, t, pool, size, index);
+    let tape = check_tape(end, status, t, pool, at);
     let sent = check_sent(t, a, residues);
-    let body = check_body(end, t, pool, size, index);
+    let body = check_body(end, t, pool, at);
     worst(tape, worst(sent, body))
 }

@@ -14,6 +14,7 @@ use protocol::Refusal;
 use protocol::Terms;
 use sides::Matrix;
 use tape::End;
+use tape::Place;
 use tape::half::half_size;
 use tape::is_slot;
 ghost use mathlib.Core.Path.{_≡_};
@@ -114,15 +115,15 @@ fn check_ids(t: Terms, fits: bool) -> Check
 }
 
 // A session's numbers, its sides, and the slot with its half.
-pub fn check_sizes(end: End, t: Terms, pool: usize, size: usize, index: usize) -> Check
-    ensures { λ r. ⌜ checked r ≡ judged (numberTests (sort end) t ++ placeTests (role end) t pool size index) ⌝ }
+pub fn check_sizes(end: End, t: Terms, pool: usize, at: Place) -> Check
+    ensures { λ r. ⌜ checked r ≡ judged (numberTests (sort end) t ++ placeTests (role end) t pool (at .size) (at .index)) ⌝ }
 {
     let numbers = check_ids(t, sides_fit(end, t.m, t.k, t.p));
     let Check::Passed = numbers else {
         return numbers;
     };
-    let slot = need(Refusal::Size, is_slot(pool, size, index));
-    let half = need(Refusal::Size, half_size(end, t) <= size);
+    let slot = need(Refusal::Size, is_slot(pool, at));
+    let half = need(Refusal::Size, half_size(end, t) <= at.size);
     worst(slot, half)
 }
 

@@ -15,6 +15,7 @@ use protocol::Head;
 use protocol::Refusal;
 use protocol::Terms;
 use tape::End;
+use tape::Place;
 use tape::is_slot;
 ghost use mathlib.Core.Path.{_≡_};
 ghost use Prim.Native.Nat.{_<_};
@@ -24,30 +25,22 @@ ghost use Rattle.judging.specs.InOrder.{checked, judged};
 ghost use Rattle.judging.specs.Received.{receivedNumbers, closedTests};
 
 // Of the message's residues and of the pool's words it is told how many there are.
-pub fn check_numbers(
-    end: End,
-    t: Terms,
-    a: Head,
-    count: usize,
-    pool: usize,
-    size: usize,
-    index: usize,
-) -> Check
-    ensures { λ r. ⌜ checked r ≡ judged (receivedNumbers (role end) t a count pool size index) ⌝ }
+pub fn check_numbers(end: End, t: Terms, a: Head, count: usize, pool: usize, at: Place) -> Check
+    ensures { λ r. ⌜ checked r ≡ judged (receivedNumbers (role end) t a count pool (at .size) (at .index)) ⌝ }
 {
     let moduli = check_moduli(a, end, t.q);
     let head = check_head(a, count);
-    let sizes = check_sizes(end, t, pool, size, index);
+    let sizes = check_sizes(end, t, pool, at);
     worst(moduli, worst(head, sizes))
 }
 
 // A closed session: its own numbers aren't judged, and no step is due.
-pub fn check_closed(a: Head, count: usize, pool: usize, size: usize, index: usize) -> Check
-    ensures { λ r. ⌜ checked r ≡ judged (closedTests a count pool size index) ⌝ }
+pub fn check_closed(a: Head, count: usize, pool: usize, at: Place) -> Check
+    ensures { λ r. ⌜ checked r ≡ judged (closedTests a count pool (at .size) (at .index)) ⌝ }
 {
     let kind = check_kind(a);
     let head = check_head(a, count);
-    let slot = need(Refusal::Size, is_slot(pool, size, index));
+    let slot = need(Refusal::Size, is_slot(pool, at));
     let turn = need(Refusal::Turn, false);
     worst(kind, worst(head, worst(slot, turn)))
 }

@@ -18,6 +18,7 @@ use protocol::Head;
 use protocol::Refusal;
 use protocol::Terms;
 use tape::End;
+use tape::Place;
 use tape::header::IN_USE;
 use tape::header::READY;
 use tape::is_slot;
@@ -28,12 +29,12 @@ ghost use Rattle.protocol.specs.declared.Refusal.the-variants.{Size};
 ghost use Rattle.protocol.specs.Judge.{needs, given};
 ghost use lib.ListN.{length};
 ghost use Rattle.protocol.specs.Bounds.{inputTests};
-ghost use Rattle.protocol.specs.Tape.{slotAt, slotWords, tapeTests, bodyTests};
+ghost use Rattle.protocol.specs.Tape.{slotWords, tapeTests, bodyTests};
 ghost use Rattle.protocol.specs.Message.{messageWith, messageTests, dueTests};
 ghost use Rattle.protocol.specs.Step.{firstTests, isOpen, openTests, laterTests};
 ghost use Rattle.protocol.specs.Tape.{READY};
 ghost use Rattle.tape.specs.Ends.{role};
-ghost use Rattle.tape.specs.Placed.{Placed};
+ghost use Rattle.tape.specs.Placed.{slotIn, Placed};
 ghost use Rattle.judging.specs.InOrder.{checked, judged};
 ghost use Rattle.judging.specs.Groups.{openNumbers, noneDue};
 ghost use Rattle.judging.specs.Received.{firstReceived, laterReceived};
@@ -41,54 +42,54 @@ ghost use Rattle.judging.specs.Received.{firstReceived, laterReceived};
 // ---- without a message
 
 // The numbers of a session, and its slot's.
-fn check_numbers(end: End, t: Terms, pool: usize, size: usize, index: usize) -> Check
-    ensures { λ r. ⌜ checked r ≡ judged (openNumbers (role end) t pool size index) ⌝ }
+fn check_numbers(end: End, t: Terms, pool: usize, at: Place) -> Check
+    ensures { λ r. ⌜ checked r ≡ judged (openNumbers (role end) t pool (at .size) (at .index)) ⌝ }
 {
     let modulus = check_modulus(end, t.q);
-    let sizes = check_sizes(end, t, pool, size, index);
+    let sizes = check_sizes(end, t, pool, at);
     worst(modulus, sizes)
 }
 
 // The words of a half that is ready.
-fn check_ready(end: End, t: Terms, pool: &[u32], size: usize, index: usize) -> Check
-    requires { ⌜ Placed (role end) t (slotAt (now pool) size index) ⌝ }
-    ensures { λ r. ⌜ checked r ≡ judged (tapeTests (role end) READY t (slotWords (slotAt (now (pool .entry)) size index)) ++ bodyTests (role end) t (slotWords (slotAt (now (pool .entry)) size index))) ⌝ }
+fn check_ready(end: End, t: Terms, pool: &[u32], at: Place) -> Check
+    requires { ⌜ Placed (role end) t (slotIn (now pool) at) ⌝ }
+    ensures { λ r. ⌜ checked r ≡ judged (tapeTests (role end) READY t (slotWords (slotIn (now (pool .entry)) at)) ++ bodyTests (role end) t (slotWords (slotIn (now (pool .entry)) at))) ⌝ }
 {
-    let tape = check_tape(end, READY, t, pool, size, index);
-    let body = check_body(end, t, pool, size, index);
+    let tape = check_tape(end, READY, t, pool, at);
+    let body = check_body(end, t, pool, at);
     worst(tape, body)
 }
 
-pub fn check_first(end: End, t: Terms, pool: &[u32], size: usize, index: usize) -> Check
-    ensures { λ r. ⌜ checked r ≡ judged (firstTests (role end) t (slotAt (now (pool .entry)) size index)) ⌝ }
+pub fn check_first(end: End, t: Terms, pool: &[u32], at: Place) -> Check
+    ensures { λ r. ⌜ checked r ≡ judged (firstTests (role end) t (slotIn (now (pool .entry)) at)) ⌝ }
 {
-    let numbers = check_numbers(end, t, pool.len(), size, index);
+    let numbers = check_numbers(end, t, pool.len(), at);
     let Check::Passed = numbers else {
         return numbers;
     };
-    check_ready(end, t, pool, size, index)
+    check_ready(end, t, pool, at)
 }
 
 // Nothing is due: of the session's own numbers none is judged.
-fn check_none_due(pool: usize, size: usize, index: usize) -> Check
-    ensures { λ r. ⌜ checked r ≡ judged (noneDue pool size index) ⌝ }
+fn check_none_due(pool: usize, at: Place) -> Check
+    ensures { λ r. ⌜ checked r ≡ judged (noneDue pool (at .size) (at .index)) ⌝ }
 {
-    let slot = need(Refusal::Size, is_slot(pool, size, index));
+    let slot = need(Refusal::Size, is_slot(pool, at));
     let due = need(Refusal::Turn, false);
     worst(slot, due)
 }
 
-pub fn check_open(end: End, due: u32, t: Terms, pool: &[u32], size: usize, index: usize) -> Check
-    ensures { λ r. ⌜ checked r ≡ judged (openTests (role end) due t (slotAt (now (pool .entry)) size index)) ⌝ }
+pub fn check_open(end: End, due: u32, t: Terms, pool: &[u32], at: Place) -> Check
+    ensures { λ r. ⌜ checked r ≡ judged (openTests (role end) due t (slotIn (now (pool .entry)) at)) ⌝ }
 {
     if due == 0 {
-        return check_none_due(pool.len(), size, index);
+        return check_none_due(pool.len(), at);
     }
-    let numbers = check_numbers(end, t, pool.len(), size, index);
+    let numbers = check_numbers(end, t, pool.len(), at);
     let Check::Passed = numbers else {
         return numbers;
     };
-    check_tape(end, IN_USE, t, pool, size, index)
+    check_tape(end, IN_USE, t, pool, at)
 }
 
 // ---- with a message
@@ -101,12 +102,11 @@ fn check_first_numbers(
     a: Head,
     count: usize,
     pool: usize,
-    size: usize,
-    index: usize,
+    at: Place,
 ) -> Check
-    ensures { λ r. ⌜ checked r ≡ judged (firstReceived (role end) kind t a count pool size index) ⌝ }
+    ensures { λ r. ⌜ checked r ≡ judged (firstReceived (role end) kind t a count pool (at .size) (at .index)) ⌝ }
 {
-    let numbers = received::check_numbers(end, t, a, count, pool, size, index);
+    let numbers = received::check_numbers(end, t, a, count, pool, at);
     let due = need(Refusal::Turn, a.kind == kind);
     worst(numbers, due)
 }
@@ -118,16 +118,15 @@ pub fn check_first_received(
     a: Head,
     residues: &[u32],
     pool: &[u32],
-    size: usize,
-    index: usize,
+    at: Place,
 ) -> Check
-    ensures { λ r. ⌜ checked r ≡ judged (messageTests (messageWith a (now (residues .entry))) ++ (firstTests (role end) t (slotAt (now (pool .entry)) size index) ++ dueTests kind t (messageWith a (now (residues .entry))))) ⌝ }
+    ensures { λ r. ⌜ checked r ≡ judged (messageTests (messageWith a (now (residues .entry))) ++ (firstTests (role end) t (slotIn (now (pool .entry)) at) ++ dueTests kind t (messageWith a (now (residues .entry))))) ⌝ }
 {
-    let numbers = check_first_numbers(end, kind, t, a, residues.len(), pool.len(), size, index);
+    let numbers = check_first_numbers(end, kind, t, a, residues.len(), pool.len(), at);
     let Check::Passed = numbers else {
         return numbers;
     };
-    check_arrived(end, READY, t, a, residues, pool, size, index)
+    check_arrived(end, READY, t, a, residues, pool, at)
 }
 
 // The same of a later step, which has to be due itself.
@@ -139,12 +138,11 @@ fn check_later_numbers(
     a: Head,
     count: usize,
     pool: usize,
-    size: usize,
-    index: usize,
+    at: Place,
 ) -> Check
-    ensures { λ r. ⌜ checked r ≡ judged (laterReceived (role end) kind due t a count pool size index) ⌝ }
+    ensures { λ r. ⌜ checked r ≡ judged (laterReceived (role end) kind due t a count pool (at .size) (at .index)) ⌝ }
 {
-    let numbers = received::check_numbers(end, t, a, count, pool, size, index);
+    let numbers = received::check_numbers(end, t, a, count, pool, at);
     let step = need(Refusal::Turn, due == kind);
     let message = need(Refusal::Turn, a.kind == kind);
     worst(numbers, worst(step, message))
@@ -158,20 +156,19 @@ pub fn check_later(
     a: Head,
     residues: &[u32],
     pool: &[u32],
-    size: usize,
-    index: usize,
+    at: Place,
 ) -> Check
-    ensures { λ r. ⌜ checked r ≡ judged (messageTests (messageWith a (now (residues .entry))) ++ (laterTests (role end) kind due t (slotAt (now (pool .entry)) size index) ++ dueTests kind t (messageWith a (now (residues .entry))))) ⌝ }
+    ensures { λ r. ⌜ checked r ≡ judged (messageTests (messageWith a (now (residues .entry))) ++ (laterTests (role end) kind due t (slotIn (now (pool .entry)) at) ++ dueTests kind t (messageWith a (now (residues .entry))))) ⌝ }
 {
     let count = residues.len();
     if due == 0 {
-        return received::check_closed(a, count, pool.len(), size, index);
+        return received::check_closed(a, count, pool.len(), at);
     }
-    let numbers = check_later_numbers(end, kind, due, t, a, count, pool.len(), size, index);
+    let numbers = check_later_numbers(end, kind, due, t, a, count, pool.len(), at);
     let Check::Passed = numbers else {
         return numbers;
     };
-    check_arrived(end, IN_USE, t, a, residues, pool, size, index)
+    check_arrived(end, IN_USE, t, a, residues, pool, at)
 }
 
 // Room that an open session asks for.

@@ -61,7 +61,7 @@ answering t s x words a room share f e =
       mask = first-of (f .first .matrices-fit);
       full-y = f .message .residues .size ∙ sym (size-1 t);
       full-u = e;
-      full-a = matrix-length left t 1 (s .pool) (s .size) (s .index) p;
+      full-a = matrix-length left t 1 s p;
       room = omega (arith, f .message-room, size-2 t);
     }
 
@@ -76,8 +76,8 @@ sharing x s a share f =
       some-q = omega (arith, o .terms .big);
       small-q = omega (arith, o .terms .small);
       full = f .message .residues .size ∙ sym (size-2 (x .terms));
-      full-y = matrix-length right (x .terms) 0 (s .pool) (s .size) (s .index) p;
-      full-b = matrix-length right (x .terms) 1 (s .pool) (s .size) (s .index) p;
+      full-y = matrix-length right (x .terms) 0 s p;
+      full-b = matrix-length right (x .terms) 1 s p;
       room = f .share-room;
     }
 

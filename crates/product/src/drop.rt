@@ -5,6 +5,7 @@ use judging::step::check_open;
 use protocol::Answer;
 use protocol::RightSession;
 use tape::End;
+use tape::Place;
 use tape::change::spend_at;
 ghost use mathlib.Core.Path.{_≡_};
 ghost use mathlib.Core.List.{[]};
@@ -25,15 +26,16 @@ pub fn right_drop(pool: &mut [u32], size: usize, index: usize, s: RightSession) 
         (record { answer = answerReply (r .answer); session = r .session; head = noMessage .head; pool = now (pool .exit); scratch = []; sent = []; result = [] })
         (leaves s (slotAt (now (pool .entry)) size index) [] [] [] (dropRight s (slotAt (now (pool .entry)) size index))) ⌝ }
 {
+    let at = Place { size, index };
     let t = s.terms;
-    let checked = check_open(End::Right, s.due, t, pool, size, index);
+    let checked = check_open(End::Right, s.due, t, pool, at);
     let Check::Passed = checked else {
         return RightDropped {
             answer: answer_of(checked),
             session: s,
         };
     };
-    spend_at(End::Right, t, pool, size, index);
+    spend_at(End::Right, t, pool, at);
     RightDropped {
         answer: Answer::Accepted(0),
         session: RightSession { terms: t, due: 0 },

@@ -13,6 +13,7 @@ use protocol::Refusal;
 use protocol::RightSession;
 use protocol::Terms;
 use tape::End;
+use tape::Place;
 use tape::change::take_up_at;
 use tape::half::matrix;
 use vectors::subtract_residues;
@@ -27,6 +28,7 @@ ghost use Rattle.protocol.specs.Tape.{slotAt};
 ghost use Rattle.protocol.specs.Message.{messageSize};
 ghost use Rattle.protocol.specs.Product.{noRight, rightFirstEffect, rightFirstTests, rightFirst};
 ghost use Rattle.protocol.specs.Step.{answerReply};
+ghost use Rattle.tape.specs.Placed.{slotIn};
 ghost use Rattle.judging.specs.InOrder.{checked, judged};
 ghost use Rattle.judging.specs.Leaves.{Leaves, leaves, Computed, computed};
 
@@ -39,29 +41,22 @@ fn check_own(t: Terms, y: &[u32], room: usize) -> Check
     worst(input, sent)
 }
 
-fn check(pool: &[u32], size: usize, index: usize, t: Terms, y: &[u32], room: usize) -> Check
-    ensures { λ r. ⌜ checked r ≡ judged (rightFirstTests t (slotAt (now (pool .entry)) size index) (now (y .entry)) room) ⌝ }
+fn check(pool: &[u32], at: Place, t: Terms, y: &[u32], room: usize) -> Check
+    ensures { λ r. ⌜ checked r ≡ judged (rightFirstTests t (slotIn (now (pool .entry)) at) (now (y .entry)) room) ⌝ }
 {
-    let first = check_first(End::Right, t, pool, size, index);
+    let first = check_first(End::Right, t, pool, at);
     let own = check_own(t, y, room);
     worst(first, own)
 }
 
 // Y1 goes into `out`; the session waits for kind 2.
-fn compute(
-    pool: &[u32],
-    size: usize,
-    index: usize,
-    t: Terms,
-    y: &[u32],
-    out: &mut [u32],
-) -> RightAnswer
-    requires { ⌜ judged (rightFirstTests t (slotAt (now pool) size index) (now y) (length (now out))) ≡ done tt ⌝ }
+fn compute(pool: &[u32], at: Place, t: Terms, y: &[u32], out: &mut [u32]) -> RightAnswer
+    requires { ⌜ judged (rightFirstTests t (slotIn (now pool) at) (now y) (length (now out))) ≡ done tt ⌝ }
     ensures { λ r. ⌜ _≡_ {A = Computed RightSession}
         (record { answer = answerReply (r .answer); session = r .session; head = r .head; scratch = []; sent = now (out .exit); result = [] })
-        (computed [] (now (out .entry)) [] (rightFirstEffect t (slotAt (now (pool .entry)) size index) (now (y .entry)))) ⌝ }
+        (computed [] (now (out .entry)) [] (rightFirstEffect t (slotIn (now (pool .entry)) at) (now (y .entry)))) ⌝ }
 {
-    let y0 = matrix(End::Right, t, 0, pool, size, index);
+    let y0 = matrix(End::Right, t, 0, pool, at);
     subtract_residues(t.q, times(t.k, t.p), y, y0, out);
     RightAnswer {
         answer: Answer::Accepted(0),
@@ -84,11 +79,12 @@ pub fn right_first(
         (leaves noRight (slotAt (now (pool .entry)) size index) [] (now (out .entry)) []
         (rightFirst t (slotAt (now (pool .entry)) size index) (now (y .entry)) (length (now (out .entry))))) ⌝ }
 {
-    let checked = check(pool, size, index, t, y, out.len());
+    let at = Place { size, index };
+    let checked = check(pool, at, t, y, out.len());
     let Check::Passed = checked else {
         return refused(checked);
     };
-    let done = compute(pool, size, index, t, y, out);
-    take_up_at(End::Right, t, pool, size, index);
+    let done = compute(pool, at, t, y, out);
+    take_up_at(End::Right, t, pool, at);
     done
 }

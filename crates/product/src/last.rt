@@ -12,6 +12,7 @@ use protocol::Head;
 use protocol::RightSession;
 use protocol::Terms;
 use tape::End;
+use tape::Place;
 use tape::change::spend_at;
 use tape::half::matrix;
 use vectors::times;
@@ -25,23 +26,16 @@ ghost use Rattle.protocol.specs.Judge.{done};
 ghost use Rattle.protocol.specs.Tape.{slotAt};
 ghost use Rattle.protocol.specs.Product.{rightLastEffect, rightLastTests, rightLast};
 ghost use Rattle.protocol.specs.Step.{answerReply};
+ghost use Rattle.tape.specs.Placed.{slotIn};
 ghost use Rattle.judging.specs.InOrder.{checked, judged};
 ghost use Rattle.judging.specs.Leaves.{Leaves, leaves, Computed, computed};
 ghost use Rattle.product.specs.Shape.{Sharing};
 
-fn check(
-    pool: &[u32],
-    size: usize,
-    index: usize,
-    s: RightSession,
-    a: Head,
-    residues: &[u32],
-    share: usize,
-) -> Check
-    ensures { λ r. ⌜ checked r ≡ judged (rightLastTests s (slotAt (now (pool .entry)) size index) (record { head = a; residues = now (residues .entry) }) share) ⌝ }
+fn check(pool: &[u32], at: Place, s: RightSession, a: Head, residues: &[u32], share: usize) -> Check
+    ensures { λ r. ⌜ checked r ≡ judged (rightLastTests s (slotIn (now (pool .entry)) at) (record { head = a; residues = now (residues .entry) }) share) ⌝ }
 {
     let t = s.terms;
-    let later = check_later(End::Right, 2, s.due, t, a, residues, pool, size, index);
+    let later = check_later(End::Right, 2, s.due, t, a, residues, pool, at);
     let own = check_room(s.due, times(t.m, t.p) <= share);
     worst(later, own)
 }
@@ -69,21 +63,20 @@ fn write_own(t: Terms, residues: &[u32], y0: &[u32], b0: &[u32], share: &mut [u3
 // The share goes into its slice, and the session closes.
 fn compute(
     pool: &[u32],
-    size: usize,
-    index: usize,
+    at: Place,
     s: RightSession,
     a: Head,
     residues: &[u32],
     share: &mut [u32],
 ) -> RightAnswer
-    requires { ⌜ judged (rightLastTests s (slotAt (now pool) size index) (record { head = a; residues = now residues }) (length (now share))) ≡ done tt ⌝ }
+    requires { ⌜ judged (rightLastTests s (slotIn (now pool) at) (record { head = a; residues = now residues }) (length (now share))) ≡ done tt ⌝ }
     ensures { λ r. ⌜ _≡_ {A = Computed RightSession}
         (record { answer = answerReply (r .answer); session = r .session; head = r .head; scratch = []; sent = []; result = now (share .exit) })
-        (computed [] [] (now (share .entry)) (rightLastEffect s (slotAt (now (pool .entry)) size index) (record { head = a; residues = now (residues .entry) }))) ⌝ }
+        (computed [] [] (now (share .entry)) (rightLastEffect s (slotIn (now (pool .entry)) at) (record { head = a; residues = now (residues .entry) }))) ⌝ }
 {
     let t = s.terms;
-    let y0 = matrix(End::Right, t, 0, pool, size, index);
-    let b0 = matrix(End::Right, t, 1, pool, size, index);
+    let y0 = matrix(End::Right, t, 0, pool, at);
+    let b0 = matrix(End::Right, t, 1, pool, at);
     write_own(t, residues, y0, b0, share);
     RightAnswer {
         answer: Answer::Accepted(0),
@@ -107,7 +100,8 @@ pub fn right_last(
         (leaves s (slotAt (now (pool .entry)) size index) [] [] (now (share .entry))
         (rightLast s (slotAt (now (pool .entry)) size index) (record { head = a; residues = now (residues .entry) }) (length (now (share .entry))))) ⌝ }
 {
-    let checked = check(pool, size, index, s, a, residues, share.len());
+    let at = Place { size, index };
+    let checked = check(pool, at, s, a, residues, share.len());
     let Check::Passed = checked else {
         return RightAnswer {
             answer: answer_of(checked),
@@ -115,7 +109,7 @@ pub fn right_last(
             head: no_head(),
         };
     };
-    let done = compute(pool, size, index, s, a, residues, share);
-    spend_at(End::Right, s.terms, pool, size, index);
+    let done = compute(pool, at, s, a, residues, share);
+    spend_at(End::Right, s.terms, pool, at);
     done
 }

@@ -16,6 +16,7 @@ use protocol::Head;
 use protocol::Refusal;
 use protocol::Terms;
 use tape::End;
+use tape::Place;
 use tape::change::spend_at;
 use tape::half::matrix;
 use vectors::add_residues;
@@ -32,6 +33,7 @@ ghost use Rattle.protocol.specs.Tape.{slotAt};
 ghost use Rattle.protocol.specs.Message.{messageSize};
 ghost use Rattle.protocol.specs.Product.{leftEffect, leftTests, leftStep};
 ghost use Rattle.protocol.specs.Step.{answerReply};
+ghost use Rattle.tape.specs.Placed.{slotIn};
 ghost use Rattle.judging.specs.InOrder.{checked, judged};
 ghost use Rattle.judging.specs.Leaves.{Leaves, leaves, Computed, computed};
 ghost use Rattle.product.specs.Shape.{Answering};
@@ -48,8 +50,7 @@ fn check_own(t: Terms, x: &[u32], room: usize, share: usize) -> Check
 
 fn check(
     pool: &[u32],
-    size: usize,
-    index: usize,
+    at: Place,
     t: Terms,
     x: &[u32],
     words: &[u32],
@@ -58,9 +59,9 @@ fn check(
     room: usize,
     share: usize,
 ) -> Check
-    ensures { λ r. ⌜ checked r ≡ judged (leftTests t (slotAt (now (pool .entry)) size index) (now (x .entry)) (now (words .entry)) (record { head = a; residues = now (residues .entry) }) room share) ⌝ }
+    ensures { λ r. ⌜ checked r ≡ judged (leftTests t (slotIn (now (pool .entry)) at) (now (x .entry)) (now (words .entry)) (record { head = a; residues = now (residues .entry) }) room share) ⌝ }
 {
-    let first = check_first_received(End::Left, 1, t, a, residues, pool, size, index);
+    let first = check_first_received(End::Left, 1, t, a, residues, pool, at);
     let own = check_own(t, x, room, share);
     let both = worst(first, own);
     let Check::Passed = both else {
@@ -101,8 +102,7 @@ fn write_message(
 // U is drawn into the share; X1 and R1 go into `out`.
 fn compute(
     pool: &[u32],
-    size: usize,
-    index: usize,
+    at: Place,
     t: Terms,
     x: &[u32],
     words: &[u32],
@@ -111,14 +111,14 @@ fn compute(
     out: &mut [u32],
     share: &mut [u32],
 ) -> LeftAnswer
-    requires { ⌜ judged (leftTests t (slotAt (now pool) size index) (now x) (now words) (record { head = a; residues = now residues }) (length (now out)) (length (now share))) ≡ done tt ⌝ }
+    requires { ⌜ judged (leftTests t (slotIn (now pool) at) (now x) (now words) (record { head = a; residues = now residues }) (length (now out)) (length (now share))) ≡ done tt ⌝ }
     ensures { λ r. ⌜ _≡_ {A = Computed Unit}
         (record { answer = answerReply (r .answer); session = tt; head = r .head; scratch = []; sent = now (out .exit); result = now (share .exit) })
         (computed [] (now (out .entry)) (now (share .entry))
-        (leftEffect t (slotAt (now (pool .entry)) size index) (now (x .entry)) (now (words .entry)) (record { head = a; residues = now (residues .entry) }))) ⌝ }
+        (leftEffect t (slotIn (now (pool .entry)) at) (now (x .entry)) (now (words .entry)) (record { head = a; residues = now (residues .entry) }))) ⌝ }
 {
-    let x0 = matrix(End::Left, t, 0, pool, size, index);
-    let a0 = matrix(End::Left, t, 1, pool, size, index);
+    let x0 = matrix(End::Left, t, 0, pool, at);
+    let a0 = matrix(End::Left, t, 1, pool, at);
     let mp = times(t.m, t.p);
     let count = draw(t.q, mp, words, share);
     write_message(t, x, residues, &share[..mp], x0, a0, out);
@@ -147,16 +147,17 @@ pub fn left_step(
         (leftStep t (slotAt (now (pool .entry)) size index) (now (x .entry)) (now (words .entry)) (record { head = a; residues = now (residues .entry) })
         (length (now (out .entry))) (length (now (share .entry))))) ⌝ }
 {
+    let at = Place { size, index };
     let room = out.len();
     let given = share.len();
-    let checked = check(pool, size, index, t, x, words, a, residues, room, given);
+    let checked = check(pool, at, t, x, words, a, residues, room, given);
     let Check::Passed = checked else {
         return LeftAnswer {
             answer: answer_of(checked),
             head: no_head(),
         };
     };
-    let done = compute(pool, size, index, t, x, words, a, residues, out, share);
-    spend_at(End::Left, t, pool, size, index);
+    let done = compute(pool, at, t, x, words, a, residues, out, share);
+    spend_at(End::Left, t, pool, at);
     done
 }

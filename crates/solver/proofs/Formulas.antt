@@ -35,16 +35,16 @@ use Rattle.solver.specs.Formulas.{sentPart, shareOf, sumOf, sideOf, last
 
 module _ (t : Terms) (s : Slot) (p : Placed solver t s) where
   pub y0-size : length (part 0 (matrices solver t (slotWords s))) ≡ t .k * t .p
-  y0-size = matrix-length solver t 0 (s .pool) (s .size) (s .index) p
+  y0-size = matrix-length solver t 0 s p
 
   pub b0-size : length (part 1 (matrices solver t (slotWords s))) ≡ t .m * t .p
-  b0-size = matrix-length solver t 1 (s .pool) (s .size) (s .index) p
+  b0-size = matrix-length solver t 1 s p
 
   pub r-size : length (part 2 (matrices solver t (slotWords s))) ≡ t .m * t .k
-  r-size = matrix-length solver t 2 (s .pool) (s .size) (s .index) p
+  r-size = matrix-length solver t 2 s p
 
   pub v-size : length (part 3 (matrices solver t (slotWords s))) ≡ t .m * t .k
-  v-size = matrix-length solver t 3 (s .pool) (s .size) (s .index) p
+  v-size = matrix-length solver t 3 s p
 
 -- ---- step 1
 

@@ -7,6 +7,7 @@ use judging::step::check_open;
 use protocol::Answer;
 use protocol::SolverSession;
 use tape::End;
+use tape::Place;
 use tape::change::spend_at;
 ghost use mathlib.Core.Path.{_≡_};
 ghost use mathlib.Core.List.{[]};
@@ -21,15 +22,16 @@ pub fn solver_drop(pool: &mut [u32], size: usize, index: usize, s: SolverSession
         (record { answer = answerReply (r .answer); session = r .session; head = noMessage .head; pool = now (pool .exit); scratch = []; sent = []; result = [] })
         (leaves s (slotAt (now (pool .entry)) size index) [] [] [] (dropSolver s (slotAt (now (pool .entry)) size index))) ⌝ }
 {
+    let at = Place { size, index };
     let t = s.terms;
-    let checked = check_open(End::Solver, s.due, t, pool, size, index);
+    let checked = check_open(End::Solver, s.due, t, pool, at);
     let Check::Passed = checked else {
         return SolverDropped {
             answer: answer_of(checked),
             session: s,
         };
     };
-    spend_at(End::Solver, t, pool, size, index);
+    spend_at(End::Solver, t, pool, at);
     SolverDropped {
         answer: Answer::Accepted(0),
         session: session_of(t, 0),

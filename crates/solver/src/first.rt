@@ -20,6 +20,7 @@ use protocol::Refusal;
 use protocol::SolverSession;
 use protocol::Terms;
 use tape::End;
+use tape::Place;
 use tape::change::take_up_at;
 use tape::half::matrix;
 use vectors::times;
@@ -39,41 +40,26 @@ ghost use Rattle.protocol.specs.Tape.{solver, slotAt};
 ghost use Rattle.protocol.specs.Message.{messageSize};
 ghost use Rattle.protocol.specs.Step.{answerReply, firstTests};
 ghost use Rattle.protocol.specs.System.{noSolver, sideSize, solverFirstEffect, solverFirstTests, solverFirst};
+ghost use Rattle.tape.specs.Placed.{slotIn};
 ghost use Rattle.judging.specs.InOrder.{checked, judged};
 ghost use Rattle.judging.specs.Leaves.{Leaves, leaves, Computed, computed};
 
 // All tests but that L has an inverse.
-fn check_inputs(
-    pool: &[u32],
-    size: usize,
-    index: usize,
-    t: Terms,
-    l: &[u32],
-    x: &[u32],
-    room: usize,
-) -> Check
-    ensures { λ r. ⌜ checked r ≡ judged (firstTests solver t (slotAt (now (pool .entry)) size index) ++ inputTests (t .q) (t .m * t .m) (now (l .entry))
+fn check_inputs(pool: &[u32], at: Place, t: Terms, l: &[u32], x: &[u32], room: usize) -> Check
+    ensures { λ r. ⌜ checked r ≡ judged (firstTests solver t (slotIn (now (pool .entry)) at) ++ inputTests (t .q) (t .m * t .m) (now (l .entry))
         ++ inputTests (t .q) (sideSize t) (now (x .entry)) ++ roomTests (messageSize 1 t) room) ⌝ }
 {
-    let shared = check_first(End::Solver, t, pool, size, index);
+    let shared = check_first(End::Solver, t, pool, at);
     let matrix = check_input(t.q, times(t.m, t.m), l);
     let vector = check_input(t.q, side_size(t), x);
     let sent = need(Refusal::Size, has_room(1, t, room));
     worst(worst(worst(shared, matrix), vector), sent)
 }
 
-fn check(
-    pool: &[u32],
-    size: usize,
-    index: usize,
-    t: Terms,
-    l: &[u32],
-    x: &[u32],
-    room: usize,
-) -> Check
-    ensures { λ r. ⌜ checked r ≡ judged (solverFirstTests t (slotAt (now (pool .entry)) size index) (now (l .entry)) (now (x .entry)) room) ⌝ }
+fn check(pool: &[u32], at: Place, t: Terms, l: &[u32], x: &[u32], room: usize) -> Check
+    ensures { λ r. ⌜ checked r ≡ judged (solverFirstTests t (slotIn (now (pool .entry)) at) (now (l .entry)) (now (x .entry)) room) ⌝ }
 {
-    let inputs = check_inputs(pool, size, index, t, l, x, room);
+    let inputs = check_inputs(pool, at, t, l, x, room);
     let Check::Passed = inputs else {
         return inputs;
     };
@@ -95,21 +81,13 @@ fn write_y1(t: Terms, l: &[u32], x: &[u32], y0: &[u32], out: &mut [u32])
 }
 
 // Y1 goes into `out`; the session waits for kind 2.
-fn compute(
-    pool: &[u32],
-    size: usize,
-    index: usize,
-    t: Terms,
-    l: &[u32],
-    x: &[u32],
-    out: &mut [u32],
-) -> SolverAnswer
-    requires { ⌜ judged (solverFirstTests t (slotAt (now pool) size index) (now l) (now x) (length (now out))) ≡ done tt ⌝ }
+fn compute(pool: &[u32], at: Place, t: Terms, l: &[u32], x: &[u32], out: &mut [u32]) -> SolverAnswer
+    requires { ⌜ judged (solverFirstTests t (slotIn (now pool) at) (now l) (now x) (length (now out))) ≡ done tt ⌝ }
     ensures { λ r. ⌜ _≡_ {A = Computed SolverSession}
         (record { answer = answerReply (r .answer); session = r .session; head = r .head; scratch = []; sent = now (out .exit); result = [] })
-        (computed [] (now (out .entry)) [] (solverFirstEffect t (slotAt (now (pool .entry)) size index) (now (l .entry)) (now (x .entry)))) ⌝ }
+        (computed [] (now (out .entry)) [] (solverFirstEffect t (slotIn (now (pool .entry)) at) (now (l .entry)) (now (x .entry)))) ⌝ }
 {
-    let y0 = matrix(End::Solver, t, 0, pool, size, index);
+    let y0 = matrix(End::Solver, t, 0, pool, at);
     write_y1(t, l, x, y0, out);
     SolverAnswer {
         answer: Answer::Accepted(0),
@@ -133,11 +111,12 @@ pub fn solver_first(
         (leaves noSolver (slotAt (now (pool .entry)) size index) [] (now (out .entry)) []
         (solverFirst t (slotAt (now (pool .entry)) size index) (now (l .entry)) (now (x .entry)) (length (now (out .entry))))) ⌝ }
 {
-    let checked = check(pool, size, index, t, l, x, out.len());
+    let at = Place { size, index };
+    let checked = check(pool, at, t, l, x, out.len());
     let Check::Passed = checked else {
         return refused(checked, no_session());
     };
-    let done = compute(pool, size, index, t, l, x, out);
-    take_up_at(End::Solver, t, pool, size, index);
+    let done = compute(pool, at, t, l, x, out);
+    take_up_at(End::Solver, t, pool, at);
     done
 }

@@ -15,6 +15,7 @@ use protocol::Refusal;
 use protocol::SolverSession;
 use protocol::Terms;
 use tape::End;
+use tape::Place;
 use tape::change::spend_at;
 use tape::half::matrix;
 use vectors::times;
@@ -34,6 +35,7 @@ ghost use Rattle.protocol.specs.Tape.{slotAt};
 ghost use Rattle.protocol.specs.Message.{messageWith};
 ghost use Rattle.protocol.specs.System.{sideSize, solverLastEffect, solverLastTests, solverLast};
 ghost use Rattle.protocol.specs.Step.{answerReply};
+ghost use Rattle.tape.specs.Placed.{slotIn};
 ghost use Rattle.judging.specs.InOrder.{judged};
 ghost use Rattle.judging.specs.Leaves.{Leaves, leaves, Computed, computed};
 ghost use Rattle.solver.specs.Formulas.{sumOf, sideOf, lastAnswer, lastHead, closedTerms};
@@ -94,21 +96,20 @@ fn answer(t: Terms, found: bool) -> SolverAnswer
 
 fn compute(
     pool: &[u32],
-    size: usize,
-    index: usize,
+    at: Place,
     s: SolverSession,
     a: Head,
     residues: &[u32],
     out: &mut [u32],
 ) -> SolverAnswer
-    requires { ⌜ judged (solverLastTests s (slotAt (now pool) size index) (messageWith a (now residues)) (length (now out))) ≡ done tt ⌝ }
+    requires { ⌜ judged (solverLastTests s (slotIn (now pool) at) (messageWith a (now residues)) (length (now out))) ≡ done tt ⌝ }
     ensures { λ r. ⌜ _≡_ {A = Computed SolverSession}
         (record { answer = answerReply (r .answer); session = r .session; head = r .head; scratch = []; sent = now (out .exit); result = [] })
-        (computed [] (now (out .entry)) [] (solverLastEffect s (slotAt (now (pool .entry)) size index) (messageWith a (now (residues .entry))))) ⌝ }
+        (computed [] (now (out .entry)) [] (solverLastEffect s (slotIn (now (pool .entry)) at) (messageWith a (now (residues .entry))))) ⌝ }
 {
     let t = s.terms;
     let n = times(t.m, t.m);
-    let v = matrix(End::Solver, t, 3, pool, size, index);
+    let v = matrix(End::Solver, t, 3, pool, at);
     let mut sum = [0u32; 256];
     write_joint(t, residues, v, &mut sum);
     let kept = s.s;
@@ -131,11 +132,12 @@ pub fn solver_last(
         (leaves s (slotAt (now (pool .entry)) size index) [] (now (out .entry)) []
         (solverLast s (slotAt (now (pool .entry)) size index) (record { head = a; residues = now (residues .entry) }) (length (now (out .entry))))) ⌝ }
 {
-    let checked = check(pool, size, index, 4, 5, s, a, residues, out.len());
+    let at = Place { size, index };
+    let checked = check(pool, at, 4, 5, s, a, residues, out.len());
     let Check::Passed = checked else {
         return refused(checked, s);
     };
-    let done = compute(pool, size, index, s, a, residues, out);
-    spend_at(End::Solver, s.terms, pool, size, index);
+    let done = compute(pool, at, s, a, residues, out);
+    spend_at(End::Solver, s.terms, pool, at);
     done
 }

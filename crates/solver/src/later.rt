@@ -11,21 +11,21 @@ use protocol::Head;
 use protocol::Refusal;
 use protocol::SolverSession;
 use tape::End;
+use tape::Place;
 use vectors::all_below;
 ghost use mathlib.Core.Path.{_≡_};
 ghost use mathlib.Core.Bool.{true};
 ghost use Rattle.protocol.specs.Bounds.{sidesFit, system};
-ghost use Rattle.protocol.specs.Tape.{slotAt};
 ghost use Rattle.protocol.specs.Message.{messageWith};
 ghost use Rattle.protocol.specs.System.{keptS, keptTests};
+ghost use Rattle.tape.specs.Placed.{slotIn};
 ghost use Rattle.judging.specs.InOrder.{checked, judged};
 ghost use Rattle.solver.specs.Groups.{arriving, receiving};
 
 // All tests but those of what the session keeps.
 fn check_arriving(
     pool: &[u32],
-    size: usize,
-    index: usize,
+    at: Place,
     kind: u32,
     sends: u32,
     s: SolverSession,
@@ -33,10 +33,10 @@ fn check_arriving(
     residues: &[u32],
     room: usize,
 ) -> Check
-    ensures { λ r. ⌜ checked r ≡ judged (arriving kind sends s (slotAt (now (pool .entry)) size index) (messageWith a (now (residues .entry))) room) ⌝ }
+    ensures { λ r. ⌜ checked r ≡ judged (arriving kind sends s (slotIn (now (pool .entry)) at) (messageWith a (now (residues .entry))) room) ⌝ }
 {
     let t = s.terms;
-    let shared = check_later(End::Solver, kind, s.due, t, a, residues, pool, size, index);
+    let shared = check_later(End::Solver, kind, s.due, t, a, residues, pool, at);
     let sent = check_room(s.due, has_room(sends, t, room));
     worst(shared, sent)
 }
@@ -53,8 +53,7 @@ fn check_kept(s: SolverSession) -> Check
 
 pub fn check(
     pool: &[u32],
-    size: usize,
-    index: usize,
+    at: Place,
     kind: u32,
     sends: u32,
     s: SolverSession,
@@ -62,9 +61,9 @@ pub fn check(
     residues: &[u32],
     room: usize,
 ) -> Check
-    ensures { λ r. ⌜ checked r ≡ judged (receiving kind sends s (slotAt (now (pool .entry)) size index) (messageWith a (now (residues .entry))) room) ⌝ }
+    ensures { λ r. ⌜ checked r ≡ judged (receiving kind sends s (slotIn (now (pool .entry)) at) (messageWith a (now (residues .entry))) room) ⌝ }
 {
-    let arrived = check_arriving(pool, size, index, kind, sends, s, a, residues, room);
+    let arrived = check_arriving(pool, at, kind, sends, s, a, residues, room);
     let Check::Passed = arrived else {
         return arrived;
     };

@@ -11,6 +11,7 @@ use protocol::Head;
 use protocol::SolverSession;
 use protocol::Terms;
 use tape::End;
+use tape::Place;
 use tape::half::matrix;
 use vectors::times;
 use vectors::write_cols;
@@ -29,6 +30,7 @@ ghost use Rattle.protocol.specs.Tape.{slotAt};
 ghost use Rattle.protocol.specs.Message.{messageWith};
 ghost use Rattle.protocol.specs.System.{padded, solverSecondEffect, solverSecondTests, solverSecond};
 ghost use Rattle.protocol.specs.Step.{answerReply};
+ghost use Rattle.tape.specs.Placed.{slotIn};
 ghost use Rattle.judging.specs.InOrder.{judged};
 ghost use Rattle.judging.specs.Leaves.{Leaves, leaves, Computed, computed};
 ghost use Rattle.solver.specs.Formulas.{shareOf};
@@ -103,23 +105,22 @@ fn finish(t: Terms, r: &[u32], share: &[u32], out: &mut [u32]) -> SolverAnswer
 
 fn compute(
     pool: &[u32],
-    size: usize,
-    index: usize,
+    at: Place,
     s: SolverSession,
     a: Head,
     residues: &[u32],
     out: &mut [u32],
 ) -> SolverAnswer
-    requires { ⌜ judged (solverSecondTests s (slotAt (now pool) size index) (messageWith a (now residues)) (length (now out))) ≡ done tt ⌝ }
+    requires { ⌜ judged (solverSecondTests s (slotIn (now pool) at) (messageWith a (now residues)) (length (now out))) ≡ done tt ⌝ }
     ensures { λ r. ⌜ _≡_ {A = Computed SolverSession}
         (record { answer = answerReply (r .answer); session = r .session; head = r .head; scratch = []; sent = now (out .exit); result = [] })
-        (computed [] (now (out .entry)) [] (solverSecondEffect s (slotAt (now (pool .entry)) size index) (messageWith a (now (residues .entry))))) ⌝ }
+        (computed [] (now (out .entry)) [] (solverSecondEffect s (slotIn (now (pool .entry)) at) (messageWith a (now (residues .entry))))) ⌝ }
 {
     let t = s.terms;
     let n = times(t.m, t.p);
-    let y0 = matrix(End::Solver, t, 0, pool, size, index);
-    let b0 = matrix(End::Solver, t, 1, pool, size, index);
-    let r = matrix(End::Solver, t, 2, pool, size, index);
+    let y0 = matrix(End::Solver, t, 0, pool, at);
+    let b0 = matrix(End::Solver, t, 1, pool, at);
+    let r = matrix(End::Solver, t, 2, pool, at);
     let mut share = [0u32; 272];
     find_share(t, residues, y0, b0, &mut share);
     finish(t, r, &share[..n], out)
@@ -140,9 +141,10 @@ pub fn solver_second(
         (leaves s (slotAt (now (pool .entry)) size index) [] (now (out .entry)) []
         (solverSecond s (slotAt (now (pool .entry)) size index) (record { head = a; residues = now (residues .entry) }) (length (now (out .entry))))) ⌝ }
 {
-    let checked = check(pool, size, index, 2, 3, s, a, residues, out.len());
+    let at = Place { size, index };
+    let checked = check(pool, at, 2, 3, s, a, residues, out.len());
     let Check::Passed = checked else {
         return refused(checked, s);
     };
-    compute(pool, size, index, s, a, residues, out)
+    compute(pool, at, s, a, residues, out)
 }

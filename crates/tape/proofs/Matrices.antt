@@ -1,7 +1,8 @@
 -- The sizes of a half's matrices, past the first: the same for every end of one sort.
 --   second-size, later-sizes   the second matrix, and those behind it
 --   half-bound                 no half passes 8,192 words behind its header
---   Stands, matrix-stands, matrix-length   matrix j of a half is one part of its pool
+--   matrix-length              how many words matrix j of a half has
+--   matrix-inside, matrix-is   it stands in the slot's words from where it begins to where the next one does
 -- Assumes nothing.
 use mathlib.Core.Path.{_≡_, refl, sym, ap, _∙_}
 use mathlib.Core.Bool.{true}
@@ -10,15 +11,14 @@ use Prim.Native.Nat.{ℕ, zero, suc, _+_, _-_, _*_, _≤_, _<_}
 use native.Mathlib.Numerals.{unary-clauses}
 use native.Mathlib.Omega.{arith}
 use lib.ListN.{length, getD, take, drop, length-take, length-drop}
-use lib.Seq.{drop-drop}
 use Rattle.algebra.specs.Count.{part}
 use Rattle.protocol.specs.declared.Terms.{Terms}
 use Rattle.protocol.specs.Bounds.{sidesFit}
-use Rattle.protocol.specs.Tape.{headerSize, Role, left, right, blinder, solver, sortOf, layout, matrixAt, bodySize, tapeSize, slotAt, slotWords, matrices}
-use Rattle.protocol.proofs.Matrices.{part-of-start, matrix-next, matrix-within, matrix-part}
+use Rattle.protocol.specs.Tape.{headerSize, Role, left, right, blinder, solver, sortOf, layout, matrixAt, bodySize, tapeSize, Slot, slotWords, matrices}
+use Rattle.protocol.proofs.Slots.{slot-length}
+use Rattle.protocol.proofs.Matrices.{matrix-next, matrix-within, matrix-part}
 use Rattle.tape.specs.Placed.{Placed}
 use Rattle.tape.proofs.Sides.{sides-of}
-use Rattle.tape.proofs.Slots.{slot-room}
 
 pub second-size : (role : Role) (t : Terms) → getD (layout role (t .m) (t .k) (t .p)) 1 0 ≡ t .m * t .p
 second-size left t = refl
@@ -43,37 +43,25 @@ half-bound right m k p e = let s = sides-of (sortOf right) m k p e in omega (ari
 half-bound blinder m k p e = let s = sides-of (sortOf blinder) m k p e in omega (arith, s .few-mk, s .few-kp, s .few-mp)
 half-bound solver m k p e = let s = sides-of (sortOf solver) m k p e in omega (arith, s .few-mk, s .few-kp, s .few-mp)
 
--- the words of a pool from one place to another
-pub record Stands (from stop : ℕ) (pool words : List ℕ) : Type 0 where
-  pub starts : from ≤ stop
-  pub ends : stop ≤ length pool
-  pub is : take (stop - from) (drop from pool) ≡ words
-
--- where matrix j stands in the pool, for a half that has its place
-pub matrix-stands : (role : Role) (t : Terms) (j : ℕ) (pool : List ℕ) (size index : ℕ) {from stop : ℕ} → Placed role t (slotAt pool size index)
-    → from ≡ index * size + matrixAt role (t .m) (t .k) (t .p) j → stop ≡ index * size + matrixAt role (t .m) (t .k) (t .p) (j + 1)
-    → Stands from stop pool (part j (matrices role t (slotWords (slotAt pool size index))))
-unfolding slotWords
-matrix-stands role t j pool size index {from} {stop} p e f′ =
-    let f = simp unary-clauses at f′ in
-    let a = matrixAt role (t .m) (t .k) (t .p) j in
-    let b = matrixAt role (t .m) (t .k) (t .p) (suc j) in
+-- how many words a matrix has, in a half that has its place
+pub matrix-length : (role : Role) (t : Terms) (j : ℕ) (s : Slot) → Placed role t s
+    → length (part j (matrices role t (slotWords s))) ≡ getD (layout role (t .m) (t .k) (t .p)) j 0
+matrix-length role t j s p =
     let next = matrix-next role (t .m) (t .k) (t .p) j in
     let within = matrix-within role (t .m) (t .k) (t .p) (suc j) in
-    let n : stop - from ≡ b - a = omega arith in
-    let inside : a + (b - a) ≤ size = omega (arith, p .room, next) in
-    record {
-      starts = omega (arith, next);
-      ends = omega (arith, p .room, within, slot-room pool size index (p .inside));
-      is = rw (n, e)
-          (ap (take (b - a)) (sym (drop-drop a (index * size) pool))
-          ∙ (sym (part-of-start (b - a) size a (drop (index * size) pool) inside) ∙ matrix-part role t j (take size (drop (index * size) pool))));
-    }
+    ap length (sym (matrix-part role t j (slotWords s)))
+    ∙ simp (length-take, length-drop) (omega (arith, next, within, p .room, slot-length s (p .inside)))
 
--- how many words it has
-pub matrix-length : (role : Role) (t : Terms) (j : ℕ) (pool : List ℕ) (size index : ℕ) → Placed role t (slotAt pool size index)
-    → length (part j (matrices role t (slotWords (slotAt pool size index)))) ≡ getD (layout role (t .m) (t .k) (t .p)) j 0
-matrix-length role t j pool size index p =
-    let m = matrix-stands role t j pool size index {stop = index * size + matrixAt role (t .m) (t .k) (t .p) (suc j)} p refl (simp unary-clauses refl) in
-    let next = matrix-next role (t .m) (t .k) (t .p) j in
-    ap length (sym (m .is)) ∙ simp (length-take, length-drop) (omega (arith, m .ends))
+-- matrix j stands in its slot's words
+module _ (role : Role) (t : Terms) (j : ℕ) (s : Slot) where
+  pub matrix-inside : {from stop n : ℕ} → Placed role t s → from ≡ matrixAt role (t .m) (t .k) (t .p) j → stop ≡ matrixAt role (t .m) (t .k) (t .p) (j + 1)
+      → n ≡ length (slotWords s) → (from ≤ stop) × (stop ≤ n)
+  matrix-inside p e f′ g =
+      let f = simp unary-clauses at f′ in
+      let next = matrix-next role (t .m) (t .k) (t .p) j in
+      let within = matrix-within role (t .m) (t .k) (t .p) (suc j) in
+      (omega (arith, next), omega (arith, within, p .room, slot-length s (p .inside)))
+
+  pub matrix-is : take (matrixAt role (t .m) (t .k) (t .p) (j + 1) - matrixAt role (t .m) (t .k) (t .p) j) (drop (matrixAt role (t .m) (t .k) (t .p) j) (slotWords s))
+      ≡ part j (matrices role t (slotWords s))
+  matrix-is = simp unary-clauses (matrix-part role t j (slotWords s))

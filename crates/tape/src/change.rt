@@ -2,6 +2,7 @@
 //   take_up_at   a session's first step takes the half up
 //   spend_at     its end
 use crate::End;
+use crate::Place;
 use crate::half::half_size;
 use crate::header;
 use protocol::Terms;
@@ -11,9 +12,9 @@ ghost use mathlib.Core.Bool.{true};
 ghost use Prim.Native.Nat.{_+_, _≤_};
 ghost use lib.ListN.{length};
 ghost use Rattle.protocol.specs.Bounds.{sidesFit};
-ghost use Rattle.protocol.specs.Tape.{headerSize, slotAt, slotWords, poolWith, tapeSize, withStatus, spent, wordsInUse, wordsSpent};
+ghost use Rattle.protocol.specs.Tape.{headerSize, slotWords, poolWith, tapeSize, withStatus, spent, wordsInUse, wordsSpent};
 ghost use Rattle.tape.specs.Ends.{role, sort};
-ghost use Rattle.tape.specs.Placed.{Placed};
+ghost use Rattle.tape.specs.Placed.{slotIn, Placed};
 
 fn set_status(status: u32, slot: &mut [u32])
     requires { ⌜ headerSize ≤ length (now slot) ⌝ }
@@ -31,13 +32,13 @@ fn take_up(slot: &mut [u32])
 }
 
 // The same in a pool.
-pub fn take_up_at(end: End, t: Terms, pool: &mut [u32], size: usize, index: usize)
-    requires { ⌜ Placed (role end) t (slotAt (now pool) size index) ⌝ }
-    ensures { λ _. ⌜ now (pool .exit) ≡ poolWith (slotAt (now (pool .entry)) size index) (wordsInUse (slotWords (slotAt (now (pool .entry)) size index))) ⌝ }
+pub fn take_up_at(end: End, t: Terms, pool: &mut [u32], at: Place)
+    requires { ⌜ Placed (role end) t (slotIn (now pool) at) ⌝ }
+    ensures { λ _. ⌜ now (pool .exit) ≡ poolWith (slotIn (now (pool .entry)) at) (wordsInUse (slotWords (slotIn (now (pool .entry)) at))) ⌝ }
 {
-    let at = index * size;
-    let stop = at + size;
-    take_up(&mut pool[at..stop]);
+    let start = at.index * at.size;
+    let stop = start + at.size;
+    take_up(&mut pool[start..stop]);
 }
 
 // Status 3, and zeros in n words of matrices.
@@ -59,11 +60,11 @@ fn spend(end: End, t: Terms, slot: &mut [u32])
 }
 
 // The same in a pool.
-pub fn spend_at(end: End, t: Terms, pool: &mut [u32], size: usize, index: usize)
-    requires { ⌜ Placed (role end) t (slotAt (now pool) size index) ⌝ }
-    ensures { λ _. ⌜ now (pool .exit) ≡ poolWith (slotAt (now (pool .entry)) size index) (wordsSpent (role end) t (slotWords (slotAt (now (pool .entry)) size index))) ⌝ }
+pub fn spend_at(end: End, t: Terms, pool: &mut [u32], at: Place)
+    requires { ⌜ Placed (role end) t (slotIn (now pool) at) ⌝ }
+    ensures { λ _. ⌜ now (pool .exit) ≡ poolWith (slotIn (now (pool .entry)) at) (wordsSpent (role end) t (slotWords (slotIn (now (pool .entry)) at))) ⌝ }
 {
-    let at = index * size;
-    let stop = at + size;
-    spend(end, t, &mut pool[at..stop]);
+    let start = at.index * at.size;
+    let stop = start + at.size;
+    spend(end, t, &mut pool[start..stop]);
 }

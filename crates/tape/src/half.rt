@@ -4,7 +4,9 @@
 //   half_size          the words of a half
 //   holds_residues     its matrices hold residues
 use crate::End;
+use crate::Place;
 use crate::header;
+use crate::slot;
 use protocol::Terms;
 use vectors::all_below;
 use vectors::times;
@@ -14,9 +16,9 @@ ghost use Prim.Native.Nat.{_+_, _*_, _≤_};
 ghost use lib.ListN.{length, getD};
 ghost use Rattle.protocol.specs.Bounds.{sidesFit, allBelow};
 ghost use Rattle.algebra.specs.Count.{part};
-ghost use Rattle.protocol.specs.Tape.{slotAt, slotWords, layout, matrixAt, tapeSize, body, matrices};
+ghost use Rattle.protocol.specs.Tape.{slotWords, layout, matrixAt, tapeSize, body, matrices};
 ghost use Rattle.tape.specs.Ends.{role, sort};
-ghost use Rattle.tape.specs.Placed.{Placed};
+ghost use Rattle.tape.specs.Placed.{slotIn, Placed};
 
 // The entries of the first matrix: X0 or Y0.
 fn first_size(end: End, t: Terms) -> usize
@@ -67,21 +69,15 @@ pub fn matrix_at(end: End, t: Terms, j: usize) -> usize
     at
 }
 
-// Where a matrix of a half begins in its pool.
-pub fn matrix_start(end: End, t: Terms, j: usize, pool: &[u32], size: usize, index: usize) -> usize
-    requires { ⌜ Placed (role end) t (slotAt (now pool) size index) × (j ≤ 4) ⌝ }
-    ensures { λ r. ⌜ r ≡ index * size + matrixAt (role end) (t .m) (t .k) (t .p) j ⌝ }
+// Matrix j of a half.
+pub fn matrix(end: End, t: Terms, j: usize, pool: &[u32], at: Place) -> &[u32]
+    requires { ⌜ Placed (role end) t (slotIn (now pool) at) × (j ≤ 3) ⌝ }
+    ensures { λ r. ⌜ now r ≡ part j (matrices (role end) t (slotWords (slotIn (now (pool .entry)) at))) ⌝ }
 {
-    index * size + matrix_at(end, t, j)
-}
-
-pub fn matrix(end: End, t: Terms, j: usize, pool: &[u32], size: usize, index: usize) -> &[u32]
-    requires { ⌜ Placed (role end) t (slotAt (now pool) size index) × (j ≤ 3) ⌝ }
-    ensures { λ r. ⌜ now r ≡ part j (matrices (role end) t (slotWords (slotAt (now (pool .entry)) size index))) ⌝ }
-{
-    let from = matrix_start(end, t, j, pool, size, index);
-    let stop = matrix_start(end, t, j + 1, pool, size, index);
-    &pool[from..stop]
+    let from = matrix_at(end, t, j);
+    let stop = matrix_at(end, t, j + 1);
+    let half = slot(pool, at);
+    &half[from..stop]
 }
 
 pub fn half_size(end: End, t: Terms) -> usize

@@ -6,7 +6,7 @@ use Rattle.tape.proofs.is_slot.Statement.{statement}
 use Rattle.tape.proofs.is_slot.Tie as tie
 
 returns : tie.Need-returns
-returns c = sym (no-slot (c .before .args .pool) (c .before .args .size) (c .before .args .index) (c .if1 .taken))
+returns c = sym (no-slot (c .before .before .args .pool) (c .before .before .args .at .size) (c .before .before .args .at .index) (c .if1 .taken))
 
 div-result : tie.Need-div-result
 div-result c = search needs

@@ -26,7 +26,7 @@ unfolding numberTests idTests placeTests
 returns c =
     let a = c .before .before .before .before .args in
     hands-on (c .before .before .check-ids .result) _ (rw (c .before .before .before .sides-fit .ensures) at (c .before .before .check-ids .ensures))
-    (c .enum-told2 .given .1) ∙ sym (sizes-phases (sort (a .end)) (role (a .end)) (a .t) (a .pool) (a .size) (a .index))
+    (c .enum-told2 .given .1) ∙ sym (sizes-phases (sort (a .end)) (role (a .end)) (a .t) (a .pool) (a .at .size) (a .at .index))
 
 is-slot-requires : tie.Need-is-slot-requires
 is-slot-requires c κs = search needs
@@ -49,13 +49,13 @@ worst-requires c κs = search needs
 returns-2 : tie.Need-returns-2
 unfolding numberTests idTests placeTests
 returns-2 c =
-    let a = c .before .before .before .before .before .before .before .before .before .args in
-    let check-ids = c .before .before .before .before .before .before .before .check-ids in
-    let fit = c .before .before .before .before .before .before .before .before .sides-fit .ensures in
-    simp (c .worst .ensures, c .before .before .before .need .ensures, c .before .before .before .before .is-slot .ensures, c .before .need2 .ensures, c .before .before .half-size .ensures)
+    let a = c .before .before .before .before .before .before .before .before .before .before .args in
+    let check-ids = c .before .before .before .before .before .before .before .before .check-ids in
+    let fit = c .before .before .before .before .before .before .before .before .before .sides-fit .ensures in
+    simp (c .worst .ensures, c .before .before .before .before .need .ensures, c .before .before .before .before .before .is-slot .ensures, c .before .need2 .ensures, c .before .before .before .half-size .ensures)
     (sym (judged-cons _ _ _)) ∙ sym
-    (sizes-phases (sort (a .end)) (role (a .end)) (a .t) (a .pool) (a .size) (a .index)
-    ∙ goes-past (check-ids .result) (rw fit at (check-ids .ensures)) (c .before .before .before .before .before .enum-told .given .1))
+    (sizes-phases (sort (a .end)) (role (a .end)) (a .t) (a .pool) (a .at .size) (a .at .index)
+    ∙ goes-past (check-ids .result) (rw fit at (check-ids .ensures)) (c .before .before .before .before .before .before .enum-told .given .1))
 
 pub check-sizes-spec : {M : Type 1} → statement M
 check-sizes-spec =

@@ -23,18 +23,18 @@ returns : tie.Need-returns
 returns c =
     let a = c .before .before .before .before .args in
     let n = c .before .before .check-numbers in
-    hands-on (n .result) _ (n .ensures) (c .enum-told2 .given .1) ∙ sym (first-phases (role (a .end)) (a .t) (slotAt (a .pool .now) (a .size) (a .index)))
+    hands-on (n .result) _ (n .ensures) (c .enum-told2 .given .1) ∙ sym (first-phases (role (a .end)) (a .t) (slotAt (a .pool .now) (a .at .size) (a .at .index)))
 
 check-ready-requires : tie.Need-check-ready-requires
 check-ready-requires c κs =
     let a = c .before .before .before .before .args in
-    numbers-placed (role (a .end)) (a .t) (a .pool .now) (a .size) (a .index) (sym (c .before .before .check-numbers .ensures) ∙ ap checked (c .enum-told .given .1))
+    numbers-placed (role (a .end)) (a .t) (a .pool .now) (a .at .size) (a .at .index) (sym (c .before .before .check-numbers .ensures) ∙ ap checked (c .enum-told .given .1))
 
 returns-2 : tie.Need-returns-2
 returns-2 c =
     let a = c .before .before .before .before .before .args in
     let n = c .before .before .before .check-numbers in
-    c .check-ready .ensures ∙ sym (first-phases (role (a .end)) (a .t) (slotAt (a .pool .now) (a .size) (a .index)) ∙ goes-past (n .result) (n .ensures) (c .before .enum-told .given .1))
+    c .check-ready .ensures ∙ sym (first-phases (role (a .end)) (a .t) (slotAt (a .pool .now) (a .at .size) (a .at .index)) ∙ goes-past (n .result) (n .ensures) (c .before .enum-told .given .1))
 
 pub check-first-spec : {M : Type 1} → statement M
 check-first-spec =

@@ -25,20 +25,20 @@ returns c =
     let a = c .before .before .before .before .before .args in
     let n = c .before .before .check-first-numbers in
     hands-on (n .result) _ (n .ensures) (c .enum-told2 .given .1) ∙ sym
-    (received-phases (role (a .end)) (a .t) (slotAt (a .pool .now) (a .size) (a .index)) (a .kind) (a .a) (a .residues .now))
+    (received-phases (role (a .end)) (a .t) (slotAt (a .pool .now) (a .at .size) (a .at .index)) (a .kind) (a .a) (a .residues .now))
 
 check-arrived-requires : tie.Need-check-arrived-requires
 unfolding firstReceived
 check-arrived-requires c κs =
     let a = c .before .before .before .before .before .args in
-    turn-placed (role (a .end)) (a .t) (a .a) _ (a .pool .now) (a .size) (a .index) _ (sym (c .before .before .check-first-numbers .ensures) ∙ ap checked (c .enum-told .given .1))
+    turn-placed (role (a .end)) (a .t) (a .a) _ (a .pool .now) (a .at .size) (a .at .index) _ (sym (c .before .before .check-first-numbers .ensures) ∙ ap checked (c .enum-told .given .1))
 
 returns-2 : tie.Need-returns-2
 returns-2 c =
     let a = c .before .before .before .before .before .before .args in
     let n = c .before .before .before .check-first-numbers in
     c .check-arrived .ensures ∙ sym
-    (received-phases (role (a .end)) (a .t) (slotAt (a .pool .now) (a .size) (a .index)) (a .kind) (a .a) (a .residues .now)
+    (received-phases (role (a .end)) (a .t) (slotAt (a .pool .now) (a .at .size) (a .at .index)) (a .kind) (a .a) (a .residues .now)
     ∙ goes-past (n .result) (n .ensures) (c .before .enum-told .given .1))
 
 pub check-first-received-spec : {M : Type 1} → statement M

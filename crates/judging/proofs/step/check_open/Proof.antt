@@ -17,7 +17,7 @@ check-none-due-requires c κs = search needs
 returns : tie.Need-returns
 returns c =
     let a = c .before .before .before .args in
-    c .check-none-due .ensures ∙ sym (none-due (role (a .end)) (a .t) (slotAt (a .pool .now) (a .size) (a .index)) (a .due) (c .before .if1 .taken))
+    c .check-none-due .ensures ∙ sym (none-due (role (a .end)) (a .t) (slotAt (a .pool .now) (a .at .size) (a .at .index)) (a .due) (c .before .if1 .taken))
 
 check-numbers-requires : tie.Need-check-numbers-requires
 check-numbers-requires c κs = search needs
@@ -33,19 +33,19 @@ returns-2 c =
     let a = c .before .before .before .before .before .args in
     let n = c .before .before .check-numbers in
     hands-on (n .result) _ (n .ensures) (c .enum-told2 .given .1) ∙ sym
-    (open-phases (role (a .end)) (a .t) (slotAt (a .pool .now) (a .size) (a .index)) (a .due) (is-open (a .due) (c .before .before .before .if1 .left)))
+    (open-phases (role (a .end)) (a .t) (slotAt (a .pool .now) (a .at .size) (a .at .index)) (a .due) (is-open (a .due) (c .before .before .before .if1 .left)))
 
 check-tape-requires : tie.Need-check-tape-requires
 check-tape-requires c κs =
     let a = c .before .before .before .before .before .args in
-    numbers-placed (role (a .end)) (a .t) (a .pool .now) (a .size) (a .index) (sym (c .before .before .check-numbers .ensures) ∙ ap checked (c .enum-told .given .1))
+    numbers-placed (role (a .end)) (a .t) (a .pool .now) (a .at .size) (a .at .index) (sym (c .before .before .check-numbers .ensures) ∙ ap checked (c .enum-told .given .1))
 
 returns-3 : tie.Need-returns-3
 returns-3 c =
     let a = c .before .before .before .before .before .before .args in
     let n = c .before .before .before .check-numbers in
     c .check-tape .ensures ∙ sym
-    (open-phases (role (a .end)) (a .t) (slotAt (a .pool .now) (a .size) (a .index)) (a .due) (is-open (a .due) (c .before .before .before .before .if1 .left))
+    (open-phases (role (a .end)) (a .t) (slotAt (a .pool .now) (a .at .size) (a .at .index)) (a .due) (is-open (a .due) (c .before .before .before .before .if1 .left))
     ∙ goes-past (n .result) (n .ensures) (c .before .enum-told .given .1))
 
 pub check-open-spec : {M : Type 1} → statement M

@@ -20,7 +20,7 @@ returns : tie.Need-returns
 returns c =
     let a = c .before .before .before .before .before .args in
     also _ _ (c .worst .ensures) (c .before .before .check-first .ensures) (c .before .check-own .ensures)
-    ∙ first-tests-are (a .t) (slotAt (a .pool .now) (a .size) (a .index)) (a .y .now) (a .room)
+    ∙ first-tests-are (a .t) (slotAt (a .pool .now) (a .at .size) (a .at .index)) (a .y .now) (a .room)
 
 pub check-spec : {M : Type 1} → statement M
 check-spec = tie.close (tie.spec check-first-requires check-own-requires worst-requires returns)

@@ -20,7 +20,7 @@ matrix-requires : tie.Need-matrix-requires
 matrix-requires c κs =
     let start = c .before .before .before in
     let a = start .args in
-    let s = slotAt (a .pool .now) (a .size) (a .index) in
+    let s = slotAt (a .pool .now) (a .at .size) (a .at .index) in
     (first-placed right (a .t) s (first-known (a .t) s (a .y .now) (length (a .out .now)) (start .pre) .first), omega arith)
 
 times-requires : tie.Need-times-requires
@@ -30,7 +30,7 @@ subtract-residues-requires : tie.Need-subtract-residues-requires
 subtract-residues-requires c κs =
     let start = c .before .before .before .before .before .before in
     let a = start .args in
-    let s = slotAt (a .pool .now) (a .size) (a .index) in
+    let s = slotAt (a .pool .now) (a .at .size) (a .at .index) in
     let f = first-known (a .t) s (a .y .now) (length (a .out .now)) (start .pre) in
     let n = c .before .times .ensures in
     let is = c .before .before .matrix .ensures in

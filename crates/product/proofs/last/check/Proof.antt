@@ -26,7 +26,7 @@ unfolding rightLastTests roomTests
 returns c =
     let a = c .before .before .before .before .before .before .before .args in
     let both = also _ _ (c .worst .ensures) (c .before .before .before .check-later .ensures) (rw (c .before .before .times .ensures) at (c .before .check-room .ensures)) in
-    both ∙ last-tests (a .s) (slotAt (a .pool .now) (a .size) (a .index)) (a .a) (a .residues .now) (a .share)
+    both ∙ last-tests (a .s) (slotAt (a .pool .now) (a .at .size) (a .at .index)) (a .a) (a .residues .now) (a .share)
 
 pub check-spec : {M : Type 1} → statement M
 check-spec =

@@ -15,7 +15,7 @@ matrix-requires : tie.Need-matrix-requires
 matrix-requires c κs =
     let start = c .before .before .before .before in
     let a = start .args in
-    let s = slotAt (a .pool .now) (a .size) (a .index) in
+    let s = slotAt (a .pool .now) (a .at .size) (a .at .index) in
     let f = last-known (a .s) s (messageWith (a .a) (a .residues .now)) (length (a .share .now)) (start .pre) in
     (open-placed right (a .s .terms) s (f .later .session-open), omega arith)
 
@@ -23,7 +23,7 @@ matrix-requires-2 : tie.Need-matrix-requires-2
 matrix-requires-2 c κs =
     let start = c .before .before .before .before .before in
     let a = start .args in
-    let s = slotAt (a .pool .now) (a .size) (a .index) in
+    let s = slotAt (a .pool .now) (a .at .size) (a .at .index) in
     let f = last-known (a .s) s (messageWith (a .a) (a .residues .now)) (length (a .share .now)) (start .pre) in
     (open-placed right (a .s .terms) s (f .later .session-open), omega arith)
 
@@ -31,7 +31,7 @@ write-own-requires : tie.Need-write-own-requires
 write-own-requires c κs =
     let start = c .before .before .before .before .before .before .before in
     let a = start .args in
-    let s = slotAt (a .pool .now) (a .size) (a .index) in
+    let s = slotAt (a .pool .now) (a .at .size) (a .at .index) in
     let m = messageWith (a .a) (a .residues .now) in
     let f = last-known (a .s) s m (length (a .share .now)) (start .pre) in
     rw (c .before .before .matrix .ensures, c .before .matrix2 .ensures) (sharing (a .s) s m (length (a .share .now)) f)
@@ -48,7 +48,7 @@ returns c =
     let at = c .before .before .before .before .before in
     let start = at .before .before .before .before .before .before in
     let a = start .args in
-    let s = slotAt (a .pool .now) (a .size) (a .index) in
+    let s = slotAt (a .pool .now) (a .at .size) (a .at .index) in
     let m = messageWith (a .a) (a .residues .now) in
     let f = sharing (a .s) s m (length (a .share .now)) (last-known (a .s) s m (length (a .share .now)) (start .pre)) in
     let share = rw (at .before .matrix .ensures, at .matrix2 .ensures) at (c .before .before .before .write-own .ensures) in

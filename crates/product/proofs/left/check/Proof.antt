@@ -30,7 +30,7 @@ returns c =
     let own = c .before .before .before .check-own .ensures in
     let told = also _ _ (c .before .before .worst .ensures) shared own in
     hands-on (c .before .before .worst .result) _ told (c .enum-told2 .given .1) ∙ sym
-    (left-phases (a .t) (slotAt (a .pool .now) (a .size) (a .index)) (a .x .now) (a .words .now) (a .a) (a .residues .now) (a .room) (a .share))
+    (left-phases (a .t) (slotAt (a .pool .now) (a .at .size) (a .at .index)) (a .x .now) (a .words .now) (a .a) (a .residues .now) (a .room) (a .share))
 
 times-requires : tie.Need-times-requires
 times-requires c κs = search needs
@@ -41,7 +41,7 @@ check-coins-requires c κs =
     let shared = c .before .before .before .before .before .check-first-received .ensures in
     let own = c .before .before .before .before .check-own .ensures in
     let told = also _ _ (c .before .before .before .worst .ensures) shared own in
-    left-modulus (a .t) (slotAt (a .pool .now) (a .size) (a .index)) (a .a) (a .residues .now) _ (sym told ∙ ap checked (c .before .enum-told .given .1))
+    left-modulus (a .t) (slotAt (a .pool .now) (a .at .size) (a .at .index)) (a .a) (a .residues .now) _ (sym told ∙ ap checked (c .before .enum-told .given .1))
 
 returns-2 : tie.Need-returns-2
 returns-2 c =
@@ -50,7 +50,7 @@ returns-2 c =
     let own = c .before .before .before .before .before .check-own .ensures in
     let told = also _ _ (c .before .before .before .before .worst .ensures) shared own in
     (rw (c .before .times .ensures) at (c .check-coins .ensures)) ∙ sym
-    (left-phases (a .t) (slotAt (a .pool .now) (a .size) (a .index)) (a .x .now) (a .words .now) (a .a) (a .residues .now) (a .room) (a .share)
+    (left-phases (a .t) (slotAt (a .pool .now) (a .at .size) (a .at .index)) (a .x .now) (a .words .now) (a .a) (a .residues .now) (a .room) (a .share)
     ∙ goes-past (c .before .before .before .before .worst .result) told (c .before .before .enum-told .given .1))
 
 pub check-spec : {M : Type 1} → statement M

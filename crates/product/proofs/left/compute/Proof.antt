@@ -22,7 +22,7 @@ matrix-requires : tie.Need-matrix-requires
 matrix-requires c κs =
     let start = c .before .before .before .before .before .before in
     let a = start .args in
-    let s = slotAt (a .pool .now) (a .size) (a .index) in
+    let s = slotAt (a .pool .now) (a .at .size) (a .at .index) in
     let f = left-known (a .t) s (a .x .now) (a .words .now) (messageWith (a .a) (a .residues .now)) (length (a .out .now)) (length (a .share .now)) (start .pre) in
     (first-placed left (a .t) s (f .first), omega arith)
 
@@ -30,7 +30,7 @@ matrix-requires-2 : tie.Need-matrix-requires-2
 matrix-requires-2 c κs =
     let start = c .before .before .before .before .before .before .before in
     let a = start .args in
-    let s = slotAt (a .pool .now) (a .size) (a .index) in
+    let s = slotAt (a .pool .now) (a .at .size) (a .at .index) in
     let f = left-known (a .t) s (a .x .now) (a .words .now) (messageWith (a .a) (a .residues .now)) (length (a .out .now)) (length (a .share .now)) (start .pre) in
     (first-placed left (a .t) s (f .first), omega arith)
 
@@ -41,7 +41,7 @@ draw-requires : tie.Need-draw-requires
 draw-requires c κs =
     let start = c .before .before .before .before .before .before .before .before .before .before in
     let a = start .args in
-    let s = slotAt (a .pool .now) (a .size) (a .index) in
+    let s = slotAt (a .pool .now) (a .at .size) (a .at .index) in
     let f = left-known (a .t) s (a .x .now) (a .words .now) (messageWith (a .a) (a .residues .now)) (length (a .out .now)) (length (a .share .now)) (start .pre) in
     let enough = f .enough in
     let n = c .before .times .ensures in
@@ -52,7 +52,7 @@ slice-reshare-prefix-write-message c =
     let at = c .before .before .before .before in
     let start = at .before .before .before .before .before .before .before .before .before in
     let a = start .args in
-    let s = slotAt (a .pool .now) (a .size) (a .index) in
+    let s = slotAt (a .pool .now) (a .at .size) (a .at .index) in
     let f = left-known (a .t) s (a .x .now) (a .words .now) (messageWith (a .a) (a .residues .now)) (length (a .out .now)) (length (a .share .now)) (start .pre) in
     let enough = f .enough in
     let n = at .times .ensures in
@@ -63,7 +63,7 @@ slice-aggregate-write-message c =
     let at = c .before .before .before .before .before in
     let start = at .before .before .before .before .before .before .before .before .before in
     let a = start .args in
-    let s = slotAt (a .pool .now) (a .size) (a .index) in
+    let s = slotAt (a .pool .now) (a .at .size) (a .at .index) in
     let f = left-known (a .t) s (a .x .now) (a .words .now) (messageWith (a .a) (a .residues .now)) (length (a .out .now)) (length (a .share .now)) (start .pre) in
     let enough = f .enough in
     let few : at .times .result ≤ length (residuesOf (a .t .q) (a .words .now)) = omega (arith, at .times .ensures, enough) in
@@ -75,7 +75,7 @@ write-message-requires c κs =
     let at = c .before .before .before .before .before .before in
     let start = at .before .before .before .before .before .before .before .before .before in
     let a = start .args in
-    let s = slotAt (a .pool .now) (a .size) (a .index) in
+    let s = slotAt (a .pool .now) (a .at .size) (a .at .index) in
     let m = messageWith (a .a) (a .residues .now) in
     let f = left-known (a .t) s (a .x .now) (a .words .now) m (length (a .out .now)) (length (a .share .now)) (start .pre) in
     let enough = f .enough in
@@ -96,7 +96,7 @@ returns c =
     let at = c .before .before .before .before .before .before .before .before .before in
     let start = at .before .before .before .before .before .before .before .before .before in
     let a = start .args in
-    let s = slotAt (a .pool .now) (a .size) (a .index) in
+    let s = slotAt (a .pool .now) (a .at .size) (a .at .index) in
     let m = messageWith (a .a) (a .residues .now) in
     let f = left-known (a .t) s (a .x .now) (a .words .now) m (length (a .out .now)) (length (a .share .now)) (start .pre) in
     let enough = f .enough in

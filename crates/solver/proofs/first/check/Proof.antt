@@ -25,7 +25,7 @@ returns : tie.Need-returns
 returns c =
     let a = c .before .before .before .before .before .before .args in
     hands-on (c .before .before .check-inputs .result) _ (c .before .before .check-inputs .ensures) (c .enum-told2 .given .1)
-    ∙ sym (first-phases (a .t) (slotAt (a .pool .now) (a .size) (a .index)) (a .l .now) (a .x .now) (a .room))
+    ∙ sym (first-phases (a .t) (slotAt (a .pool .now) (a .at .size) (a .at .index)) (a .l .now) (a .x .now) (a .room))
 
 cast-has-inverse : tie.Need-cast-has-inverse
 cast-has-inverse c = search needs
@@ -35,7 +35,7 @@ unfolding fieldFits
 has-inverse-requires c κs =
     let a = c .before .before .before .before .before .before .before .args in
     let told = sym (c .before .before .before .check-inputs .ensures) ∙ ap checked (c .before .enum-told .given .1) in
-    let k = inputs-known (a .t) (slotAt (a .pool .now) (a .size) (a .index)) (a .l .now) (a .x .now) (a .room) told in
+    let k = inputs-known (a .t) (slotAt (a .pool .now) (a .at .size) (a .at .index)) (a .l .now) (a .x .now) (a .room) told in
     let f = k .0 .terms in
     (f .field, omega (arith, f .small), few (a .t) (f .sides) .few, k .1)
 
@@ -49,7 +49,7 @@ returns-2 c =
     let enum-told = c .before .before .before .enum-told in
     let a = c .before .before .before .before .before .before .before .before .before .args in
     (rw (c .before .has-inverse .ensures) at (c .need .ensures))
-    ∙ sym (first-phases (a .t) (slotAt (a .pool .now) (a .size) (a .index)) (a .l .now) (a .x .now) (a .room)
+    ∙ sym (first-phases (a .t) (slotAt (a .pool .now) (a .at .size) (a .at .index)) (a .l .now) (a .x .now) (a .room)
     ∙ goes-past (check-inputs .result) (check-inputs .ensures) (enum-told .given .1))
 
 pub check-spec : {M : Type 1} → statement M

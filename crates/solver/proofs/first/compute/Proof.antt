@@ -19,14 +19,14 @@ matrix-requires : tie.Need-matrix-requires
 matrix-requires c κs =
     let start = c .before .before .before .before in
     let a = start .args in
-    let s = slotAt (a .pool .now) (a .size) (a .index) in
+    let s = slotAt (a .pool .now) (a .at .size) (a .at .index) in
     (first-placed solver (a .t) s (first-known (a .t) s (a .l .now) (a .x .now) (length (a .out .now)) (start .pre) .first), omega arith)
 
 write-y1-requires : tie.Need-write-y1-requires
 write-y1-requires c κs =
     let start = c .before .before .before .before .before .before in
     let a = start .args in
-    let s = slotAt (a .pool .now) (a .size) (a .index) in
+    let s = slotAt (a .pool .now) (a .at .size) (a .at .index) in
     let f = first-known (a .t) s (a .l .now) (a .x .now) (length (a .out .now)) (start .pre) in (
       omega (arith, f .first .terms .big),
       f .first .terms .sides,

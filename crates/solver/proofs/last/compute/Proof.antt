@@ -19,14 +19,14 @@ use Rattle.solver.proofs.last.compute.Tie as tie
 
 known : (c : tie.Start) →
     let a = c .args in
-    let s = slotAt (a .pool .now) (a .size) (a .index) in
+    let s = slotAt (a .pool .now) (a .at .size) (a .at .index) in
     SolverFits 4 (a .s) s (messageWith (a .a) (a .residues .now)) (messageSize 5 (a .s .terms)) (length (a .out .now))
 known c =
     let a = c .args in
-    last-known (a .s) (slotAt (a .pool .now) (a .size) (a .index)) (messageWith (a .a) (a .residues .now)) (length (a .out .now)) (c .pre)
+    last-known (a .s) (slotAt (a .pool .now) (a .at .size) (a .at .index)) (messageWith (a .a) (a .residues .now)) (length (a .out .now)) (c .pre)
 
-place : (c : tie.Start) → Placed solver (c .args .s .terms) (slotAt (c .args .pool .now) (c .args .size) (c .args .index))
-place c = open-placed solver (c .args .s .terms) (slotAt (c .args .pool .now) (c .args .size) (c .args .index)) (known c .later .session-open)
+place : (c : tie.Start) → Placed solver (c .args .s .terms) (slotAt (c .args .pool .now) (c .args .at .size) (c .args .at .index))
+place c = open-placed solver (c .args .s .terms) (slotAt (c .args .pool .now) (c .args .at .size) (c .args .at .index)) (known c .later .session-open)
 
 times-requires : tie.Need-times-requires
 times-requires c κs = search needs
@@ -42,7 +42,7 @@ write-joint-requires c κs =
     let start = c .before .before .before .before .before .before .before in
     let a = start .args in
     let t = a .s .terms in
-    let s = slotAt (a .pool .now) (a .size) (a .index) in
+    let s = slotAt (a .pool .now) (a .at .size) (a .at .index) in
     let k = known start in
     let o = k .later .session-open in
     let n = last-counts (a .s) s (messageWith (a .a) (a .residues .now)) (length (a .out .now)) k in
@@ -88,7 +88,7 @@ find-t-requires c κs =
     let start = at .before .before .before .before .before in
     let a = start .args in
     let t = a .s .terms in
-    let s = slotAt (a .pool .now) (a .size) (a .index) in
+    let s = slotAt (a .pool .now) (a .at .size) (a .at .index) in
     let k = known start in
     let o = k .later .session-open in
     let n = last-counts (a .s) s (messageWith (a .a) (a .residues .now)) (length (a .out .now)) k in
@@ -117,7 +117,7 @@ returns c =
     let start = far .before .before .before .before .before .before .before .before in
     let a = start .args in
     let t = a .s .terms in
-    let s = slotAt (a .pool .now) (a .size) (a .index) in
+    let s = slotAt (a .pool .now) (a .at .size) (a .at .index) in
     let r = sum-residues t _ (a .residues .now) (omega (arith, known start .later .session-open .terms .big)) in
     let e = over-part (times .result) (sumOf t _ (a .residues .now)) _ (far .write-joint .ensures) (r .size ∙ sym (times .ensures)) in
     let found = c .before .before .before .find-t in

@@ -23,12 +23,12 @@ returns : tie.Need-returns
 returns c =
     let a = c .before .before .before .before .before .args in
     hands-on (c .before .before .check-arriving .result) _ (c .before .before .check-arriving .ensures) (c .enum-told2 .given .1)
-    ∙ sym (later-phases (a .kind) (a .sends) (a .s) (slotAt (a .pool .now) (a .size) (a .index)) (messageWith (a .a) (a .residues .now)) (a .room))
+    ∙ sym (later-phases (a .kind) (a .sends) (a .s) (slotAt (a .pool .now) (a .at .size) (a .at .index)) (messageWith (a .a) (a .residues .now)) (a .room))
 
 check-kept-requires : tie.Need-check-kept-requires
 check-kept-requires c κs =
     let a = c .before .before .before .before .before .args in
-    arriving-known (a .kind) (a .sends) (a .s) (slotAt (a .pool .now) (a .size) (a .index)) (messageWith (a .a) (a .residues .now)) (a .room)
+    arriving-known (a .kind) (a .sends) (a .s) (slotAt (a .pool .now) (a .at .size) (a .at .index)) (messageWith (a .a) (a .residues .now)) (a .room)
     (sym (c .before .before .check-arriving .ensures) ∙ ap checked (c .enum-told .given .1))
 
 returns-2 : tie.Need-returns-2
@@ -36,7 +36,7 @@ returns-2 c =
     let check-arriving = c .before .before .before .check-arriving in
     let a = c .before .before .before .before .before .before .args in
     c .check-kept .ensures
-    ∙ sym (later-phases (a .kind) (a .sends) (a .s) (slotAt (a .pool .now) (a .size) (a .index)) (messageWith (a .a) (a .residues .now)) (a .room)
+    ∙ sym (later-phases (a .kind) (a .sends) (a .s) (slotAt (a .pool .now) (a .at .size) (a .at .index)) (messageWith (a .a) (a .residues .now)) (a .room)
     ∙ goes-past (check-arriving .result) (check-arriving .ensures) (c .before .enum-told .given .1))
 
 pub check-spec : {M : Type 1} → statement M

@@ -22,14 +22,14 @@ use Rattle.solver.proofs.second.compute.Tie as tie
 
 known : (c : tie.Start) →
     let a = c .args in
-    let s = slotAt (a .pool .now) (a .size) (a .index) in
+    let s = slotAt (a .pool .now) (a .at .size) (a .at .index) in
     SolverFits 2 (a .s) s (messageWith (a .a) (a .residues .now)) (messageSize 3 (a .s .terms)) (length (a .out .now))
 known c =
     let a = c .args in
-    second-known (a .s) (slotAt (a .pool .now) (a .size) (a .index)) (messageWith (a .a) (a .residues .now)) (length (a .out .now)) (c .pre)
+    second-known (a .s) (slotAt (a .pool .now) (a .at .size) (a .at .index)) (messageWith (a .a) (a .residues .now)) (length (a .out .now)) (c .pre)
 
-place : (c : tie.Start) → Placed solver (c .args .s .terms) (slotAt (c .args .pool .now) (c .args .size) (c .args .index))
-place c = open-placed solver (c .args .s .terms) (slotAt (c .args .pool .now) (c .args .size) (c .args .index)) (known c .later .session-open)
+place : (c : tie.Start) → Placed solver (c .args .s .terms) (slotAt (c .args .pool .now) (c .args .at .size) (c .args .at .index))
+place c = open-placed solver (c .args .s .terms) (slotAt (c .args .pool .now) (c .args .at .size) (c .args .at .index)) (known c .later .session-open)
 
 times-requires : tie.Need-times-requires
 times-requires c κs = search needs
@@ -51,7 +51,7 @@ find-share-requires c κs =
     let start = c .before .before .before .before .before .before .before .before .before in
     let a = start .args in
     let t = a .s .terms in
-    let s = slotAt (a .pool .now) (a .size) (a .index) in
+    let s = slotAt (a .pool .now) (a .at .size) (a .at .index) in
     let k = known start in
     let o = k .later .session-open in
     let n = second-counts (a .s) s (messageWith (a .a) (a .residues .now)) (length (a .out .now)) k in (
@@ -92,7 +92,7 @@ finish-requires c κs =
     let start = at .before .before .before .before .before in
     let a = start .args in
     let t = a .s .terms in
-    let s = slotAt (a .pool .now) (a .size) (a .index) in
+    let s = slotAt (a .pool .now) (a .at .size) (a .at .index) in
     let k = known start in
     let o = k .later .session-open in
     let l = share-length t _ _ (a .residues .now) (few t (o .terms .sides) .whole) in

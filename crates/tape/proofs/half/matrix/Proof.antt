@@ -1,62 +1,67 @@
 -- `tape::half::matrix` meets its contract. Assumes nothing.
-use borrow.Author.Needs.{needs}
+use mathlib.Core.Path.{ap}
+use Prim.Native.Nat.{_≤_}
+use lib.ListN.{length}
 use Rattle.tape.specs.Ends.{role}
-use Rattle.tape.proofs.Matrices.{matrix-stands}
+use Rattle.tape.specs.Placed.{slotIn}
+use Rattle.tape.proofs.Matrices.{matrix-inside, matrix-is}
+use borrow.Author.Needs.{needs}
 use Rattle.tape.proofs.half.matrix.Statement.{statement}
 use Rattle.tape.proofs.half.matrix.Tie as tie
 
-matrix-start-requires : tie.Need-matrix-start-requires
-matrix-start-requires c κs = search needs
+matrix-at-requires : tie.Need-matrix-at-requires
+matrix-at-requires c κs = search needs
 
-add-matrix-start : tie.Need-add-matrix-start
-add-matrix-start c = search needs
+add-matrix-at : tie.Need-add-matrix-at
+add-matrix-at c = search needs
 
-matrix-start-requires-2 : tie.Need-matrix-start-requires-2
-matrix-start-requires-2 c κs = search needs
+matrix-at-requires-2 : tie.Need-matrix-at-requires-2
+matrix-at-requires-2 c κs = search needs
+
+slot-requires : tie.Need-slot-requires
+slot-requires c κs = search needs
+
+inside : (c : tie.After-slot) → (c .before .before .matrix-at .result ≤ c .before .matrix-at2 .result) × (c .before .matrix-at2 .result ≤ length (c .slot .result .now))
+inside c =
+    let start = c .before .before .before .before in
+    let a = start .args in
+    matrix-inside (role (a .end)) (a .t) (a .j) (slotIn (a .pool .now) (a .at)) (start .pre .0) (c .before .before .matrix-at .ensures) (c .before .matrix-at2 .ensures)
+    (ap length (c .slot .ensures))
 
 mul-result : tie.Need-mul-result
 mul-result c =
-    let start = c .before .before .before in
-    let a = start .args in
-    let m = matrix-stands (role (a .end)) (a .t) (a .j) (a .pool .now) (a .size) (a .index) (start .pre .0) (c .before .matrix-start .ensures) (c .matrix-start2 .ensures) in
+    let l = inside c in
     search needs
 
 sub-result : tie.Need-sub-result
 sub-result c =
-    let start = c .before .before .before in
-    let a = start .args in
-    let m = matrix-stands (role (a .end)) (a .t) (a .j) (a .pool .now) (a .size) (a .index) (start .pre .0) (c .before .matrix-start .ensures) (c .matrix-start2 .ensures) in
+    let l = inside c in
     search needs
 
 part-result-start : tie.Need-part-result-start
 part-result-start c =
-    let start = c .before .before .before in
-    let a = start .args in
-    let m = matrix-stands (role (a .end)) (a .t) (a .j) (a .pool .now) (a .size) (a .index) (start .pre .0) (c .before .matrix-start .ensures) (c .matrix-start2 .ensures) in
+    let l = inside c in
     search needs
 
 part-result-end : tie.Need-part-result-end
 part-result-end c =
-    let start = c .before .before .before in
-    let a = start .args in
-    let m = matrix-stands (role (a .end)) (a .t) (a .j) (a .pool .now) (a .size) (a .index) (start .pre .0) (c .before .matrix-start .ensures) (c .matrix-start2 .ensures) in
+    let l = inside c in
     search needs
 
 returns : tie.Need-returns
 returns c =
-    let start = c .before .before .before .before in
-    let a = start .args in
-    let m = matrix-stands (role (a .end)) (a .t) (a .j) (a .pool .now) (a .size) (a .index) (start .pre .0) (c .before .before .matrix-start .ensures)
-    (c .before .matrix-start2 .ensures) in
-    m .is
+    let at = c .before in
+    let a = at .before .before .before .before .args in
+    rw (at .before .matrix-at2 .ensures, at .before .before .matrix-at .ensures, at .slot .ensures) (matrix-is (role (a .end)) (a .t) (a .j) (slotIn (a .pool .now) (a .at)))
 
 pub matrix-spec : {M : Type 1} → statement M
 matrix-spec =
     tie.close
     (tie.spec
-    matrix-start-requires
-    add-matrix-start
-    matrix-start-requires-2
+    matrix-at-requires
+    add-matrix-at
+    matrix-at-requires-2
+    slot-requires
     mul-result
     sub-result
     part-result-start
