@@ -1,11 +1,12 @@
 -- Everything that a step's code leaves, as one term of the definition's outcome: a step's contract is one equation with it.
---   Leaves, leaves      all that a step leaves
---   Computed, computed  the same without the pool: what it computes where its tests passed, before the tape changes
+--   Leaves       all that a step leaves: `leaving` by the code, `leaves` by the definition
+--   Computed     the same without the pool, what it computes where its tests passed, before the tape changes: `computing` and `computed`
 -- Assumes nothing.
 use mathlib.Core.List.{List}
 use Prim.Native.Nat.{ℕ}
 use Rattle.algebra.specs.Words.{over}
 use Rattle.protocol.specs.declared.Head.{Head}
+use Rattle.protocol.specs.declared.Answer.{Answer}
 use Rattle.protocol.specs.Judge.{Reply}
 use Rattle.protocol.specs.Tape.{Slot}
 use Rattle.protocol.specs.Step.{answerReply, Effect, Outcome, answerAfter, sessionAfter, poolAfter, scratchAfter, sentAfter, resultAfter}
@@ -20,6 +21,11 @@ pub record Leaves (S : Type 0) : Type 0 where
   pub scratch : List ℕ
   pub sent : List ℕ
   pub result : List ℕ
+
+-- from what the code answered, and the lent slices as it left them
+abbrev pub leaving : {S : Type 0} → Answer → S → Head → (pool scratch sent result : List ℕ) → Leaves S
+leaving answer session head pool scratch sent result =
+    record { answer = answerReply answer; session = session; head = head; pool = pool; scratch = scratch; sent = sent; result = result }
 
 -- from the session, the slot and the lent slices as they were
 abbrev pub leaves : {S : Type 0} → S → Slot → (scratch sent result : List ℕ) → Outcome S → Leaves S
@@ -40,6 +46,11 @@ pub record Computed (S : Type 0) : Type 0 where
   pub scratch : List ℕ
   pub sent : List ℕ
   pub result : List ℕ
+
+-- from what the code answered, and the lent slices as it left them
+abbrev pub computing : {S : Type 0} → Answer → S → Head → (scratch sent result : List ℕ) → Computed S
+computing answer session head scratch sent result =
+    record { answer = answerReply answer; session = session; head = head; scratch = scratch; sent = sent; result = result }
 
 -- from the effect, and the lent slices as they were
 abbrev pub computed : {S : Type 0} → (scratch sent result : List ℕ) → Effect S → Computed S

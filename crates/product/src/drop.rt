@@ -12,8 +12,7 @@ ghost use mathlib.Core.List.{[]};
 ghost use Rattle.protocol.specs.Tape.{slotAt};
 ghost use Rattle.protocol.specs.Message.{noMessage};
 ghost use Rattle.protocol.specs.Drop.{dropRight};
-ghost use Rattle.protocol.specs.Step.{answerReply};
-ghost use Rattle.judging.specs.Leaves.{Leaves, leaves};
+ghost use Rattle.judging.specs.Leaves.{leaves, leaving};
 
 // What a drop answers, and the session as it then is.
 pub struct RightDropped {
@@ -22,9 +21,8 @@ pub struct RightDropped {
 }
 
 pub fn right_drop(pool: &mut [u32], size: usize, index: usize, s: RightSession) -> RightDropped
-    ensures { λ r. ⌜ _≡_ {A = Leaves RightSession}
-        (record { answer = answerReply (r .answer); session = r .session; head = noMessage .head; pool = now (pool .exit); scratch = []; sent = []; result = [] })
-        (leaves s (slotAt (now (pool .entry)) size index) [] [] [] (dropRight s (slotAt (now (pool .entry)) size index))) ⌝ }
+    ensures { λ r. ⌜ leaving (r .answer) (r .session) (noMessage .head) (now (pool .exit)) [] [] []
+        ≡ leaves s (slotAt (now (pool .entry)) size index) [] [] [] (dropRight s (slotAt (now (pool .entry)) size index)) ⌝ }
 {
     let at = Place { size, index };
     let t = s.terms;

@@ -27,10 +27,9 @@ ghost use Rattle.protocol.specs.Bounds.{inputTests, roomTests};
 ghost use Rattle.protocol.specs.Tape.{slotAt};
 ghost use Rattle.protocol.specs.Message.{messageSize};
 ghost use Rattle.protocol.specs.Product.{noRight, rightFirstEffect, rightFirstTests, rightFirst};
-ghost use Rattle.protocol.specs.Step.{answerReply};
 ghost use Rattle.tape.specs.Placed.{slotIn};
 ghost use Rattle.judging.specs.InOrder.{checked, judged};
-ghost use Rattle.judging.specs.Leaves.{Leaves, leaves, Computed, computed};
+ghost use Rattle.judging.specs.Leaves.{leaves, leaving, computed, computing};
 
 // Y, and room for the message.
 fn check_own(t: Terms, y: &[u32], room: usize) -> Check
@@ -52,9 +51,8 @@ fn check(pool: &[u32], at: Place, t: Terms, y: &[u32], room: usize) -> Check
 // Y1 goes into `out`; the session waits for kind 2.
 fn compute(pool: &[u32], at: Place, t: Terms, y: &[u32], out: &mut [u32]) -> RightAnswer
     requires { ⌜ judged (rightFirstTests t (slotIn (now pool) at) (now y) (length (now out))) ≡ done tt ⌝ }
-    ensures { λ r. ⌜ _≡_ {A = Computed RightSession}
-        (record { answer = answerReply (r .answer); session = r .session; head = r .head; scratch = []; sent = now (out .exit); result = [] })
-        (computed [] (now (out .entry)) [] (rightFirstEffect t (slotIn (now (pool .entry)) at) (now (y .entry)))) ⌝ }
+    ensures { λ r. ⌜ computing (r .answer) (r .session) (r .head) [] (now (out .exit)) []
+        ≡ computed [] (now (out .entry)) [] (rightFirstEffect t (slotIn (now (pool .entry)) at) (now (y .entry))) ⌝ }
 {
     let y0 = matrix(End::Right, t, 0, pool, at);
     subtract_residues(t.q, times(t.k, t.p), y, y0, out);
@@ -74,10 +72,9 @@ pub fn right_first(
     y: &[u32],
     out: &mut [u32],
 ) -> RightAnswer
-    ensures { λ r. ⌜ _≡_ {A = Leaves RightSession}
-        (record { answer = answerReply (r .answer); session = r .session; head = r .head; pool = now (pool .exit); scratch = []; sent = now (out .exit); result = [] })
-        (leaves noRight (slotAt (now (pool .entry)) size index) [] (now (out .entry)) []
-        (rightFirst t (slotAt (now (pool .entry)) size index) (now (y .entry)) (length (now (out .entry))))) ⌝ }
+    ensures { λ r. ⌜ leaving (r .answer) (r .session) (r .head) (now (pool .exit)) [] (now (out .exit)) []
+        ≡ leaves noRight (slotAt (now (pool .entry)) size index) [] (now (out .entry)) []
+        (rightFirst t (slotAt (now (pool .entry)) size index) (now (y .entry)) (length (now (out .entry)))) ⌝ }
 {
     let at = Place { size, index };
     let checked = check(pool, at, t, y, out.len());

@@ -25,10 +25,9 @@ ghost use Rattle.algebra.specs.Product.{rightShare};
 ghost use Rattle.protocol.specs.Judge.{done};
 ghost use Rattle.protocol.specs.Tape.{slotAt};
 ghost use Rattle.protocol.specs.Product.{rightLastEffect, rightLastTests, rightLast};
-ghost use Rattle.protocol.specs.Step.{answerReply};
 ghost use Rattle.tape.specs.Placed.{slotIn};
 ghost use Rattle.judging.specs.InOrder.{checked, judged};
-ghost use Rattle.judging.specs.Leaves.{Leaves, leaves, Computed, computed};
+ghost use Rattle.judging.specs.Leaves.{leaves, leaving, computed, computing};
 ghost use Rattle.product.specs.Shape.{Sharing};
 
 fn check(pool: &[u32], at: Place, s: RightSession, a: Head, residues: &[u32], share: usize) -> Check
@@ -70,9 +69,8 @@ fn compute(
     share: &mut [u32],
 ) -> RightAnswer
     requires { ⌜ judged (rightLastTests s (slotIn (now pool) at) (record { head = a; residues = now residues }) (length (now share))) ≡ done tt ⌝ }
-    ensures { λ r. ⌜ _≡_ {A = Computed RightSession}
-        (record { answer = answerReply (r .answer); session = r .session; head = r .head; scratch = []; sent = []; result = now (share .exit) })
-        (computed [] [] (now (share .entry)) (rightLastEffect s (slotIn (now (pool .entry)) at) (record { head = a; residues = now (residues .entry) }))) ⌝ }
+    ensures { λ r. ⌜ computing (r .answer) (r .session) (r .head) [] [] (now (share .exit))
+        ≡ computed [] [] (now (share .entry)) (rightLastEffect s (slotIn (now (pool .entry)) at) (record { head = a; residues = now (residues .entry) })) ⌝ }
 {
     let t = s.terms;
     let y0 = matrix(End::Right, t, 0, pool, at);
@@ -95,10 +93,9 @@ pub fn right_last(
     residues: &[u32],
     share: &mut [u32],
 ) -> RightAnswer
-    ensures { λ r. ⌜ _≡_ {A = Leaves RightSession}
-        (record { answer = answerReply (r .answer); session = r .session; head = r .head; pool = now (pool .exit); scratch = []; sent = []; result = now (share .exit) })
-        (leaves s (slotAt (now (pool .entry)) size index) [] [] (now (share .entry))
-        (rightLast s (slotAt (now (pool .entry)) size index) (record { head = a; residues = now (residues .entry) }) (length (now (share .entry))))) ⌝ }
+    ensures { λ r. ⌜ leaving (r .answer) (r .session) (r .head) (now (pool .exit)) [] [] (now (share .exit))
+        ≡ leaves s (slotAt (now (pool .entry)) size index) [] [] (now (share .entry))
+        (rightLast s (slotAt (now (pool .entry)) size index) (record { head = a; residues = now (residues .entry) }) (length (now (share .entry)))) ⌝ }
 {
     let at = Place { size, index };
     let checked = check(pool, at, s, a, residues, share.len());

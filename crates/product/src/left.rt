@@ -32,10 +32,9 @@ ghost use Rattle.protocol.specs.Bounds.{inputTests, roomTests};
 ghost use Rattle.protocol.specs.Tape.{slotAt};
 ghost use Rattle.protocol.specs.Message.{messageSize};
 ghost use Rattle.protocol.specs.Product.{leftEffect, leftTests, leftStep};
-ghost use Rattle.protocol.specs.Step.{answerReply};
 ghost use Rattle.tape.specs.Placed.{slotIn};
 ghost use Rattle.judging.specs.InOrder.{checked, judged};
-ghost use Rattle.judging.specs.Leaves.{Leaves, leaves, Computed, computed};
+ghost use Rattle.judging.specs.Leaves.{leaves, leaving, computed, computing};
 ghost use Rattle.product.specs.Shape.{Answering};
 
 // X, and room for the message and the share.
@@ -112,10 +111,9 @@ fn compute(
     share: &mut [u32],
 ) -> LeftAnswer
     requires { ⌜ judged (leftTests t (slotIn (now pool) at) (now x) (now words) (record { head = a; residues = now residues }) (length (now out)) (length (now share))) ≡ done tt ⌝ }
-    ensures { λ r. ⌜ _≡_ {A = Computed Unit}
-        (record { answer = answerReply (r .answer); session = tt; head = r .head; scratch = []; sent = now (out .exit); result = now (share .exit) })
-        (computed [] (now (out .entry)) (now (share .entry))
-        (leftEffect t (slotIn (now (pool .entry)) at) (now (x .entry)) (now (words .entry)) (record { head = a; residues = now (residues .entry) }))) ⌝ }
+    ensures { λ r. ⌜ computing (r .answer) tt (r .head) [] (now (out .exit)) (now (share .exit))
+        ≡ computed [] (now (out .entry)) (now (share .entry))
+        (leftEffect t (slotIn (now (pool .entry)) at) (now (x .entry)) (now (words .entry)) (record { head = a; residues = now (residues .entry) })) ⌝ }
 {
     let x0 = matrix(End::Left, t, 0, pool, at);
     let a0 = matrix(End::Left, t, 1, pool, at);
@@ -141,11 +139,10 @@ pub fn left_step(
     out: &mut [u32],
     share: &mut [u32],
 ) -> LeftAnswer
-    ensures { λ r. ⌜ _≡_ {A = Leaves Unit}
-        (record { answer = answerReply (r .answer); session = tt; head = r .head; pool = now (pool .exit); scratch = []; sent = now (out .exit); result = now (share .exit) })
-        (leaves tt (slotAt (now (pool .entry)) size index) [] (now (out .entry)) (now (share .entry))
+    ensures { λ r. ⌜ leaving (r .answer) tt (r .head) (now (pool .exit)) [] (now (out .exit)) (now (share .exit))
+        ≡ leaves tt (slotAt (now (pool .entry)) size index) [] (now (out .entry)) (now (share .entry))
         (leftStep t (slotAt (now (pool .entry)) size index) (now (x .entry)) (now (words .entry)) (record { head = a; residues = now (residues .entry) })
-        (length (now (out .entry))) (length (now (share .entry))))) ⌝ }
+        (length (now (out .entry))) (length (now (share .entry)))) ⌝ }
 {
     let at = Place { size, index };
     let room = out.len();

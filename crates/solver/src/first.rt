@@ -42,7 +42,7 @@ ghost use Rattle.protocol.specs.Step.{answerReply, firstTests};
 ghost use Rattle.protocol.specs.System.{noSolver, sideSize, solverFirstEffect, solverFirstTests, solverFirst};
 ghost use Rattle.tape.specs.Placed.{slotIn};
 ghost use Rattle.judging.specs.InOrder.{checked, judged};
-ghost use Rattle.judging.specs.Leaves.{Leaves, leaves, Computed, computed};
+ghost use Rattle.judging.specs.Leaves.{leaves, leaving, computed, computing};
 
 // All tests but that L has an inverse.
 fn check_inputs(pool: &[u32], at: Place, t: Terms, l: &[u32], x: &[u32], room: usize) -> Check
@@ -83,9 +83,8 @@ fn write_y1(t: Terms, l: &[u32], x: &[u32], y0: &[u32], out: &mut [u32])
 // Y1 goes into `out`; the session waits for kind 2.
 fn compute(pool: &[u32], at: Place, t: Terms, l: &[u32], x: &[u32], out: &mut [u32]) -> SolverAnswer
     requires { ⌜ judged (solverFirstTests t (slotIn (now pool) at) (now l) (now x) (length (now out))) ≡ done tt ⌝ }
-    ensures { λ r. ⌜ _≡_ {A = Computed SolverSession}
-        (record { answer = answerReply (r .answer); session = r .session; head = r .head; scratch = []; sent = now (out .exit); result = [] })
-        (computed [] (now (out .entry)) [] (solverFirstEffect t (slotIn (now (pool .entry)) at) (now (l .entry)) (now (x .entry)))) ⌝ }
+    ensures { λ r. ⌜ computing (r .answer) (r .session) (r .head) [] (now (out .exit)) []
+        ≡ computed [] (now (out .entry)) [] (solverFirstEffect t (slotIn (now (pool .entry)) at) (now (l .entry)) (now (x .entry))) ⌝ }
 {
     let y0 = matrix(End::Solver, t, 0, pool, at);
     write_y1(t, l, x, y0, out);
@@ -106,10 +105,9 @@ pub fn solver_first(
     x: &[u32],
     out: &mut [u32],
 ) -> SolverAnswer
-    ensures { λ r. ⌜ _≡_ {A = Leaves SolverSession}
-        (record { answer = answerReply (r .answer); session = r .session; head = r .head; pool = now (pool .exit); scratch = []; sent = now (out .exit); result = [] })
-        (leaves noSolver (slotAt (now (pool .entry)) size index) [] (now (out .entry)) []
-        (solverFirst t (slotAt (now (pool .entry)) size index) (now (l .entry)) (now (x .entry)) (length (now (out .entry))))) ⌝ }
+    ensures { λ r. ⌜ leaving (r .answer) (r .session) (r .head) (now (pool .exit)) [] (now (out .exit)) []
+        ≡ leaves noSolver (slotAt (now (pool .entry)) size index) [] (now (out .entry)) []
+        (solverFirst t (slotAt (now (pool .entry)) size index) (now (l .entry)) (now (x .entry)) (length (now (out .entry)))) ⌝ }
 {
     let at = Place { size, index };
     let checked = check(pool, at, t, l, x, out.len());

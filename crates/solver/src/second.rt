@@ -29,10 +29,9 @@ ghost use Rattle.protocol.specs.Bounds.{columns, sidesFit, system};
 ghost use Rattle.protocol.specs.Tape.{slotAt};
 ghost use Rattle.protocol.specs.Message.{messageWith};
 ghost use Rattle.protocol.specs.System.{padded, solverSecondEffect, solverSecondTests, solverSecond};
-ghost use Rattle.protocol.specs.Step.{answerReply};
 ghost use Rattle.tape.specs.Placed.{slotIn};
 ghost use Rattle.judging.specs.InOrder.{judged};
-ghost use Rattle.judging.specs.Leaves.{Leaves, leaves, Computed, computed};
+ghost use Rattle.judging.specs.Leaves.{leaves, leaving, computed, computing};
 ghost use Rattle.solver.specs.Formulas.{shareOf};
 
 // S, by the message's residues, Y0 and B0.
@@ -112,9 +111,8 @@ fn compute(
     out: &mut [u32],
 ) -> SolverAnswer
     requires { ⌜ judged (solverSecondTests s (slotIn (now pool) at) (messageWith a (now residues)) (length (now out))) ≡ done tt ⌝ }
-    ensures { λ r. ⌜ _≡_ {A = Computed SolverSession}
-        (record { answer = answerReply (r .answer); session = r .session; head = r .head; scratch = []; sent = now (out .exit); result = [] })
-        (computed [] (now (out .entry)) [] (solverSecondEffect s (slotIn (now (pool .entry)) at) (messageWith a (now (residues .entry))))) ⌝ }
+    ensures { λ r. ⌜ computing (r .answer) (r .session) (r .head) [] (now (out .exit)) []
+        ≡ computed [] (now (out .entry)) [] (solverSecondEffect s (slotIn (now (pool .entry)) at) (messageWith a (now (residues .entry)))) ⌝ }
 {
     let t = s.terms;
     let n = times(t.m, t.p);
@@ -136,10 +134,9 @@ pub fn solver_second(
     residues: &[u32],
     out: &mut [u32],
 ) -> SolverAnswer
-    ensures { λ r. ⌜ _≡_ {A = Leaves SolverSession}
-        (record { answer = answerReply (r .answer); session = r .session; head = r .head; pool = now (pool .entry); scratch = []; sent = now (out .exit); result = [] })
-        (leaves s (slotAt (now (pool .entry)) size index) [] (now (out .entry)) []
-        (solverSecond s (slotAt (now (pool .entry)) size index) (record { head = a; residues = now (residues .entry) }) (length (now (out .entry))))) ⌝ }
+    ensures { λ r. ⌜ leaving (r .answer) (r .session) (r .head) (now (pool .entry)) [] (now (out .exit)) []
+        ≡ leaves s (slotAt (now (pool .entry)) size index) [] (now (out .entry)) []
+        (solverSecond s (slotAt (now (pool .entry)) size index) (record { head = a; residues = now (residues .entry) }) (length (now (out .entry)))) ⌝ }
 {
     let at = Place { size, index };
     let checked = check(pool, at, 2, 3, s, a, residues, out.len());

@@ -100,7 +100,7 @@ find-t-requires c κs =
       o .terms .sides,
       rw e r,
       n .0,
-      kept-length (a .s .s) (start .good .1 .1 .1 .0 .1 .1 .1 .1 .0 .1 .0 .1),
+      kept-length (a .s .s) (start .good .1 .1 .0 .1 .1 .1 .1 .0 .1 .0 .1),
       omega (arith, n .1, one-side t (o .terms .sides)),
     )
 
