@@ -1,5 +1,5 @@
 -- What is known where tests passed.
---   eliminable, first-known, masking-known, first-computed, p-drawn, p-residues   step 2
+--   eliminable, first-known, masking-known, first-leaves, p-drawn, p-residues   step 2
 --   kept-known    the first phase of a later step
 --   second-known, coins-known, sending-known    step 4
 --   last-known    step 6
@@ -24,16 +24,16 @@ use Rattle.protocol.specs.declared.Answer.the-variants.{Accepted}
 use Rattle.protocol.specs.declared.Refusal.the-variants.{Size}
 use Rattle.protocol.specs.Judge.{needs, given, done}
 use Rattle.protocol.specs.Bounds.{sidesFit, system, fieldFits, inputTests, roomTests}
-use Rattle.protocol.specs.Tape.{Slot, slotWords, blinder, matrices}
+use Rattle.protocol.specs.Tape.{Slot, slotWords, poolWith, wordsInUse, blinder, matrices}
 use Rattle.protocol.specs.Message.{Message, messageSize, messageTests, dueTests}
 use Rattle.protocol.specs.Step.{answerReply, isOpen, firstTests, openTests, laterTests}
-use Rattle.protocol.specs.System.{padded, sideSize, scratchLayout, scratchSize, scratchParts, coinsOf, blinderFirstEffect, blinderFirstTests, blinderFirst, blinderSecondEffect, blinderSecondTests, blinderSecond, blinderLastEffect, blinderLastTests, blinderLast}
+use Rattle.protocol.specs.System.{padded, noBlinder, sideSize, scratchLayout, scratchSize, scratchParts, coinsOf, blinderFirstEffect, blinderFirstTests, blinderFirst, blinderSecondEffect, blinderSecondTests, blinderSecond, blinderLastEffect, blinderLastTests, blinderLast}
 use Rattle.protocol.specs.Drop.{dropBlinder}
 use Rattle.protocol.proofs.Judge.{passed, all-split, holds-given}
 use Rattle.protocol.proofs.Tests.{open-due, input-tests, room-tests, first-tests, later-tests}
 use Rattle.protocol.proofs.StepTests.{BlinderFirstFits, blinder-first, BlinderFits, blinder-second, blinder-last, DropBlinderFits, drop-blinder}
 use Rattle.judging.specs.InOrder.{judged}
-use Rattle.judging.specs.Leaves.{Computed, computed}
+use Rattle.judging.specs.Leaves.{Leaves, leaves}
 use Rattle.judging.proofs.InOrder.{accepted-by}
 use Rattle.judging.proofs.Fits.{open-placed}
 use Rattle.judging.proofs.KindLaws.{size-1, size-2, size-3, size-4, whole-message}
@@ -105,14 +105,15 @@ module _ (t : Terms) (s : Slot) (d mm y words : List ℕ) (a : Message) (room : 
           room = omega (arith, known .message-room, size-2 t, same);
         }
 
-    pub first-computed : {count : ℕ} {x : BlinderSession} {o : List ℕ} (out : List ℕ) → count ≡ wordsRead (t .q) n words
+    pub first-leaves : {count : ℕ} {x : BlinderSession} {o pool : List ℕ} (out : List ℕ) → count ≡ wordsRead (t .q) n words
         → x ≡ record { terms = t; due = 3; mm = padded 256 mm; y = padded 16 y } → o ≡ over (firstSent t (a .residues) l x0 a0) out
-        → _≡_ {A = Computed BlinderSession}
-        (record { answer = answerReply (Accepted count); session = x; head = record { kind = 2; terms = t }; scratch = l; sent = o; result = [] })
-        (computed d out [] (blinderFirstEffect t s mm y words a))
+        → pool ≡ poolWith s (wordsInUse (slotWords s))
+        → _≡_ {A = Leaves BlinderSession}
+        (record { answer = answerReply (Accepted count); session = x; head = record { kind = 2; terms = t }; pool = pool; scratch = l; sent = o; result = [] })
+        (leaves noBlinder s d out [] (done (blinderFirstEffect t s mm y words a)))
     unfolding firstSent blinderFirstEffect scratchParts scratchSize join over
-    first-computed out e f g =
-        rw (e, f, g, size, is-x, is-a, is-l, parts-over (scratchLayout t) d coins-residues)
+    first-leaves out e f g h =
+        rw (e, f, g, h, size, is-x, is-a, is-l, parts-over (scratchLayout t) d coins-residues)
         (simp (append-nil, whole-message t a (known .message .residues .size ∙ sym (size-1 t))))
 
 -- P by itself, drawn from the same words

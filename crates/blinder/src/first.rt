@@ -43,7 +43,7 @@ ghost use Rattle.protocol.specs.Message.{messageWith};
 ghost use Rattle.protocol.specs.System.{noBlinder, scratchSize, blinderFirstEffect, blinderFirstTests, blinderFirst};
 ghost use Rattle.protocol.specs.Step.{answerReply};
 ghost use Rattle.judging.specs.InOrder.{checked, judged, after};
-ghost use Rattle.judging.specs.Leaves.{Leaves, leaves, Computed, computed};
+ghost use Rattle.judging.specs.Leaves.{Leaves, leaves};
 ghost use Rattle.blinder.specs.First.{Eliminable, Masking, firstInputs, firstRegular, firstSent};
 
 // M and y, and room for the scratch and for the message.
@@ -124,9 +124,9 @@ fn send(t: Terms, y1: &[u32], scratch: &[u32], x0: &[u32], a0: &[u32], out: &mut
     write_reply(t.q, n, n, p, pm, y1, u0, a0, &mut out[square..]);
 }
 
-// P and U0 are drawn into the scratch, and the message goes into `out`. The session waits for kind 3.
+// P and U0 are drawn into the scratch, the message goes into `out`, and the half is taken up. The session waits for kind 3.
 fn compute(
-    pool: &[u32],
+    pool: &mut [u32],
     size: usize,
     index: usize,
     scratch: &mut [u32],
@@ -140,15 +140,17 @@ fn compute(
 ) -> BlinderAnswer
     requires { ⌜ judged (blinderFirstTests t (slotAt (now pool) size index) (length (now scratch)) (now mm) (now y) (now words)
         (messageWith a (now residues)) (length (now out))) ≡ done tt ⌝ }
-    ensures { λ r. ⌜ _≡_ {A = Computed BlinderSession}
-        (record { answer = answerReply (r .answer); session = r .session; head = r .head; scratch = now (scratch .exit); sent = now (out .exit); result = [] })
-        (computed (now (scratch .entry)) (now (out .entry)) []
-        (blinderFirstEffect t (slotAt (now (pool .entry)) size index) (now (mm .entry)) (now (y .entry)) (now (words .entry)) (messageWith a (now (residues .entry))))) ⌝ }
+    ensures { λ r. ⌜ _≡_ {A = Leaves BlinderSession}
+        (record { answer = answerReply (r .answer); session = r .session; head = r .head; pool = now (pool .exit); scratch = now (scratch .exit); sent = now (out .exit); result = [] })
+        (leaves noBlinder (slotAt (now (pool .entry)) size index) (now (scratch .entry)) (now (out .entry)) []
+        (done (blinderFirstEffect t (slotAt (now (pool .entry)) size index) (now (mm .entry)) (now (y .entry)) (now (words .entry))
+        (messageWith a (now (residues .entry)))))) ⌝ }
 {
     let count = draw(t.q, scratch_size(t), words, scratch);
     let x0 = matrix(End::Blinder, t, 0, pool, size, index);
     let a0 = matrix(End::Blinder, t, 1, pool, size, index);
     send(t, residues, scratch, x0, a0, out);
+    take_up_at(End::Blinder, t, pool, size, index);
     BlinderAnswer {
         answer: Answer::Accepted(count),
         session: opened(t, mm, y),
@@ -182,7 +184,7 @@ pub fn blinder_first(
     let Check::Passed = checked else {
         return refused(checked, no_session());
     };
-    let done = compute(
+    compute(
         pool,
         size,
         index,
@@ -194,7 +196,5 @@ pub fn blinder_first(
         a,
         residues,
         out,
-    );
-    take_up_at(End::Blinder, t, pool, size, index);
-    done
+    )
 }
