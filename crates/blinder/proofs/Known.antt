@@ -1,7 +1,7 @@
 -- What is known where tests passed.
 --   eliminable, first-known, masking-known, first-leaves, p-drawn, p-residues   step 2
 --   kept-known    the first phase of a later step
---   second-known, coins-known, sending-known    step 4
+--   second-known, sending-known, second-leaves   step 4
 --   last-known    step 6
 --   drop-known    a drop that is accepted
 -- Assumes nothing.
@@ -10,7 +10,7 @@ use mathlib.Core.Bool.{Bool, true}
 use mathlib.Core.List.{List, [], _∷_, _++_, append-nil}
 use Prim.Native.Nat.{ℕ, _*_, _≤_, _<_}
 use native.Mathlib.Omega.{arith}
-use lib.ListN.{length}
+use lib.ListN.{length, take}
 use lib.Seq.{take-take}
 use borrow.Author.Tests.{le-leb}
 use Rattle.protocol.specs.Drawing.{residuesOf, drawn, wordsRead, drawTests}
@@ -27,7 +27,7 @@ use Rattle.protocol.specs.Bounds.{sidesFit, system, fieldFits, inputTests, room
 use Rattle.protocol.specs.Tape.{Slot, slotWords, poolWith, wordsInUse, blinder, matrices}
 use Rattle.protocol.specs.Message.{Message, messageSize, messageTests, dueTests}
 use Rattle.protocol.specs.Step.{answerReply, isOpen, firstTests, openTests, laterTests}
-use Rattle.protocol.specs.System.{padded, noBlinder, sideSize, scratchLayout, scratchSize, scratchParts, coinsOf, blinderFirstEffect, blinderFirstTests, blinderFirst, blinderSecondEffect, blinderSecondTests, blinderSecond, blinderLastEffect, blinderLastTests, blinderLast}
+use Rattle.protocol.specs.System.{padded, noBlinder, sideSize, keptM, keptY, scratchLayout, scratchSize, scratchParts, coinsOf, blinderFirstEffect, blinderFirstTests, blinderFirst, blinderSecondEffect, blinderSecondTests, blinderSecond, blinderLastEffect, blinderLastTests, blinderLast}
 use Rattle.protocol.specs.Drop.{dropBlinder}
 use Rattle.protocol.proofs.Judge.{passed, all-split, holds-given}
 use Rattle.protocol.proofs.Tests.{open-due, input-tests, room-tests, first-tests, later-tests}
@@ -35,15 +35,16 @@ use Rattle.protocol.proofs.StepTests.{BlinderFirstFits, blinder-first, BlinderF
 use Rattle.judging.specs.InOrder.{judged}
 use Rattle.judging.specs.Leaves.{Leaves, leaves}
 use Rattle.judging.proofs.InOrder.{accepted-by}
-use Rattle.judging.proofs.Fits.{open-placed}
 use Rattle.judging.proofs.KindLaws.{size-1, size-2, size-3, size-4, whole-message}
-use Rattle.protocol.proofs.CompletionLaws.{first-of, second-of}
+use Rattle.protocol.proofs.CompletionLaws.{first-of, second-of, third-of, fourth-of}
 use Rattle.vectors.proofs.Written.{after-over}
 use Rattle.tape.proofs.Sides.{unknowns}
+use Rattle.tape.proofs.Slots.{same-pool}
 use Rattle.blinder.specs.First.{Eliminable, Masking, firstInputs, firstNumbers, firstSent}
 use Rattle.blinder.specs.Later.{laterOpen}
-use Rattle.blinder.specs.Second.{Coins, Sending}
+use Rattle.blinder.specs.Second.{Sending, secondSent}
 use Rattle.blinder.proofs.Kept.{square-is, scratch-sum}
+use Rattle.blinder.proofs.Sent.{f-part}
 
 module _ (t : Terms) (s : Slot) (scratch : ℕ) (mm y : List ℕ) (a : Message) (room : ℕ) where
   pub eliminable : judged (firstNumbers t s scratch mm y a room) ≡ done tt → Eliminable t mm
@@ -147,27 +148,45 @@ module _ (x : BlinderSession) (s : Slot) (a : Message) where
   second-known scratch room h =
       blinder-second x s scratch a room .means (accepted-by (blinderSecondTests x s scratch a room) (blinderSecondEffect x s scratch a) h) .0
 
-  -- what the second step's writers ask
-  pub coins-known : {scratch : List ℕ} {room y : ℕ} → y ≡ sideSize (x .terms) → BlinderFits 3 x s scratch a (messageSize 4 (x .terms)) room
-      → Coins (x .terms) (length scratch) y
-  coins-known e f =
-      let o = f .later .session-open in
-      record { some-q = omega (arith, o .terms .big); small-q = omega (arith, o .terms .small); sides = o .terms .sides; lent = f .scratch-room; kept-y = e }
-
-  pub sending-known : {scratch : List ℕ} {room mm : ℕ} → mm ≡ x .terms .m * x .terms .m → BlinderFits 3 x s scratch a (messageSize 4 (x .terms)) room
-      → Sending (x .terms) s (length scratch) mm (length (a .residues)) room
+-- step 4, by the half's matrices, and by what the session keeps
+module _ (x : BlinderSession) (s : Slot) (a : Message) {scratch : List ℕ} {room : ℕ} (known : BlinderFits 3 x s scratch a (messageSize 4 (x .terms)) room)
+    {qm g : List ℕ} (is-q : qm ≡ part 2 (matrices blinder (x .terms) (slotWords s))) (is-g : g ≡ part 3 (matrices blinder (x .terms) (slotWords s))) where
+  pub sending-known : {mm y : ℕ} → mm ≡ x .terms .m * x .terms .m → y ≡ sideSize (x .terms)
+      → Sending (x .terms) mm y (length (a .residues)) (length scratch) (length qm) (length g) room
+  unfolding sideSize
   sending-known e f =
-      let o = f .later .session-open in
-      let same = square-is (x .terms) (o .terms .sides) in
+      let o = known .later .session-open .terms in
+      let same = square-is (x .terms) (o .sides) in
       record {
-        some-q = omega (arith, o .terms .big);
-        small-q = omega (arith, o .terms .small);
-        placed = open-placed blinder (x .terms) s o;
-        lent = f .scratch-room;
+        some-q = omega (arith, o .big);
+        small-q = omega (arith, o .small);
+        sides = o .sides;
         kept-m = e;
-        full = omega (arith, f .message .residues .size, size-3 (x .terms), same);
-        room = omega (arith, f .write-room, size-4 (x .terms), same);
+        kept-y = f;
+        full = omega (arith, known .message .residues .size, size-3 (x .terms), same);
+        lent = known .scratch-room;
+        half-q = ap length is-q ∙ (third-of (known .later .matrices-fit) .size ∙ same);
+        half-g = ap length is-g ∙ (fourth-of (known .later .matrices-fit) .size ∙ same);
+        room = omega (arith, known .write-room, size-4 (x .terms), same);
       }
+
+  pub second-leaves : {n r : ℕ} {o : List ℕ} (out : List ℕ) → n ≡ x .terms .m * x .terms .m → r ≡ sideSize (x .terms)
+      → o ≡ over (secondSent (x .terms) (take n (x .mm)) (take r (x .y)) (a .residues) scratch qm g) out
+      → _≡_ {A = Leaves BlinderSession}
+      (record {
+        answer = answerReply (Accepted 0);
+        session = record { terms = x .terms; due = 5; mm = x .mm; y = x .y };
+        head = record { kind = 4; terms = x .terms };
+        pool = s .pool;
+        scratch = scratch;
+        sent = o;
+        result = [];
+      })
+      (leaves x s scratch out [] (done (blinderSecondEffect x s scratch a)))
+  unfolding secondSent blinderSecondEffect keptM keptY join over
+  second-leaves out e f h =
+      rw (h, e, f, is-q, is-g, same-pool s (known .later .session-open .half .inside))
+      (simp (append-nil, f-part (x .terms) a (known .message .residues .size ∙ sym (size-3 (x .terms)))))
 
 pub drop-known : (x : BlinderSession) (s : Slot) (scratch : List ℕ)
     → judged (openTests blinder (x .due) (x .terms) s ++ given (isOpen (x .due)) (roomTests (scratchSize (x .terms)) (length scratch))) ≡ done tt
