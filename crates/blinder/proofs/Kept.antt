@@ -1,7 +1,7 @@
 -- Arrays that hold a vector or a matrix at their start, and the sizes that a system's sides bound.
 --   zero-array, kept-array   an array of zeros, and one that a list was copied into
 --   side-bound .. wide-enough, scratch-sum   the sizes
---   p-stands, u0-stands      P and U0, as parts of the scratch
+--   p-stands, u0-stands, p-length, u0-length   P and U0, as parts of the scratch
 -- Assumes nothing.
 use mathlib.Core.Path.{_≡_, refl, ap, _∙_}
 use mathlib.Core.Bool.{true}
@@ -9,7 +9,8 @@ use mathlib.Core.List.{List, [], _∷_}
 use Prim.Native.Nat.{ℕ, zero, suc, _+_, _-_, _*_, _≤_, _<_}
 use native.Mathlib.Nat.{mul-le-mul}
 use native.Mathlib.Omega.{arith}
-use lib.ListN.{length, getD, replicate, take, drop}
+use lib.ListN.{length, getD, replicate, take, drop, length-drop}
+use lib.Seq.{length-take-le}
 use Rattle.algebra.specs.Count.{part, parts}
 use Rattle.algebra.specs.Matrix.{tabulate, zeros}
 use Rattle.algebra.specs.Words.{over}
@@ -96,3 +97,12 @@ module _ (t : Terms) (scratch : List ℕ) where
   u0-stands {square} {coins} e f =
       let n : coins - square ≡ t .m * t .p = omega arith in
       rw (n, e)
+
+  -- how many words each has
+  pub p-length : {pm : List ℕ} → scratchSize t ≤ length scratch → pm ≡ part 0 (scratchParts t scratch) → length pm ≡ t .m * t .m
+  unfolding scratchParts parts
+  p-length h e = ap length e ∙ length-take-le _ scratch (omega (arith, scratch-sum t))
+
+  pub u0-length : {u0 : List ℕ} → scratchSize t ≤ length scratch → u0 ≡ part 1 (scratchParts t scratch) → length u0 ≡ t .m * t .p
+  unfolding scratchParts parts
+  u0-length h e = ap length e ∙ length-take-le _ (drop (t .m * t .m) scratch) (omega (arith, scratch-sum t, length-drop (t .m * t .m) scratch))

@@ -1,43 +1,50 @@
 -- What is known where tests passed.
---   eliminable, first-known, p-drawn, p-residues   step 2
+--   eliminable, first-known, masking-known, first-leaves, p-drawn, p-residues   step 2
 --   kept-known    the first phase of a later step
---   second-known, coins-known, sending-known    step 4
+--   second-known, sending-known, second-leaves   step 4
 --   last-known    step 6
 --   drop-known    a drop that is accepted
 -- Assumes nothing.
-use mathlib.Core.Path.{_≡_, sym}
+use mathlib.Core.Path.{_≡_, sym, ap, _∙_}
 use mathlib.Core.Bool.{Bool, true}
-use mathlib.Core.List.{List, [], _∷_, _++_}
+use mathlib.Core.List.{List, [], _∷_, _++_, append-nil}
 use Prim.Native.Nat.{ℕ, _*_, _≤_, _<_}
 use native.Mathlib.Omega.{arith}
-use lib.ListN.{length}
+use lib.ListN.{length, take}
 use lib.Seq.{take-take}
 use borrow.Author.Tests.{le-leb}
-use Rattle.protocol.specs.Drawing.{residuesOf, drawn, drawTests}
-use Rattle.protocol.proofs.Residues.{residues-drawn}
-use Rattle.algebra.specs.Count.{part, parts}
+use Rattle.protocol.specs.Drawing.{residuesOf, drawn, wordsRead, drawTests}
+use Rattle.protocol.proofs.Residues.{residues-drawn, parts-over}
+use Rattle.algebra.specs.Count.{part, parts, join}
 use Rattle.algebra.specs.Matrix.{Residues}
+use Rattle.algebra.specs.Words.{over}
 use Rattle.protocol.specs.declared.Terms.{Terms}
 use Rattle.protocol.specs.declared.BlinderSession.{BlinderSession}
+use Rattle.protocol.specs.declared.Answer.the-variants.{Accepted}
 use Rattle.protocol.specs.declared.Refusal.the-variants.{Size}
 use Rattle.protocol.specs.Judge.{needs, given, done}
 use Rattle.protocol.specs.Bounds.{sidesFit, system, fieldFits, inputTests, roomTests}
-use Rattle.protocol.specs.Tape.{Slot, blinder}
+use Rattle.protocol.specs.Tape.{Slot, slotWords, poolWith, wordsInUse, blinder, matrices}
 use Rattle.protocol.specs.Message.{Message, messageSize, messageTests, dueTests}
-use Rattle.protocol.specs.Step.{isOpen, firstTests, openTests, laterTests}
-use Rattle.protocol.specs.System.{sideSize, scratchSize, scratchParts, coinsOf, blinderFirstEffect, blinderFirstTests, blinderFirst, blinderSecondEffect, blinderSecondTests, blinderSecond, blinderLastEffect, blinderLastTests, blinderLast}
+use Rattle.protocol.specs.Step.{answerReply, isOpen, firstTests, openTests, laterTests}
+use Rattle.protocol.specs.System.{padded, noBlinder, sideSize, keptM, keptY, scratchLayout, scratchSize, scratchParts, coinsOf, blinderFirstEffect, blinderFirstTests, blinderFirst, blinderSecondEffect, blinderSecondTests, blinderSecond, blinderLastEffect, blinderLastTests, blinderLast}
 use Rattle.protocol.specs.Drop.{dropBlinder}
 use Rattle.protocol.proofs.Judge.{passed, all-split, holds-given}
 use Rattle.protocol.proofs.Tests.{open-due, input-tests, room-tests, first-tests, later-tests}
 use Rattle.protocol.proofs.StepTests.{BlinderFirstFits, blinder-first, BlinderFits, blinder-second, blinder-last, DropBlinderFits, drop-blinder}
 use Rattle.judging.specs.InOrder.{judged}
+use Rattle.judging.specs.Leaves.{Leaves, leaves}
 use Rattle.judging.proofs.InOrder.{accepted-by}
-use Rattle.judging.proofs.Fits.{open-placed}
-use Rattle.judging.proofs.KindLaws.{size-3, size-4}
-use Rattle.blinder.specs.First.{Eliminable, firstInputs, firstNumbers}
+use Rattle.judging.proofs.KindLaws.{size-1, size-2, size-3, size-4, whole-message}
+use Rattle.protocol.proofs.CompletionLaws.{first-of, second-of, third-of, fourth-of}
+use Rattle.vectors.proofs.Written.{after-over}
+use Rattle.tape.proofs.Sides.{unknowns}
+use Rattle.tape.proofs.Slots.{same-pool}
+use Rattle.blinder.specs.First.{Eliminable, Masking, firstInputs, firstNumbers, firstSent}
 use Rattle.blinder.specs.Later.{laterOpen}
-use Rattle.blinder.specs.Second.{Coins, Sending}
+use Rattle.blinder.specs.Second.{Sending, secondSent}
 use Rattle.blinder.proofs.Kept.{square-is, scratch-sum}
+use Rattle.blinder.proofs.Sent.{f-part}
 
 module _ (t : Terms) (s : Slot) (scratch : ℕ) (mm y : List ℕ) (a : Message) (room : ℕ) where
   pub eliminable : judged (firstNumbers t s scratch mm y a room) ≡ done tt → Eliminable t mm
@@ -66,14 +73,54 @@ module _ (t : Terms) (s : Slot) (scratch : ℕ) (mm y : List ℕ) (a : Message) 
       blinder-first t s scratch mm y words a room .means
       (accepted-by (blinderFirstTests t s scratch mm y words a room) (blinderFirstEffect t s mm y words a) h) .0
 
+pub p-residues : (q n : ℕ) (words : List ℕ) → 0 < q → n ≤ length (residuesOf q words) → Residues q n (drawn q n words)
+unfolding drawTests
+p-residues q n words h e = residues-drawn q n words h (le-leb _ _ e, tt)
+
+-- what the writer of step 2 asks, of a half's matrices and of a scratch that the coins were drawn over
+module _ (t : Terms) (s : Slot) (d mm y words : List ℕ) (a : Message) (room : ℕ) (known : BlinderFirstFits t s (length d) mm y words a room) where
+  coins-residues : Residues (t .q) (scratchSize t) (coinsOf t words)
+  unfolding coinsOf
+  coins-residues = p-residues (t .q) (scratchSize t) words (omega (arith, known .first .terms .big)) (known .enough)
+
+  module _ {x0 a0 l : List ℕ} {n : ℕ} (is-x : x0 ≡ part 0 (matrices blinder t (slotWords s))) (is-a : a0 ≡ part 1 (matrices blinder t (slotWords s)))
+      (size : n ≡ scratchSize t) (drawn-over : l ≡ over (drawn (t .q) n words) d) where
+    is-l : l ≡ over (coinsOf t words) d
+    unfolding coinsOf
+    is-l = rw size at drawn-over
+
+    pub masking-known : Masking t (length (a .residues)) (length l) (length x0) (length a0) room
+    masking-known =
+        let o = known .first .terms in
+        let same = square-is t (o .sides) in
+        let long : t .k * t .p ≡ t .m * t .p = ap (λ (k : ℕ). k * t .p) (unknowns (t .m) (t .k) (t .p) (o .sides) .square) in
+        let c = coins-residues .size in
+        record {
+          some-q = omega (arith, o .big);
+          small-q = omega (arith, o .small);
+          sides = o .sides;
+          full = known .message .residues .size ∙ (sym (size-1 t) ∙ long);
+          lent = omega (arith, after-over (coinsOf t words) d is-l (omega (arith, c, known .scratch-room)), known .scratch-room);
+          half-x = ap length is-x ∙ (first-of (known .first .matrices-fit) .size ∙ same);
+          half-a = ap length is-a ∙ second-of (known .first .matrices-fit) .size;
+          room = omega (arith, known .message-room, size-2 t, same);
+        }
+
+    pub first-leaves : {count : ℕ} {x : BlinderSession} {o pool : List ℕ} (out : List ℕ) → count ≡ wordsRead (t .q) n words
+        → x ≡ record { terms = t; due = 3; mm = padded 256 mm; y = padded 16 y } → o ≡ over (firstSent t (a .residues) l x0 a0) out
+        → pool ≡ poolWith s (wordsInUse (slotWords s))
+        → _≡_ {A = Leaves BlinderSession}
+        (record { answer = answerReply (Accepted count); session = x; head = record { kind = 2; terms = t }; pool = pool; scratch = l; sent = o; result = [] })
+        (leaves noBlinder s d out [] (done (blinderFirstEffect t s mm y words a)))
+    unfolding firstSent blinderFirstEffect scratchParts scratchSize join over
+    first-leaves out e f g h =
+        rw (e, f, g, h, size, is-x, is-a, is-l, parts-over (scratchLayout t) d coins-residues)
+        (simp (append-nil, whole-message t a (known .message .residues .size ∙ sym (size-1 t))))
+
 -- P by itself, drawn from the same words
 pub p-drawn : (t : Terms) (words : List ℕ) → drawn (t .q) (t .m * t .m) words ≡ part 0 (scratchParts t (coinsOf t words))
 unfolding coinsOf drawn scratchParts parts
 p-drawn t words = sym (take-take (t .m * t .m) (scratchSize t) (residuesOf (t .q) words) (omega (arith, scratch-sum t)))
-
-pub p-residues : (q n : ℕ) (words : List ℕ) → 0 < q → n ≤ length (residuesOf q words) → Residues q n (drawn q n words)
-unfolding drawTests
-p-residues q n words h e = residues-drawn q n words h (le-leb _ _ e, tt)
 
 module _ (x : BlinderSession) (s : Slot) (a : Message) where
   pub kept-known : (step : ℕ) (fits : Bool) (scratch : ℕ) → judged (laterOpen step fits x s scratch a) ≡ done tt
@@ -101,27 +148,45 @@ module _ (x : BlinderSession) (s : Slot) (a : Message) where
   second-known scratch room h =
       blinder-second x s scratch a room .means (accepted-by (blinderSecondTests x s scratch a room) (blinderSecondEffect x s scratch a) h) .0
 
-  -- what the second step's writers ask
-  pub coins-known : {scratch : List ℕ} {room y : ℕ} → y ≡ sideSize (x .terms) → BlinderFits 3 x s scratch a (messageSize 4 (x .terms)) room
-      → Coins (x .terms) (length scratch) y
-  coins-known e f =
-      let o = f .later .session-open in
-      record { some-q = omega (arith, o .terms .big); small-q = omega (arith, o .terms .small); sides = o .terms .sides; lent = f .scratch-room; kept-y = e }
-
-  pub sending-known : {scratch : List ℕ} {room mm : ℕ} → mm ≡ x .terms .m * x .terms .m → BlinderFits 3 x s scratch a (messageSize 4 (x .terms)) room
-      → Sending (x .terms) s (length scratch) mm (length (a .residues)) room
+-- step 4, by the half's matrices, and by what the session keeps
+module _ (x : BlinderSession) (s : Slot) (a : Message) {scratch : List ℕ} {room : ℕ} (known : BlinderFits 3 x s scratch a (messageSize 4 (x .terms)) room)
+    {qm g : List ℕ} (is-q : qm ≡ part 2 (matrices blinder (x .terms) (slotWords s))) (is-g : g ≡ part 3 (matrices blinder (x .terms) (slotWords s))) where
+  pub sending-known : {mm y : ℕ} → mm ≡ x .terms .m * x .terms .m → y ≡ sideSize (x .terms)
+      → Sending (x .terms) mm y (length (a .residues)) (length scratch) (length qm) (length g) room
+  unfolding sideSize
   sending-known e f =
-      let o = f .later .session-open in
-      let same = square-is (x .terms) (o .terms .sides) in
+      let o = known .later .session-open .terms in
+      let same = square-is (x .terms) (o .sides) in
       record {
-        some-q = omega (arith, o .terms .big);
-        small-q = omega (arith, o .terms .small);
-        placed = open-placed blinder (x .terms) s o;
-        lent = f .scratch-room;
+        some-q = omega (arith, o .big);
+        small-q = omega (arith, o .small);
+        sides = o .sides;
         kept-m = e;
-        full = omega (arith, f .message .residues .size, size-3 (x .terms), same);
-        room = omega (arith, f .write-room, size-4 (x .terms), same);
+        kept-y = f;
+        full = omega (arith, known .message .residues .size, size-3 (x .terms), same);
+        lent = known .scratch-room;
+        half-q = ap length is-q ∙ (third-of (known .later .matrices-fit) .size ∙ same);
+        half-g = ap length is-g ∙ (fourth-of (known .later .matrices-fit) .size ∙ same);
+        room = omega (arith, known .write-room, size-4 (x .terms), same);
       }
+
+  pub second-leaves : {n r : ℕ} {o : List ℕ} (out : List ℕ) → n ≡ x .terms .m * x .terms .m → r ≡ sideSize (x .terms)
+      → o ≡ over (secondSent (x .terms) (take n (x .mm)) (take r (x .y)) (a .residues) scratch qm g) out
+      → _≡_ {A = Leaves BlinderSession}
+      (record {
+        answer = answerReply (Accepted 0);
+        session = record { terms = x .terms; due = 5; mm = x .mm; y = x .y };
+        head = record { kind = 4; terms = x .terms };
+        pool = s .pool;
+        scratch = scratch;
+        sent = o;
+        result = [];
+      })
+      (leaves x s scratch out [] (done (blinderSecondEffect x s scratch a)))
+  unfolding secondSent blinderSecondEffect keptM keptY join over
+  second-leaves out e f h =
+      rw (h, e, f, is-q, is-g, same-pool s (known .later .session-open .half .inside))
+      (simp (append-nil, f-part (x .terms) a (known .message .residues .size ∙ sym (size-3 (x .terms)))))
 
 pub drop-known : (x : BlinderSession) (s : Slot) (scratch : List ℕ)
     → judged (openTests blinder (x .due) (x .terms) s ++ given (isOpen (x .due)) (roomTests (scratchSize (x .terms)) (length scratch))) ≡ done tt

@@ -3,12 +3,12 @@
 --   firstInputs    the step's own tests of it
 --   firstRegular   the last phase: M and P
 --   Eliminable     M can be eliminated
---   Masking        the half has its place, and the coins are drawn
---   firstX, firstR, firstSent   X1, R1, and the message's residues
+--   Masking        Y1, the scratch, and X0 and A0 of the half, by the terms: how many words each has
+--   firstSent      the message's residues
 use mathlib.Core.Path.{_≡_}
 use mathlib.Core.Bool.{true}
 use mathlib.Core.List.{List, _++_}
-use Prim.Native.Nat.{ℕ, _*_, _<_}
+use Prim.Native.Nat.{ℕ, _+_, _*_, _≤_, _<_}
 use Rattle.algebra.specs.Count.{part}
 use Rattle.algebra.specs.Matrix.{Residues}
 use Rattle.algebra.specs.Prime.{isPrime}
@@ -16,11 +16,10 @@ use Rattle.algebra.specs.Product.{sendX, sendR}
 use Rattle.protocol.specs.declared.Terms.{Terms}
 use Rattle.protocol.specs.Judge.{Test}
 use Rattle.protocol.specs.Bounds.{sidesFit, system, inputTests, roomTests}
-use Rattle.protocol.specs.Tape.{Slot, slotWords, blinder, matrices}
+use Rattle.protocol.specs.Tape.{Slot, blinder}
 use Rattle.protocol.specs.Message.{Message, messageSize, messageTests, dueTests}
 use Rattle.protocol.specs.Step.{firstTests}
 use Rattle.protocol.specs.System.{sideSize, scratchSize, scratchParts, coinsOf, regularTests}
-use Rattle.tape.specs.Placed.{Placed}
 
 unfoldable pub firstInputs : Terms → (mm y : List ℕ) (scratch room : ℕ) → List Test
 firstInputs t mm y scratch room =
@@ -39,19 +38,18 @@ pub record Eliminable (t : Terms) (mm : List ℕ) : Type 0 where
   pub sides : sidesFit system (t .m) (t .k) (t .p) ≡ true
   pub residues : Residues (t .q) (t .m * t .m) mm
 
-pub record Masking (t : Terms) (s : Slot) (coins : ℕ) : Type 0 where
+pub record Masking (t : Terms) (y1 scratch x0 a0 out : ℕ) : Type 0 where
   pub some-q : 0 < t .q
   pub small-q : t .q < 2147483648
-  pub placed : Placed blinder t s
-  pub drawn : coins ≡ scratchSize t
+  pub sides : sidesFit system (t .m) (t .k) (t .p) ≡ true
+  pub full : y1 ≡ t .m * t .p
+  pub lent : scratchSize t ≤ scratch
+  pub half-x : x0 ≡ t .m * t .m
+  pub half-a : a0 ≡ t .m * t .p
+  pub room : t .m * t .m + t .m * t .p ≤ out
 
--- P and U0 stand in the coins
-unfoldable pub firstX : Terms → Slot → (coins : List ℕ) → List ℕ
-firstX t s coins = sendX (t .q) (t .m) (t .m) (t .p) (part 0 (scratchParts t coins)) (part 0 (matrices blinder t (slotWords s)))
-
-unfoldable pub firstR : Terms → Slot → (y1 coins : List ℕ) → List ℕ
-firstR t s y1 coins =
-    sendR (t .q) (t .m) (t .m) (t .p) (part 0 (scratchParts t coins)) y1 (part 1 (scratchParts t coins)) (part 1 (matrices blinder t (slotWords s)))
-
-unfoldable pub firstSent : Terms → Slot → (y1 coins : List ℕ) → List ℕ
-firstSent t s y1 coins = firstX t s coins ++ firstR t s y1 coins
+-- P and U0 stand in the scratch
+unfoldable pub firstSent : Terms → (y1 scratch x0 a0 : List ℕ) → List ℕ
+firstSent t y1 scratch x0 a0 =
+    sendX (t .q) (t .m) (t .m) (t .p) (part 0 (scratchParts t scratch)) x0
+    ++ sendR (t .q) (t .m) (t .m) (t .p) (part 0 (scratchParts t scratch)) y1 (part 1 (scratchParts t scratch)) a0

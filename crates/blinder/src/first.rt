@@ -3,6 +3,8 @@
 //   compute        the message and the scratch
 //   blinder_first  the step
 use crate::BlinderAnswer;
+use crate::drawn_p;
+use crate::drawn_u0;
 use crate::no_session;
 use crate::opened;
 use crate::refused;
@@ -16,6 +18,7 @@ use judging::message::side_size;
 use judging::need;
 use judging::received::check_coins;
 use judging::step::check_first_received;
+use judging::step::check_input;
 use judging::worst;
 use matrix::write_reply;
 use protocol::Answer;
@@ -24,35 +27,24 @@ use protocol::Refusal;
 use protocol::Terms;
 use tape::End;
 use tape::change::take_up_at;
-use tape::half::matrix_start;
-use vectors::all_below;
+use tape::half::matrix;
 use vectors::times;
 use vectors::write_sum;
 ghost use mathlib.Core.Path.{_≡_};
 ghost use mathlib.Core.List.{[]};
-ghost use Prim.Native.Nat.{_+_, _*_, _≤_};
+ghost use Prim.Native.Nat.{_≤_};
 ghost use lib.ListN.{length};
 ghost use Rattle.algebra.specs.Words.{over};
 ghost use Rattle.protocol.specs.declared.BlinderSession.{BlinderSession};
 ghost use Rattle.protocol.specs.Judge.{done};
-ghost use Rattle.protocol.specs.Bounds.{inputTests};
 ghost use Rattle.protocol.specs.Drawing.{residuesOf, drawTests};
 ghost use Rattle.protocol.specs.Tape.{slotAt};
 ghost use Rattle.protocol.specs.Message.{messageWith};
 ghost use Rattle.protocol.specs.System.{noBlinder, scratchSize, blinderFirstEffect, blinderFirstTests, blinderFirst};
 ghost use Rattle.protocol.specs.Step.{answerReply};
 ghost use Rattle.judging.specs.InOrder.{checked, judged, after};
-ghost use Rattle.judging.specs.Leaves.{Leaves, leaves, Computed, computed};
-ghost use Rattle.blinder.specs.First.{Eliminable, Masking, firstInputs, firstRegular, firstX, firstR, firstSent};
-
-// A slice of n residues.
-fn check_input(q: u32, n: usize, l: &[u32]) -> Check
-    ensures { λ r. ⌜ checked r ≡ judged (inputTests q n (now (l .entry))) ⌝ }
-{
-    let size = need(Refusal::Size, l.len() == n);
-    let residues = need(Refusal::Residue, all_below(q, l));
-    worst(size, residues)
-}
+ghost use Rattle.judging.specs.Leaves.{Leaves, leaves};
+ghost use Rattle.blinder.specs.First.{Eliminable, Masking, firstInputs, firstRegular, firstSent};
 
 // M and y, and room for the scratch and for the message.
 fn check_inputs(t: Terms, mm: &[u32], y: &[u32], scratch: usize, room: usize) -> Check
@@ -117,71 +109,24 @@ fn check(
     check_drawn(t, mm, words)
 }
 
-// X1 = P + X0.
-fn send_x(pool: &[u32], size: usize, index: usize, t: Terms, coins: &[u32], out: &mut [u32])
-    requires { ⌜ Masking t (slotAt (now pool) size index) (length (now coins)) × (t .m * t .m ≤ length (now out)) ⌝ }
-    ensures { λ _. ⌜ now (out .exit) ≡ over (firstX t (slotAt (now (pool .entry)) size index) (now (coins .entry))) (now (out .entry)) ⌝ }
-{
-    let square = times(t.m, t.m);
-    let from = matrix_start(End::Blinder, t, 0, pool, size, index);
-    let stop = matrix_start(End::Blinder, t, 1, pool, size, index);
-    write_sum(t.q, square, &coins[..square], &pool[from..stop], out);
-}
-
-// R1 = P × Y1 − U0 − A0.
-fn send_r(
-    pool: &[u32],
-    size: usize,
-    index: usize,
-    t: Terms,
-    y1: &[u32],
-    coins: &[u32],
-    out: &mut [u32],
-)
-    requires { ⌜ Masking t (slotAt (now pool) size index) (length (now coins)) × (length (now y1) ≡ t .m * t .p) × (t .m * t .p ≤ length (now out)) ⌝ }
-    ensures { λ _. ⌜ now (out .exit) ≡ over (firstR t (slotAt (now (pool .entry)) size index) (now (y1 .entry)) (now (coins .entry))) (now (out .entry)) ⌝ }
+// X1 = P + X0 and then R1 = P × Y1 − U0 − A0; the scratch has P and U0.
+fn send(t: Terms, y1: &[u32], scratch: &[u32], x0: &[u32], a0: &[u32], out: &mut [u32])
+    requires { ⌜ Masking t (length (now y1)) (length (now scratch)) (length (now x0)) (length (now a0)) (length (now out)) ⌝ }
+    ensures { λ _. ⌜ now (out .exit) ≡ over (firstSent t (now (y1 .entry)) (now (scratch .entry)) (now (x0 .entry)) (now (a0 .entry)))
+        (now (out .entry)) ⌝ }
 {
     let n = t.m as usize;
     let p = t.p as usize;
     let square = times(t.m, t.m);
-    let both = scratch_size(t);
-    let from = matrix_start(End::Blinder, t, 1, pool, size, index);
-    let stop = matrix_start(End::Blinder, t, 2, pool, size, index);
-    write_reply(
-        t.q,
-        n,
-        n,
-        p,
-        &coins[..square],
-        y1,
-        &coins[square..both],
-        &pool[from..stop],
-        out,
-    );
+    let pm = drawn_p(t, scratch);
+    let u0 = drawn_u0(t, scratch);
+    write_sum(t.q, square, pm, x0, out);
+    write_reply(t.q, n, n, p, pm, y1, u0, a0, &mut out[square..]);
 }
 
-// X1 and then R1.
-fn send(
-    pool: &[u32],
-    size: usize,
-    index: usize,
-    t: Terms,
-    y1: &[u32],
-    coins: &[u32],
-    out: &mut [u32],
-)
-    requires { ⌜ Masking t (slotAt (now pool) size index) (length (now coins)) × (length (now y1) ≡ t .m * t .p)
-        × (t .m * t .m + t .m * t .p ≤ length (now out)) ⌝ }
-    ensures { λ _. ⌜ now (out .exit) ≡ over (firstSent t (slotAt (now (pool .entry)) size index) (now (y1 .entry)) (now (coins .entry))) (now (out .entry)) ⌝ }
-{
-    let square = times(t.m, t.m);
-    send_x(pool, size, index, t, coins, out);
-    send_r(pool, size, index, t, y1, coins, &mut out[square..]);
-}
-
-// P and U0 are drawn into the scratch, and the message goes into `out`. The session waits for kind 3.
+// P and U0 are drawn into the scratch, the message goes into `out`, and the half is taken up. The session waits for kind 3.
 fn compute(
-    pool: &[u32],
+    pool: &mut [u32],
     size: usize,
     index: usize,
     scratch: &mut [u32],
@@ -195,14 +140,17 @@ fn compute(
 ) -> BlinderAnswer
     requires { ⌜ judged (blinderFirstTests t (slotAt (now pool) size index) (length (now scratch)) (now mm) (now y) (now words)
         (messageWith a (now residues)) (length (now out))) ≡ done tt ⌝ }
-    ensures { λ r. ⌜ _≡_ {A = Computed BlinderSession}
-        (record { answer = answerReply (r .answer); session = r .session; head = r .head; scratch = now (scratch .exit); sent = now (out .exit); result = [] })
-        (computed (now (scratch .entry)) (now (out .entry)) []
-        (blinderFirstEffect t (slotAt (now (pool .entry)) size index) (now (mm .entry)) (now (y .entry)) (now (words .entry)) (messageWith a (now (residues .entry))))) ⌝ }
+    ensures { λ r. ⌜ _≡_ {A = Leaves BlinderSession}
+        (record { answer = answerReply (r .answer); session = r .session; head = r .head; pool = now (pool .exit); scratch = now (scratch .exit); sent = now (out .exit); result = [] })
+        (leaves noBlinder (slotAt (now (pool .entry)) size index) (now (scratch .entry)) (now (out .entry)) []
+        (done (blinderFirstEffect t (slotAt (now (pool .entry)) size index) (now (mm .entry)) (now (y .entry)) (now (words .entry))
+        (messageWith a (now (residues .entry)))))) ⌝ }
 {
-    let coins = scratch_size(t);
-    let count = draw(t.q, coins, words, scratch);
-    send(pool, size, index, t, residues, &scratch[..coins], out);
+    let count = draw(t.q, scratch_size(t), words, scratch);
+    let x0 = matrix(End::Blinder, t, 0, pool, size, index);
+    let a0 = matrix(End::Blinder, t, 1, pool, size, index);
+    send(t, residues, scratch, x0, a0, out);
+    take_up_at(End::Blinder, t, pool, size, index);
     BlinderAnswer {
         answer: Answer::Accepted(count),
         session: opened(t, mm, y),
@@ -236,7 +184,7 @@ pub fn blinder_first(
     let Check::Passed = checked else {
         return refused(checked, no_session());
     };
-    let done = compute(
+    compute(
         pool,
         size,
         index,
@@ -248,7 +196,5 @@ pub fn blinder_first(
         a,
         residues,
         out,
-    );
-    take_up_at(End::Blinder, t, pool, size, index);
-    done
+    )
 }

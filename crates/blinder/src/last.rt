@@ -15,7 +15,7 @@ use protocol::BlinderSession;
 use protocol::Head;
 use tape::End;
 use tape::change::spend_at;
-use tape::half::matrix_start;
+use tape::half::matrix;
 ghost use mathlib.Core.Path.{_≡_};
 ghost use mathlib.Core.List.{[]};
 ghost use lib.ListN.{length};
@@ -25,7 +25,7 @@ ghost use Rattle.protocol.specs.Message.{messageWith};
 ghost use Rattle.protocol.specs.System.{blinderLastEffect, blinderLastTests, blinderLast};
 ghost use Rattle.protocol.specs.Step.{answerReply};
 ghost use Rattle.judging.specs.InOrder.{checked, judged};
-ghost use Rattle.judging.specs.Leaves.{Leaves, leaves, Computed, computed};
+ghost use Rattle.judging.specs.Leaves.{Leaves, leaves};
 
 fn check(
     pool: &[u32],
@@ -44,9 +44,9 @@ fn check(
     later::check(5, fits, pool, size, index, scratch, s, a, residues)
 }
 
-// z goes into `out`.
+// z goes into `out`, and the half is spent.
 fn compute(
-    pool: &[u32],
+    pool: &mut [u32],
     size: usize,
     index: usize,
     scratch: &mut [u32],
@@ -56,17 +56,17 @@ fn compute(
     out: &mut [u32],
 ) -> BlinderAnswer
     requires { ⌜ judged (blinderLastTests s (slotAt (now pool) size index) (now scratch) (messageWith a (now residues)) (length (now out))) ≡ done tt ⌝ }
-    ensures { λ r. ⌜ _≡_ {A = Computed BlinderSession}
-        (record { answer = answerReply (r .answer); session = r .session; head = r .head; scratch = now (scratch .exit); sent = []; result = now (out .exit) })
-        (computed (now (scratch .entry)) [] (now (out .entry))
-        (blinderLastEffect s (slotAt (now (pool .entry)) size index) (now (scratch .entry)) (messageWith a (now (residues .entry))))) ⌝ }
+    ensures { λ r. ⌜ _≡_ {A = Leaves BlinderSession}
+        (record { answer = answerReply (r .answer); session = r .session; head = r .head; pool = now (pool .exit); scratch = now (scratch .exit); sent = []; result = now (out .exit) })
+        (leaves s (slotAt (now (pool .entry)) size index) (now (scratch .entry)) [] (now (out .entry))
+        (done (blinderLastEffect s (slotAt (now (pool .entry)) size index) (now (scratch .entry)) (messageWith a (now (residues .entry)))))) ⌝ }
 {
     let t = s.terms;
     let n = t.m as usize;
     let rhs = (t.p - t.m) as usize;
-    let from = matrix_start(End::Blinder, t, 2, pool, size, index);
-    let stop = matrix_start(End::Blinder, t, 3, pool, size, index);
-    write_product(t.q, n, n, rhs, &pool[from..stop], residues, out);
+    let qm = matrix(End::Blinder, t, 2, pool, size, index);
+    write_product(t.q, n, n, rhs, qm, residues, out);
+    spend_at(End::Blinder, t, pool, size, index);
     BlinderAnswer {
         answer: Answer::Accepted(0),
         session: forget(t, scratch),
@@ -94,7 +94,5 @@ pub fn blinder_last(
     let Check::Passed = checked else {
         return refused(checked, s);
     };
-    let done = compute(pool, size, index, scratch, s, a, residues, out);
-    spend_at(End::Blinder, s.terms, pool, size, index);
-    done
+    compute(pool, size, index, scratch, s, a, residues, out)
 }

@@ -7,6 +7,7 @@
 //   refused, no_session   what a refused step answers and leaves
 //   opened, closed        the sessions, which keep M and y; forget zeroes the scratch too
 //   scratch_size, scratch_fits   how many residues P and U0 have, and room for them
+//   drawn_p, drawn_u0     P and U0, which stand in the scratch
 // For hosts: blinder_first, blinder_second, blinder_last, blinder_drop.
 mod drop;
 mod first;
@@ -35,11 +36,12 @@ ghost use mathlib.Core.Bool.{true};
 ghost use Prim.Native.Nat.{_≤_};
 ghost use lib.Dec.{leb};
 ghost use lib.ListN.{length};
+ghost use Rattle.algebra.specs.Count.{part};
 ghost use Rattle.algebra.specs.Matrix.{zeros};
 ghost use Rattle.algebra.specs.Words.{over};
 ghost use Rattle.protocol.specs.Bounds.{sidesFit, system};
 ghost use Rattle.protocol.specs.Message.{noMessage};
-ghost use Rattle.protocol.specs.System.{padded, noBlinder, scratchSize};
+ghost use Rattle.protocol.specs.System.{padded, noBlinder, scratchSize, scratchParts};
 ghost use Rattle.judging.specs.InOrder.{answerOf};
 
 // The session is as handed over where the step is refused; `head` is that of the message it sends.
@@ -134,6 +136,25 @@ fn scratch_fits(t: Terms, room: usize) -> bool
         return false;
     }
     times(t.m, t.p) <= room - square
+}
+
+// P of the scratch.
+fn drawn_p(t: Terms, scratch: &[u32]) -> &[u32]
+    requires { ⌜ (sidesFit system (t .m) (t .k) (t .p) ≡ true) × (scratchSize t ≤ length (now scratch)) ⌝ }
+    ensures { λ r. ⌜ now r ≡ part 0 (scratchParts t (now (scratch .entry))) ⌝ }
+{
+    let square = times(t.m, t.m);
+    &scratch[..square]
+}
+
+// U0 of the scratch, which stands behind P.
+fn drawn_u0(t: Terms, scratch: &[u32]) -> &[u32]
+    requires { ⌜ (sidesFit system (t .m) (t .k) (t .p) ≡ true) × (scratchSize t ≤ length (now scratch)) ⌝ }
+    ensures { λ r. ⌜ now r ≡ part 1 (scratchParts t (now (scratch .entry))) ⌝ }
+{
+    let square = times(t.m, t.m);
+    let both = scratch_size(t);
+    &scratch[square..both]
 }
 
 // P and U0 are zeroed, and M and y are kept no longer: the session that is left.

@@ -3,11 +3,12 @@
 //   compute         the message, by send
 //   blinder_second  the step
 use crate::BlinderAnswer;
+use crate::drawn_p;
+use crate::drawn_u0;
 use crate::formula::write_c;
 use crate::formula::write_w;
 use crate::later;
 use crate::refused;
-use crate::scratch_size;
 use judging::Check;
 use judging::message::has_room;
 use judging::message::side_size;
@@ -16,21 +17,20 @@ use protocol::BlinderSession;
 use protocol::Head;
 use protocol::Terms;
 use tape::End;
-use tape::half::matrix_start;
+use tape::half::matrix;
 use vectors::times;
 ghost use mathlib.Core.Path.{_≡_};
 ghost use mathlib.Core.List.{[]};
-ghost use Prim.Native.Nat.{_+_, _*_, _≤_};
 ghost use lib.ListN.{length};
 ghost use Rattle.algebra.specs.Words.{over};
 ghost use Rattle.protocol.specs.Judge.{done};
 ghost use Rattle.protocol.specs.Tape.{slotAt};
 ghost use Rattle.protocol.specs.Message.{messageWith};
-ghost use Rattle.protocol.specs.System.{sideSize, blinderSecondEffect, blinderSecondTests, blinderSecond};
+ghost use Rattle.protocol.specs.System.{blinderSecondEffect, blinderSecondTests, blinderSecond};
 ghost use Rattle.protocol.specs.Step.{answerReply};
 ghost use Rattle.judging.specs.InOrder.{checked, judged};
-ghost use Rattle.judging.specs.Leaves.{Leaves, leaves, Computed, computed};
-ghost use Rattle.blinder.specs.Second.{Sending, Coins, secondW, secondC, secondSent};
+ghost use Rattle.judging.specs.Leaves.{Leaves, leaves};
+ghost use Rattle.blinder.specs.Second.{Sending, secondSent};
 
 fn check(
     pool: &[u32],
@@ -49,82 +49,28 @@ fn check(
     later::check(3, fits, pool, size, index, scratch, s, a, residues)
 }
 
-// W, from Q and G of the half; the scratch has P and then U0.
-fn send_w(
-    pool: &[u32],
-    size: usize,
-    index: usize,
-    scratch: &[u32],
-    t: Terms,
-    mm: &[u32],
-    f: &[u32],
-    out: &mut [u32],
-)
-    requires { ⌜ Sending t (slotAt (now pool) size index) (length (now scratch)) (length (now mm)) (length (now f)) (length (now out)) ⌝ }
-    ensures { λ _. ⌜ now (out .exit) ≡ over (secondW t (slotAt (now (pool .entry)) size index) (now (scratch .entry)) (now (mm .entry))
-        (now (f .entry))) (now (out .entry)) ⌝ }
-{
-    let n = t.m as usize;
-    let rhs = (t.p - t.m) as usize;
-    let square = times(t.m, t.m);
-    let coins = scratch_size(t);
-    let from = matrix_start(End::Blinder, t, 2, pool, size, index);
-    let middle = matrix_start(End::Blinder, t, 3, pool, size, index);
-    let stop = matrix_start(End::Blinder, t, 4, pool, size, index);
-    write_w(
-        t.q,
-        n,
-        rhs,
-        &scratch[square..coins],
-        f,
-        &pool[from..middle],
-        &scratch[..square],
-        mm,
-        &pool[middle..stop],
-        out,
-    );
-}
-
-// c, from the scratch and y.
-fn send_c(t: Terms, scratch: &[u32], y: &[u32], out: &mut [u32])
-    requires { ⌜ Coins t (length (now scratch)) (length (now y)) × (sideSize t ≤ length (now out)) ⌝ }
-    ensures { λ _. ⌜ now (out .exit) ≡ over (secondC t (now (scratch .entry)) (now (y .entry))) (now (out .entry)) ⌝ }
-{
-    let n = t.m as usize;
-    let rhs = (t.p - t.m) as usize;
-    let square = times(t.m, t.m);
-    let coins = scratch_size(t);
-    write_c(
-        t.q,
-        n,
-        rhs,
-        &scratch[square..coins],
-        &scratch[..square],
-        y,
-        out,
-    );
-}
-
-// W and then c.
+// W and then c; Q and G are the half's, F is the message, and the scratch has P and U0.
 fn send(
-    pool: &[u32],
-    size: usize,
-    index: usize,
-    scratch: &[u32],
     t: Terms,
     mm: &[u32],
     y: &[u32],
     f: &[u32],
+    scratch: &[u32],
+    qm: &[u32],
+    g: &[u32],
     out: &mut [u32],
 )
-    requires { ⌜ Sending t (slotAt (now pool) size index) (length (now scratch)) (length (now mm)) (length (now f)) (length (now out))
-        × Coins t (length (now scratch)) (length (now y)) × (t .m * t .m + sideSize t ≤ length (now out)) ⌝ }
-    ensures { λ _. ⌜ now (out .exit) ≡ over (secondSent t (slotAt (now (pool .entry)) size index) (now (scratch .entry)) (now (mm .entry))
-        (now (y .entry)) (now (f .entry))) (now (out .entry)) ⌝ }
+    requires { ⌜ Sending t (length (now mm)) (length (now y)) (length (now f)) (length (now scratch)) (length (now qm)) (length (now g)) (length (now out)) ⌝ }
+    ensures { λ _. ⌜ now (out .exit) ≡ over (secondSent t (now (mm .entry)) (now (y .entry)) (now (f .entry)) (now (scratch .entry)) (now (qm .entry))
+        (now (g .entry))) (now (out .entry)) ⌝ }
 {
+    let n = t.m as usize;
+    let rhs = (t.p - t.m) as usize;
     let square = times(t.m, t.m);
-    send_w(pool, size, index, scratch, t, mm, f, out);
-    send_c(t, scratch, y, &mut out[square..]);
+    let pm = drawn_p(t, scratch);
+    let u0 = drawn_u0(t, scratch);
+    write_w(t.q, n, rhs, u0, f, qm, pm, mm, g, out);
+    write_c(t.q, n, rhs, u0, pm, y, &mut out[square..]);
 }
 
 // The message goes into `out`; the session waits for kind 5.
@@ -139,27 +85,19 @@ fn compute(
     out: &mut [u32],
 ) -> BlinderAnswer
     requires { ⌜ judged (blinderSecondTests s (slotAt (now pool) size index) (now scratch) (messageWith a (now residues)) (length (now out))) ≡ done tt ⌝ }
-    ensures { λ r. ⌜ _≡_ {A = Computed BlinderSession}
-        (record { answer = answerReply (r .answer); session = r .session; head = r .head; scratch = now (scratch .entry); sent = now (out .exit); result = [] })
-        (computed (now (scratch .entry)) (now (out .entry)) []
-        (blinderSecondEffect s (slotAt (now (pool .entry)) size index) (now (scratch .entry)) (messageWith a (now (residues .entry))))) ⌝ }
+    ensures { λ r. ⌜ _≡_ {A = Leaves BlinderSession}
+        (record { answer = answerReply (r .answer); session = r .session; head = r .head; pool = now (pool .entry); scratch = now (scratch .entry); sent = now (out .exit); result = [] })
+        (leaves s (slotAt (now (pool .entry)) size index) (now (scratch .entry)) (now (out .entry)) []
+        (done (blinderSecondEffect s (slotAt (now (pool .entry)) size index) (now (scratch .entry)) (messageWith a (now (residues .entry)))))) ⌝ }
 {
     let t = s.terms;
     let mm = s.mm;
     let y = s.y;
     let square = times(t.m, t.m);
     let side = side_size(t);
-    send(
-        pool,
-        size,
-        index,
-        scratch,
-        t,
-        &mm[..square],
-        &y[..side],
-        residues,
-        out,
-    );
+    let qm = matrix(End::Blinder, t, 2, pool, size, index);
+    let g = matrix(End::Blinder, t, 3, pool, size, index);
+    send(t, &mm[..square], &y[..side], residues, scratch, qm, g, out);
     BlinderAnswer {
         answer: Answer::Accepted(0),
         session: BlinderSession {

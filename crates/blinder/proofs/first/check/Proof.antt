@@ -20,6 +20,15 @@ check-inputs-requires c κs = search needs
 worst-requires : tie.Need-worst-requires
 worst-requires c κs = search needs
 
+abbrev start : tie.After-worst → tie.Start
+start c = c .before .before .before .before .before .before .before .before
+
+-- what was told of the first phase
+told : (c : tie.After-worst) → let a = (start c) .args in checked (c .worst .result)
+    ≡ judged (firstNumbers (a .t) (slotAt (a .pool .now) (a .size) (a .index)) (a .scratch) (a .mm .now) (a .y .now) (messageWith (a .a) (a .residues .now)) (a .room))
+unfolding firstNumbers
+told c = also _ _ (c .worst .ensures) (c .before .before .check-first-received .ensures) (c .before .check-inputs .ensures)
+
 enum-told : tie.Need-enum-told
 enum-told c = search needs
 
@@ -27,40 +36,24 @@ enum-told-2 : tie.Need-enum-told-2
 enum-told-2 c = search needs
 
 returns : tie.Need-returns
-unfolding firstNumbers
 returns c =
-    let told = c .before .before .before .before in
-    let a = told .before .before .before .before .before .before .args in
-    let s = slotAt (a .pool .now) (a .size) (a .index) in
-    let m = messageWith (a .a) (a .residues .now) in
-    let known : checked (c .before .before .worst .result) ≡ judged (firstNumbers (a .t) s (a .scratch) (a .mm .now) (a .y .now) m (a .room)) =
-    also _ _ (c .before .before .worst .ensures) (told .check-first-received .ensures) (c .before .before .before .check-inputs .ensures) in
-    hands-on (c .before .before .worst .result) _ known (c .enum-told2 .given .1) ∙ sym
-    (first-phases (a .t) s (a .scratch) (a .mm .now) (a .y .now) (a .words .now) m (a .room))
+    let a = (start (c .before .before)) .args in
+    hands-on (c .before .before .worst .result) _ (told (c .before .before)) (c .enum-told2 .given .1)
+    ∙ sym (first-phases (a .t) (slotAt (a .pool .now) (a .size) (a .index)) (a .scratch) (a .mm .now) (a .y .now) (a .words .now)
+    (messageWith (a .a) (a .residues .now)) (a .room))
 
 check-drawn-requires : tie.Need-check-drawn-requires
-unfolding firstNumbers
 check-drawn-requires c κs =
-    let told = c .before .before .before .before in
-    let a = told .before .before .before .before .before .before .args in
-    let s = slotAt (a .pool .now) (a .size) (a .index) in
-    let m = messageWith (a .a) (a .residues .now) in
-    let known : checked (c .before .before .worst .result) ≡ judged (firstNumbers (a .t) s (a .scratch) (a .mm .now) (a .y .now) m (a .room)) =
-    also _ _ (c .before .before .worst .ensures) (told .check-first-received .ensures) (c .before .before .before .check-inputs .ensures) in
-    eliminable (a .t) s (a .scratch) (a .mm .now) (a .y .now) m (a .room) (sym known ∙ ap checked (c .enum-told .given .1))
+    let a = (start (c .before .before)) .args in
+    eliminable (a .t) _ (a .scratch) (a .mm .now) (a .y .now) _ (a .room) (sym (told (c .before .before)) ∙ ap checked (c .enum-told .given .1))
 
 returns-2 : tie.Need-returns-2
-unfolding firstNumbers
 returns-2 c =
-    let told = c .before .before .before .before in
-    let a = told .before .before .before .before .before .before .before .args in
-    let s = slotAt (a .pool .now) (a .size) (a .index) in
-    let m = messageWith (a .a) (a .residues .now) in
-    let known : checked (c .before .before .before .worst .result) ≡ judged (firstNumbers (a .t) s (a .scratch) (a .mm .now) (a .y .now) m (a .room)) =
-    also _ _ (c .before .before .before .worst .ensures) (told .before .check-first-received .ensures) (told .check-inputs .ensures) in
+    let a = (start (c .before .before .before)) .args in
     c .check-drawn .ensures
-    ∙ sym (first-phases (a .t) s (a .scratch) (a .mm .now) (a .y .now) (a .words .now) m (a .room) ∙ goes-past
-    (c .before .before .before .worst .result) known (c .before .enum-told .given .1))
+    ∙ sym (first-phases (a .t) (slotAt (a .pool .now) (a .size) (a .index)) (a .scratch) (a .mm .now) (a .y .now) (a .words .now)
+    (messageWith (a .a) (a .residues .now)) (a .room)
+    ∙ goes-past (c .before .before .before .worst .result) (told (c .before .before .before)) (c .before .enum-told .given .1))
 
 pub check-spec : {M : Type 1} → statement M
 check-spec =

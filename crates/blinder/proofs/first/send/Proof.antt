@@ -1,60 +1,92 @@
 -- `blinder::first::send` meets its contract. Assumes nothing.
 use mathlib.Core.Path.{sym, _∙_}
+use Prim.Native.Nat.{_*_}
 use native.Mathlib.Omega.{arith}
-use Rattle.protocol.specs.Tape.{slotAt}
-use Rattle.vectors.proofs.Written.{part-then}
+use Rattle.algebra.specs.Product.{sendX, sendR}
+use Rattle.algebra.proofs.Lists.{add-residues}
+use Rattle.vectors.proofs.Written.{after-over, part-then}
+use Rattle.tape.proofs.Sides.{unknowns}
 use Rattle.blinder.specs.First.{firstSent}
-use Rattle.blinder.proofs.Start.{x-length, x-after}
+use Rattle.blinder.proofs.Kept.{wide-bound, p-length, u0-length}
 use borrow.Author.Needs.{needs}
 use Rattle.blinder.proofs.first.send.Statement.{statement}
 use Rattle.blinder.proofs.first.send.Tie as tie
 
+cast-n : tie.Need-cast-n
+cast-n c = search needs
+
+cast-p : tie.Need-cast-p
+cast-p c = search needs
+
 times-requires : tie.Need-times-requires
 times-requires c κs = search needs
 
-send-x-requires : tie.Need-send-x-requires
-send-x-requires c κs = search needs
+drawn-p-requires : tie.Need-drawn-p-requires
+drawn-p-requires c κs = search needs
 
-mul-send-r : tie.Need-mul-send-r
-mul-send-r c = search needs
+drawn-u0-requires : tie.Need-drawn-u0-requires
+drawn-u0-requires c κs = search needs
 
-sub-send-r : tie.Need-sub-send-r
-sub-send-r c = search needs
+write-sum-requires : tie.Need-write-sum-requires
+write-sum-requires c κs =
+    let told = c .before .before .before in
+    let start = told .before .before .before .before .before .before .before .before in
+    let p = p-length (start .args .t) (start .args .scratch .now) (start .pre .lent) (c .before .before .drawn-p .ensures) in
+    search needs
 
-part-send-r-start : tie.Need-part-send-r-start
-part-send-r-start c = search needs
+mul-write-reply : tie.Need-mul-write-reply
+mul-write-reply c = search needs
 
-part-send-r-end : tie.Need-part-send-r-end
-part-send-r-end c = search needs
+sub-write-reply : tie.Need-sub-write-reply
+sub-write-reply c = search needs
 
-send-r-requires : tie.Need-send-r-requires
-send-r-requires c κs = search needs
+part-write-reply-start : tie.Need-part-write-reply-start
+part-write-reply-start c = search needs
+
+part-write-reply-end : tie.Need-part-write-reply-end
+part-write-reply-end c = search needs
+
+write-reply-requires : tie.Need-write-reply-requires
+write-reply-requires c κs =
+    let told = c .before .before .before .before .before in
+    let start = told .before .before .before .before .before .before .before .before .before .before in
+    let t = start .args .t in
+    let p = p-length t (start .args .scratch .now) (start .pre .lent) (told .before .drawn-p .ensures) in
+    let u0 = u0-length t (start .args .scratch .now) (start .pre .lent) (told .drawn-u0 .ensures) in
+    let u = unknowns (t .m) (t .k) (t .p) (start .pre .sides) in
+    let wide = wide-bound t (start .pre .sides) in
+    search needs
 
 same-length : tie.Need-same-length
 same-length c = search needs
 
 returns : tie.Need-returns
-unfolding firstSent
+unfolding firstSent sendX sendR
 returns c =
     let told = c .before .before .before .before .before .before in
-    let a = told .before .before .before .before .before .before .before .args in
-    let h = told .before .before .before .before .before .before .before .pre in
-    let s = slotAt (a .pool .now) (a .size) (a .index) in
-    let square = told .before .before .times .ensures in
-    let whole = x-after (a .t) s (a .coins .now) (h .0 .some-q) (a .out .now) (omega (arith, h .2)) (told .send-x .ensures) in
-    part-then _ _ (a .out .now) _ _ (told .before .before .times .result) (x-length (a .t) s (a .coins .now) (h .0 .some-q) ∙ sym square)
-    (omega (arith, whole, square, h .2)) (told .send-x .ensures) (c .before .before .send-r .ensures)
+    let start = told .before .before .before .before .before .before .before .before .before .before .before .before in
+    let a = start .args in
+    let square = told .before .before .before .before .times .ensures in
+    let size = add-residues (start .pre .some-q) (a .t .m * a .t .m) _ _ .size in
+    let x = rw (told .before .before .before .drawn-p .ensures, square) at (told .write-sum .ensures) in
+    let r = rw (told .before .before .before .drawn-p .ensures, told .before .before .drawn-u0 .ensures) at (c .before .before .write-reply .ensures) in
+    part-then _ _ (a .out .now) _ _ (told .before .before .before .before .times .result) (size ∙ sym square)
+    (omega (arith, after-over _ (a .out .now) x (omega (arith, size, start .pre .room)), square, start .pre .room)) x r
 
 pub send-spec : {M : Type 1} → statement M
 send-spec =
     tie.close
     (tie.spec
+    cast-n
+    cast-p
     times-requires
-    send-x-requires
-    mul-send-r
-    sub-send-r
-    part-send-r-start
-    part-send-r-end
-    send-r-requires
+    drawn-p-requires
+    drawn-u0-requires
+    write-sum-requires
+    mul-write-reply
+    sub-write-reply
+    part-write-reply-start
+    part-write-reply-end
+    write-reply-requires
     same-length
     returns)

@@ -31,6 +31,17 @@ worst-requires c κs = search needs
 worst-requires-2 : tie.Need-worst-requires-2
 worst-requires-2 c κs = search needs
 
+abbrev start : tie.After-worst2 → tie.Start
+start c = c .before .before .before .before .before .before .before .before .before .before
+
+-- what was told of the first phase
+told : (c : tie.After-worst2) → let a = (start c) .args in checked (c .worst2 .result)
+    ≡ judged (laterOpen (a .step) (a .fits) (a .s) (slotAt (a .pool .now) (a .size) (a .index)) (length (a .scratch .now)) (messageWith (a .a) (a .residues .now)))
+unfolding laterOpen roomTests
+told c =
+    also _ _ (c .worst2 .ensures) (c .before .before .before .before .before .check-later .ensures)
+    (also _ _ (c .before .worst .ensures) (rw (c .before .before .before .before .scratch-fits .ensures) at (c .before .before .before .check-room .ensures)) (c .before .before .check-room2 .ensures))
+
 enum-told : tie.Need-enum-told
 enum-told c = search needs
 
@@ -38,45 +49,22 @@ enum-told-2 : tie.Need-enum-told-2
 enum-told-2 c = search needs
 
 returns : tie.Need-returns
-unfolding laterOpen roomTests
 returns c =
-    let told = c .before .before .before .before in
-    let a = told .before .before .before .before .before .before .before .before .args in
-    let s = slotAt (a .pool .now) (a .size) (a .index) in
-    let m = messageWith (a .a) (a .residues .now) in
-    let known : checked (c .before .before .worst2 .result) ≡ judged (laterOpen (a .step) (a .fits) (a .s) s (length (a .scratch .now)) m) =
-    also _ _ (c .before .before .worst2 .ensures) (told .before .before .before .check-later .ensures)
-    (also _ _ (c .before .before .before .worst .ensures) (rw (told .before .before .scratch-fits .ensures) at (told .before .check-room .ensures))
-    (told .check-room2 .ensures)) in
-    hands-on (c .before .before .worst2 .result) _ known (c .enum-told2 .given .1) ∙ sym (later-phases (a .s) s (a .scratch .now) m (a .step) (a .fits))
+    let a = (start (c .before .before)) .args in
+    hands-on (c .before .before .worst2 .result) _ (told (c .before .before)) (c .enum-told2 .given .1) ∙ sym
+    (later-phases (a .s) (slotAt (a .pool .now) (a .size) (a .index)) (a .scratch .now) (messageWith (a .a) (a .residues .now)) (a .step) (a .fits))
 
 check-kept-requires : tie.Need-check-kept-requires
-unfolding laterOpen roomTests
 check-kept-requires c κs =
-    let told = c .before .before .before .before in
-    let a = told .before .before .before .before .before .before .before .before .args in
-    let s = slotAt (a .pool .now) (a .size) (a .index) in
-    let m = messageWith (a .a) (a .residues .now) in
-    let known : checked (c .before .before .worst2 .result) ≡ judged (laterOpen (a .step) (a .fits) (a .s) s (length (a .scratch .now)) m) =
-    also _ _ (c .before .before .worst2 .ensures) (told .before .before .before .check-later .ensures)
-    (also _ _ (c .before .before .before .worst .ensures) (rw (told .before .before .scratch-fits .ensures) at (told .before .check-room .ensures))
-    (told .check-room2 .ensures)) in
-    kept-known (a .s) s m (a .step) (a .fits) _ (sym known ∙ ap checked (c .enum-told .given .1))
+    let a = (start (c .before .before)) .args in
+    kept-known (a .s) _ _ (a .step) (a .fits) _ (sym (told (c .before .before)) ∙ ap checked (c .enum-told .given .1))
 
 returns-2 : tie.Need-returns-2
-unfolding laterOpen roomTests
 returns-2 c =
-    let told = c .before .before .before .before in
-    let a = told .before .before .before .before .before .before .before .before .before .args in
-    let s = slotAt (a .pool .now) (a .size) (a .index) in
-    let m = messageWith (a .a) (a .residues .now) in
-    let known : checked (c .before .before .before .worst2 .result) ≡ judged (laterOpen (a .step) (a .fits) (a .s) s (length (a .scratch .now)) m) =
-    also _ _ (c .before .before .before .worst2 .ensures) (told .before .before .before .before .check-later .ensures)
-    (also _ _ (told .worst .ensures) (rw (told .before .before .before .scratch-fits .ensures) at (told .before .before .check-room .ensures))
-    (told .before .check-room2 .ensures)) in
+    let a = (start (c .before .before .before)) .args in
     c .check-kept .ensures
-    ∙ sym (later-phases (a .s) s (a .scratch .now) m (a .step) (a .fits) ∙ goes-past (c .before .before .before .worst2 .result) known
-    (c .before .enum-told .given .1))
+    ∙ sym (later-phases (a .s) (slotAt (a .pool .now) (a .size) (a .index)) (a .scratch .now) (messageWith (a .a) (a .residues .now)) (a .step) (a .fits)
+    ∙ goes-past (c .before .before .before .worst2 .result) (told (c .before .before .before)) (c .before .enum-told .given .1))
 
 pub check-spec : {M : Type 1} → statement M
 check-spec =
