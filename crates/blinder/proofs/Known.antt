@@ -1,7 +1,7 @@
 -- What is known where tests passed.
---   eliminable, first-known, masking-known, first-leaves, p-drawn, p-residues   step 2
+--   eliminable, first-known, masking-known, first-computed, p-drawn, p-residues   step 2
 --   kept-known    the first phase of a later step
---   second-known, sending-known, second-leaves   step 4
+--   second-known, sending-known, second-computed   step 4
 --   last-known    step 6
 --   drop-known    a drop that is accepted
 -- Assumes nothing.
@@ -24,22 +24,21 @@ use Rattle.protocol.specs.declared.Answer.the-variants.{Accepted}
 use Rattle.protocol.specs.declared.Refusal.the-variants.{Size}
 use Rattle.protocol.specs.Judge.{needs, given, done}
 use Rattle.protocol.specs.Bounds.{sidesFit, system, fieldFits, inputTests, roomTests}
-use Rattle.protocol.specs.Tape.{Slot, slotWords, poolWith, wordsInUse, blinder, matrices}
+use Rattle.protocol.specs.Tape.{Slot, slotWords, blinder, matrices}
 use Rattle.protocol.specs.Message.{Message, messageSize, messageTests, dueTests}
-use Rattle.protocol.specs.Step.{answerReply, isOpen, firstTests, openTests, laterTests}
-use Rattle.protocol.specs.System.{padded, noBlinder, sideSize, keptM, keptY, scratchLayout, scratchSize, scratchParts, coinsOf, blinderFirstEffect, blinderFirstTests, blinderFirst, blinderSecondEffect, blinderSecondTests, blinderSecond, blinderLastEffect, blinderLastTests, blinderLast}
+use Rattle.protocol.specs.Step.{isOpen, firstTests, openTests, laterTests}
+use Rattle.protocol.specs.System.{padded, sideSize, keptM, keptY, scratchLayout, scratchSize, scratchParts, coinsOf, blinderFirstEffect, blinderFirstTests, blinderFirst, blinderSecondEffect, blinderSecondTests, blinderSecond, blinderLastEffect, blinderLastTests, blinderLast}
 use Rattle.protocol.specs.Drop.{dropBlinder}
 use Rattle.protocol.proofs.Judge.{passed, all-split, holds-given}
 use Rattle.protocol.proofs.Tests.{open-due, input-tests, room-tests, first-tests, later-tests}
 use Rattle.protocol.proofs.StepTests.{BlinderFirstFits, blinder-first, BlinderFits, blinder-second, blinder-last, DropBlinderFits, drop-blinder}
 use Rattle.judging.specs.InOrder.{judged}
-use Rattle.judging.specs.Leaves.{Leaves, leaves}
+use Rattle.judging.specs.Leaves.{computed, computing}
 use Rattle.judging.proofs.InOrder.{accepted-by}
 use Rattle.judging.proofs.KindLaws.{size-1, size-2, size-3, size-4, whole-message}
 use Rattle.protocol.proofs.CompletionLaws.{first-of, second-of, third-of, fourth-of}
 use Rattle.vectors.proofs.Written.{after-over}
 use Rattle.tape.proofs.Sides.{unknowns}
-use Rattle.tape.proofs.Slots.{same-pool}
 use Rattle.blinder.specs.First.{Eliminable, Masking, firstInputs, firstNumbers, firstSent}
 use Rattle.blinder.specs.Later.{laterOpen}
 use Rattle.blinder.specs.Second.{Sending, secondSent}
@@ -106,15 +105,12 @@ module _ (t : Terms) (s : Slot) (d mm y words : List ℕ) (a : Message) (room : 
           room = omega (arith, known .message-room, size-2 t, same);
         }
 
-    pub first-leaves : {count : ℕ} {x : BlinderSession} {o pool : List ℕ} (out : List ℕ) → count ≡ wordsRead (t .q) n words
+    pub first-computed : {count : ℕ} {x : BlinderSession} {o : List ℕ} (out : List ℕ) → count ≡ wordsRead (t .q) n words
         → x ≡ record { terms = t; due = 3; mm = padded 256 mm; y = padded 16 y } → o ≡ over (firstSent t (a .residues) l x0 a0) out
-        → pool ≡ poolWith s (wordsInUse (slotWords s))
-        → _≡_ {A = Leaves BlinderSession}
-        (record { answer = answerReply (Accepted count); session = x; head = record { kind = 2; terms = t }; pool = pool; scratch = l; sent = o; result = [] })
-        (leaves noBlinder s d out [] (done (blinderFirstEffect t s mm y words a)))
+        → computing (Accepted count) x (record { kind = 2; terms = t }) l o [] ≡ computed d out [] (blinderFirstEffect t s mm y words a)
     unfolding firstSent blinderFirstEffect scratchParts scratchSize join over
-    first-leaves out e f g h =
-        rw (e, f, g, h, size, is-x, is-a, is-l, parts-over (scratchLayout t) d coins-residues)
+    first-computed out e f g =
+        rw (e, f, g, size, is-x, is-a, is-l, parts-over (scratchLayout t) d coins-residues)
         (simp (append-nil, whole-message t a (known .message .residues .size ∙ sym (size-1 t))))
 
 -- P by itself, drawn from the same words
@@ -170,23 +166,13 @@ module _ (x : BlinderSession) (s : Slot) (a : Message) {scratch : List ℕ} {roo
         room = omega (arith, known .write-room, size-4 (x .terms), same);
       }
 
-  pub second-leaves : {n r : ℕ} {o : List ℕ} (out : List ℕ) → n ≡ x .terms .m * x .terms .m → r ≡ sideSize (x .terms)
+  pub second-computed : {n r : ℕ} {o : List ℕ} (out : List ℕ) → n ≡ x .terms .m * x .terms .m → r ≡ sideSize (x .terms)
       → o ≡ over (secondSent (x .terms) (take n (x .mm)) (take r (x .y)) (a .residues) scratch qm g) out
-      → _≡_ {A = Leaves BlinderSession}
-      (record {
-        answer = answerReply (Accepted 0);
-        session = record { terms = x .terms; due = 5; mm = x .mm; y = x .y };
-        head = record { kind = 4; terms = x .terms };
-        pool = s .pool;
-        scratch = scratch;
-        sent = o;
-        result = [];
-      })
-      (leaves x s scratch out [] (done (blinderSecondEffect x s scratch a)))
+      → computing (Accepted 0) (record { terms = x .terms; due = 5; mm = x .mm; y = x .y }) (record { kind = 4; terms = x .terms }) scratch o []
+      ≡ computed scratch out [] (blinderSecondEffect x s scratch a)
   unfolding secondSent blinderSecondEffect keptM keptY join over
-  second-leaves out e f h =
-      rw (h, e, f, is-q, is-g, same-pool s (known .later .session-open .half .inside))
-      (simp (append-nil, f-part (x .terms) a (known .message .residues .size ∙ sym (size-3 (x .terms)))))
+  second-computed out e f h =
+      rw (h, e, f, is-q, is-g) (simp (append-nil, f-part (x .terms) a (known .message .residues .size ∙ sym (size-3 (x .terms)))))
 
 pub drop-known : (x : BlinderSession) (s : Slot) (scratch : List ℕ)
     → judged (openTests blinder (x .due) (x .terms) s ++ given (isOpen (x .due)) (roomTests (scratchSize (x .terms)) (length scratch))) ≡ done tt

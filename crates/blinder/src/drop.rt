@@ -9,6 +9,7 @@ use judging::worst;
 use protocol::Answer;
 use protocol::BlinderSession;
 use tape::End;
+use tape::Place;
 use tape::change::spend_at;
 ghost use mathlib.Core.Path.{_≡_};
 ghost use mathlib.Core.List.{[], _++_};
@@ -20,8 +21,9 @@ ghost use Rattle.protocol.specs.Message.{noMessage};
 ghost use Rattle.protocol.specs.Drop.{dropBlinder};
 ghost use Rattle.protocol.specs.Step.{isOpen, openTests, answerReply};
 ghost use Rattle.protocol.specs.System.{scratchSize};
+ghost use Rattle.tape.specs.Placed.{slotIn};
 ghost use Rattle.judging.specs.InOrder.{checked, judged};
-ghost use Rattle.judging.specs.Leaves.{Leaves, leaves};
+ghost use Rattle.judging.specs.Leaves.{leaves, leaving};
 
 // What a drop answers, and the session as it then is.
 pub struct BlinderDropped {
@@ -30,11 +32,11 @@ pub struct BlinderDropped {
 }
 
 // Of the scratch is told how many words it has.
-fn check(pool: &[u32], size: usize, index: usize, room: usize, s: BlinderSession) -> Check
-    ensures { λ r. ⌜ checked r ≡ judged (openTests blinder (s .due) (s .terms) (slotAt (now (pool .entry)) size index) ++ given (isOpen (s .due))
+fn check(pool: &[u32], at: Place, room: usize, s: BlinderSession) -> Check
+    ensures { λ r. ⌜ checked r ≡ judged (openTests blinder (s .due) (s .terms) (slotIn (now (pool .entry)) at) ++ given (isOpen (s .due))
         (roomTests (scratchSize (s .terms)) room)) ⌝ }
 {
-    let session = check_open(End::Blinder, s.due, s.terms, pool, size, index);
+    let session = check_open(End::Blinder, s.due, s.terms, pool, at);
     let scratch = check_room(s.due, scratch_fits(s.terms, room));
     worst(session, scratch)
 }
@@ -46,12 +48,12 @@ pub fn blinder_drop(
     scratch: &mut [u32],
     s: BlinderSession,
 ) -> BlinderDropped
-    ensures { λ r. ⌜ _≡_ {A = Leaves BlinderSession}
-        (record { answer = answerReply (r .answer); session = r .session; head = noMessage .head; pool = now (pool .exit); scratch = now (scratch .exit); sent = []; result = [] })
-        (leaves s (slotAt (now (pool .entry)) size index) (now (scratch .entry)) [] [] (dropBlinder s (slotAt (now (pool .entry)) size index) (now (scratch .entry)))) ⌝ }
+    ensures { λ r. ⌜ leaving (r .answer) (r .session) (noMessage .head) (now (pool .exit)) (now (scratch .exit)) [] []
+        ≡ leaves s (slotAt (now (pool .entry)) size index) (now (scratch .entry)) [] [] (dropBlinder s (slotAt (now (pool .entry)) size index) (now (scratch .entry))) ⌝ }
 {
+    let at = Place { size, index };
     let t = s.terms;
-    let checked = check(pool, size, index, scratch.len(), s);
+    let checked = check(pool, at, scratch.len(), s);
     let Check::Passed = checked else {
         return BlinderDropped {
             answer: answer_of(checked),
@@ -59,7 +61,7 @@ pub fn blinder_drop(
         };
     };
     let session = forget(t, scratch);
-    spend_at(End::Blinder, t, pool, size, index);
+    spend_at(End::Blinder, t, pool, at);
     BlinderDropped {
         answer: Answer::Accepted(0),
         session: session,

@@ -26,6 +26,7 @@ use protocol::Head;
 use protocol::Refusal;
 use protocol::Terms;
 use tape::End;
+use tape::Place;
 use tape::change::take_up_at;
 use tape::half::matrix;
 use vectors::times;
@@ -41,9 +42,9 @@ ghost use Rattle.protocol.specs.Drawing.{residuesOf, drawTests};
 ghost use Rattle.protocol.specs.Tape.{slotAt};
 ghost use Rattle.protocol.specs.Message.{messageWith};
 ghost use Rattle.protocol.specs.System.{noBlinder, scratchSize, blinderFirstEffect, blinderFirstTests, blinderFirst};
-ghost use Rattle.protocol.specs.Step.{answerReply};
+ghost use Rattle.tape.specs.Placed.{slotIn};
 ghost use Rattle.judging.specs.InOrder.{checked, judged, after};
-ghost use Rattle.judging.specs.Leaves.{Leaves, leaves};
+ghost use Rattle.judging.specs.Leaves.{leaves, leaving, computed, computing};
 ghost use Rattle.blinder.specs.First.{Eliminable, Masking, firstInputs, firstRegular, firstSent};
 
 // M and y, and room for the scratch and for the message.
@@ -86,8 +87,7 @@ fn check_drawn(t: Terms, mm: &[u32], words: &[u32]) -> Check
 
 fn check(
     pool: &[u32],
-    size: usize,
-    index: usize,
+    at: Place,
     scratch: usize,
     t: Terms,
     mm: &[u32],
@@ -97,10 +97,10 @@ fn check(
     residues: &[u32],
     room: usize,
 ) -> Check
-    ensures { λ r. ⌜ checked r ≡ judged (blinderFirstTests t (slotAt (now (pool .entry)) size index) scratch (now (mm .entry)) (now (y .entry))
+    ensures { λ r. ⌜ checked r ≡ judged (blinderFirstTests t (slotIn (now (pool .entry)) at) scratch (now (mm .entry)) (now (y .entry))
         (now (words .entry)) (messageWith a (now (residues .entry))) room) ⌝ }
 {
-    let session = check_first_received(End::Blinder, 1, t, a, residues, pool, size, index);
+    let session = check_first_received(End::Blinder, 1, t, a, residues, pool, at);
     let inputs = check_inputs(t, mm, y, scratch, room);
     let numbers = worst(session, inputs);
     let Check::Passed = numbers else {
@@ -124,11 +124,10 @@ fn send(t: Terms, y1: &[u32], scratch: &[u32], x0: &[u32], a0: &[u32], out: &mut
     write_reply(t.q, n, n, p, pm, y1, u0, a0, &mut out[square..]);
 }
 
-// P and U0 are drawn into the scratch, the message goes into `out`, and the half is taken up. The session waits for kind 3.
+// P and U0 are drawn into the scratch, and the message goes into `out`. The session waits for kind 3.
 fn compute(
-    pool: &mut [u32],
-    size: usize,
-    index: usize,
+    pool: &[u32],
+    at: Place,
     scratch: &mut [u32],
     t: Terms,
     mm: &[u32],
@@ -138,19 +137,16 @@ fn compute(
     residues: &[u32],
     out: &mut [u32],
 ) -> BlinderAnswer
-    requires { ⌜ judged (blinderFirstTests t (slotAt (now pool) size index) (length (now scratch)) (now mm) (now y) (now words)
+    requires { ⌜ judged (blinderFirstTests t (slotIn (now pool) at) (length (now scratch)) (now mm) (now y) (now words)
         (messageWith a (now residues)) (length (now out))) ≡ done tt ⌝ }
-    ensures { λ r. ⌜ _≡_ {A = Leaves BlinderSession}
-        (record { answer = answerReply (r .answer); session = r .session; head = r .head; pool = now (pool .exit); scratch = now (scratch .exit); sent = now (out .exit); result = [] })
-        (leaves noBlinder (slotAt (now (pool .entry)) size index) (now (scratch .entry)) (now (out .entry)) []
-        (done (blinderFirstEffect t (slotAt (now (pool .entry)) size index) (now (mm .entry)) (now (y .entry)) (now (words .entry))
-        (messageWith a (now (residues .entry)))))) ⌝ }
+    ensures { λ r. ⌜ computing (r .answer) (r .session) (r .head) (now (scratch .exit)) (now (out .exit)) []
+        ≡ computed (now (scratch .entry)) (now (out .entry)) []
+        (blinderFirstEffect t (slotIn (now (pool .entry)) at) (now (mm .entry)) (now (y .entry)) (now (words .entry)) (messageWith a (now (residues .entry)))) ⌝ }
 {
     let count = draw(t.q, scratch_size(t), words, scratch);
-    let x0 = matrix(End::Blinder, t, 0, pool, size, index);
-    let a0 = matrix(End::Blinder, t, 1, pool, size, index);
+    let x0 = matrix(End::Blinder, t, 0, pool, at);
+    let a0 = matrix(End::Blinder, t, 1, pool, at);
     send(t, residues, scratch, x0, a0, out);
-    take_up_at(End::Blinder, t, pool, size, index);
     BlinderAnswer {
         answer: Answer::Accepted(count),
         session: opened(t, mm, y),
@@ -172,29 +168,19 @@ pub fn blinder_first(
     residues: &[u32],
     out: &mut [u32],
 ) -> BlinderAnswer
-    ensures { λ r. ⌜ _≡_ {A = Leaves BlinderSession}
-        (record { answer = answerReply (r .answer); session = r .session; head = r .head; pool = now (pool .exit); scratch = now (scratch .exit); sent = now (out .exit); result = [] })
-        (leaves noBlinder (slotAt (now (pool .entry)) size index) (now (scratch .entry)) (now (out .entry)) []
+    ensures { λ r. ⌜ leaving (r .answer) (r .session) (r .head) (now (pool .exit)) (now (scratch .exit)) (now (out .exit)) []
+        ≡ leaves noBlinder (slotAt (now (pool .entry)) size index) (now (scratch .entry)) (now (out .entry)) []
         (blinderFirst t (slotAt (now (pool .entry)) size index) (length (now (scratch .entry))) (now (mm .entry)) (now (y .entry)) (now (words .entry))
-        (record { head = a; residues = now (residues .entry) }) (length (now (out .entry))))) ⌝ }
+        (record { head = a; residues = now (residues .entry) }) (length (now (out .entry)))) ⌝ }
 {
+    let at = Place { size, index };
     let room = out.len();
     let lent = scratch.len();
-    let checked = check(pool, size, index, lent, t, mm, y, words, a, residues, room);
+    let checked = check(pool, at, lent, t, mm, y, words, a, residues, room);
     let Check::Passed = checked else {
         return refused(checked, no_session());
     };
-    compute(
-        pool,
-        size,
-        index,
-        scratch,
-        t,
-        mm,
-        y,
-        words,
-        a,
-        residues,
-        out,
-    )
+    let done = compute(pool, at, scratch, t, mm, y, words, a, residues, out);
+    take_up_at(End::Blinder, t, pool, at);
+    done
 }

@@ -14,6 +14,7 @@ use protocol::Answer;
 use protocol::BlinderSession;
 use protocol::Head;
 use tape::End;
+use tape::Place;
 use tape::change::spend_at;
 use tape::half::matrix;
 ghost use mathlib.Core.Path.{_≡_};
@@ -23,50 +24,46 @@ ghost use Rattle.protocol.specs.Judge.{done};
 ghost use Rattle.protocol.specs.Tape.{slotAt};
 ghost use Rattle.protocol.specs.Message.{messageWith};
 ghost use Rattle.protocol.specs.System.{blinderLastEffect, blinderLastTests, blinderLast};
-ghost use Rattle.protocol.specs.Step.{answerReply};
+ghost use Rattle.tape.specs.Placed.{slotIn};
 ghost use Rattle.judging.specs.InOrder.{checked, judged};
-ghost use Rattle.judging.specs.Leaves.{Leaves, leaves};
+ghost use Rattle.judging.specs.Leaves.{leaves, leaving, computed, computing};
 
 fn check(
     pool: &[u32],
-    size: usize,
-    index: usize,
+    at: Place,
     scratch: &[u32],
     s: BlinderSession,
     a: Head,
     residues: &[u32],
     room: usize,
 ) -> Check
-    ensures { λ r. ⌜ checked r ≡ judged (blinderLastTests s (slotAt (now (pool .entry)) size index) (now (scratch .entry))
+    ensures { λ r. ⌜ checked r ≡ judged (blinderLastTests s (slotIn (now (pool .entry)) at) (now (scratch .entry))
         (messageWith a (now (residues .entry))) room) ⌝ }
 {
     let fits = side_size(s.terms) <= room;
-    later::check(5, fits, pool, size, index, scratch, s, a, residues)
+    later::check(5, fits, pool, at, scratch, s, a, residues)
 }
 
-// z goes into `out`, and the half is spent.
+// z goes into `out`.
 fn compute(
-    pool: &mut [u32],
-    size: usize,
-    index: usize,
+    pool: &[u32],
+    at: Place,
     scratch: &mut [u32],
     s: BlinderSession,
     a: Head,
     residues: &[u32],
     out: &mut [u32],
 ) -> BlinderAnswer
-    requires { ⌜ judged (blinderLastTests s (slotAt (now pool) size index) (now scratch) (messageWith a (now residues)) (length (now out))) ≡ done tt ⌝ }
-    ensures { λ r. ⌜ _≡_ {A = Leaves BlinderSession}
-        (record { answer = answerReply (r .answer); session = r .session; head = r .head; pool = now (pool .exit); scratch = now (scratch .exit); sent = []; result = now (out .exit) })
-        (leaves s (slotAt (now (pool .entry)) size index) (now (scratch .entry)) [] (now (out .entry))
-        (done (blinderLastEffect s (slotAt (now (pool .entry)) size index) (now (scratch .entry)) (messageWith a (now (residues .entry)))))) ⌝ }
+    requires { ⌜ judged (blinderLastTests s (slotIn (now pool) at) (now scratch) (messageWith a (now residues)) (length (now out))) ≡ done tt ⌝ }
+    ensures { λ r. ⌜ computing (r .answer) (r .session) (r .head) (now (scratch .exit)) [] (now (out .exit))
+        ≡ computed (now (scratch .entry)) [] (now (out .entry))
+        (blinderLastEffect s (slotIn (now (pool .entry)) at) (now (scratch .entry)) (messageWith a (now (residues .entry)))) ⌝ }
 {
     let t = s.terms;
     let n = t.m as usize;
     let rhs = (t.p - t.m) as usize;
-    let qm = matrix(End::Blinder, t, 2, pool, size, index);
+    let qm = matrix(End::Blinder, t, 2, pool, at);
     write_product(t.q, n, n, rhs, qm, residues, out);
-    spend_at(End::Blinder, t, pool, size, index);
     BlinderAnswer {
         answer: Answer::Accepted(0),
         session: forget(t, scratch),
@@ -85,14 +82,16 @@ pub fn blinder_last(
     residues: &[u32],
     out: &mut [u32],
 ) -> BlinderAnswer
-    ensures { λ r. ⌜ _≡_ {A = Leaves BlinderSession}
-        (record { answer = answerReply (r .answer); session = r .session; head = r .head; pool = now (pool .exit); scratch = now (scratch .exit); sent = []; result = now (out .exit) })
-        (leaves s (slotAt (now (pool .entry)) size index) (now (scratch .entry)) [] (now (out .entry))
-        (blinderLast s (slotAt (now (pool .entry)) size index) (now (scratch .entry)) (record { head = a; residues = now (residues .entry) }) (length (now (out .entry))))) ⌝ }
+    ensures { λ r. ⌜ leaving (r .answer) (r .session) (r .head) (now (pool .exit)) (now (scratch .exit)) [] (now (out .exit))
+        ≡ leaves s (slotAt (now (pool .entry)) size index) (now (scratch .entry)) [] (now (out .entry))
+        (blinderLast s (slotAt (now (pool .entry)) size index) (now (scratch .entry)) (record { head = a; residues = now (residues .entry) }) (length (now (out .entry)))) ⌝ }
 {
-    let checked = check(pool, size, index, scratch, s, a, residues, out.len());
+    let at = Place { size, index };
+    let checked = check(pool, at, scratch, s, a, residues, out.len());
     let Check::Passed = checked else {
         return refused(checked, s);
     };
-    compute(pool, size, index, scratch, s, a, residues, out)
+    let done = compute(pool, at, scratch, s, a, residues, out);
+    spend_at(End::Blinder, s.terms, pool, at);
+    done
 }

@@ -12,6 +12,7 @@ use protocol::BlinderSession;
 use protocol::Head;
 use protocol::Refusal;
 use tape::End;
+use tape::Place;
 use vectors::all_below;
 use vectors::times;
 ghost use mathlib.Core.Path.{_≡_};
@@ -19,9 +20,9 @@ ghost use mathlib.Core.Bool.{true};
 ghost use Prim.Native.Nat.{_≤_};
 ghost use lib.ListN.{length, take};
 ghost use Rattle.protocol.specs.Bounds.{sidesFit, system};
-ghost use Rattle.protocol.specs.Tape.{slotAt};
 ghost use Rattle.protocol.specs.Message.{messageWith};
 ghost use Rattle.protocol.specs.System.{scratchSize, keptTests};
+ghost use Rattle.tape.specs.Placed.{slotIn};
 ghost use Rattle.judging.specs.InOrder.{checked, judged};
 ghost use Rattle.blinder.specs.Later.{laterStep, keptWords};
 
@@ -51,18 +52,17 @@ pub fn check(
     step: u32,
     fits: bool,
     pool: &[u32],
-    size: usize,
-    index: usize,
+    at: Place,
     scratch: &[u32],
     s: BlinderSession,
     a: Head,
     residues: &[u32],
 ) -> Check
-    ensures { λ r. ⌜ checked r ≡ judged (laterStep step fits s (slotAt (now (pool .entry)) size index) (now (scratch .entry))
+    ensures { λ r. ⌜ checked r ≡ judged (laterStep step fits s (slotIn (now (pool .entry)) at) (now (scratch .entry))
         (messageWith a (now (residues .entry)))) ⌝ }
 {
     let t = s.terms;
-    let session = check_later(End::Blinder, step, s.due, t, a, residues, pool, size, index);
+    let session = check_later(End::Blinder, step, s.due, t, a, residues, pool, at);
     let lent = check_room(s.due, scratch_fits(t, scratch.len()));
     let written = check_room(s.due, fits);
     let numbers = worst(session, worst(lent, written));

@@ -17,6 +17,7 @@ use protocol::BlinderSession;
 use protocol::Head;
 use protocol::Terms;
 use tape::End;
+use tape::Place;
 use tape::half::matrix;
 use vectors::times;
 ghost use mathlib.Core.Path.{_≡_};
@@ -27,26 +28,25 @@ ghost use Rattle.protocol.specs.Judge.{done};
 ghost use Rattle.protocol.specs.Tape.{slotAt};
 ghost use Rattle.protocol.specs.Message.{messageWith};
 ghost use Rattle.protocol.specs.System.{blinderSecondEffect, blinderSecondTests, blinderSecond};
-ghost use Rattle.protocol.specs.Step.{answerReply};
+ghost use Rattle.tape.specs.Placed.{slotIn};
 ghost use Rattle.judging.specs.InOrder.{checked, judged};
-ghost use Rattle.judging.specs.Leaves.{Leaves, leaves};
+ghost use Rattle.judging.specs.Leaves.{leaves, leaving, computed, computing};
 ghost use Rattle.blinder.specs.Second.{Sending, secondSent};
 
 fn check(
     pool: &[u32],
-    size: usize,
-    index: usize,
+    at: Place,
     scratch: &[u32],
     s: BlinderSession,
     a: Head,
     residues: &[u32],
     room: usize,
 ) -> Check
-    ensures { λ r. ⌜ checked r ≡ judged (blinderSecondTests s (slotAt (now (pool .entry)) size index) (now (scratch .entry))
+    ensures { λ r. ⌜ checked r ≡ judged (blinderSecondTests s (slotIn (now (pool .entry)) at) (now (scratch .entry))
         (messageWith a (now (residues .entry))) room) ⌝ }
 {
     let fits = has_room(4, s.terms, room);
-    later::check(3, fits, pool, size, index, scratch, s, a, residues)
+    later::check(3, fits, pool, at, scratch, s, a, residues)
 }
 
 // W and then c; Q and G are the half's, F is the message, and the scratch has P and U0.
@@ -76,27 +76,25 @@ fn send(
 // The message goes into `out`; the session waits for kind 5.
 fn compute(
     pool: &[u32],
-    size: usize,
-    index: usize,
+    at: Place,
     scratch: &[u32],
     s: BlinderSession,
     a: Head,
     residues: &[u32],
     out: &mut [u32],
 ) -> BlinderAnswer
-    requires { ⌜ judged (blinderSecondTests s (slotAt (now pool) size index) (now scratch) (messageWith a (now residues)) (length (now out))) ≡ done tt ⌝ }
-    ensures { λ r. ⌜ _≡_ {A = Leaves BlinderSession}
-        (record { answer = answerReply (r .answer); session = r .session; head = r .head; pool = now (pool .entry); scratch = now (scratch .entry); sent = now (out .exit); result = [] })
-        (leaves s (slotAt (now (pool .entry)) size index) (now (scratch .entry)) (now (out .entry)) []
-        (done (blinderSecondEffect s (slotAt (now (pool .entry)) size index) (now (scratch .entry)) (messageWith a (now (residues .entry)))))) ⌝ }
+    requires { ⌜ judged (blinderSecondTests s (slotIn (now pool) at) (now scratch) (messageWith a (now residues)) (length (now out))) ≡ done tt ⌝ }
+    ensures { λ r. ⌜ computing (r .answer) (r .session) (r .head) (now (scratch .entry)) (now (out .exit)) []
+        ≡ computed (now (scratch .entry)) (now (out .entry)) []
+        (blinderSecondEffect s (slotIn (now (pool .entry)) at) (now (scratch .entry)) (messageWith a (now (residues .entry)))) ⌝ }
 {
     let t = s.terms;
     let mm = s.mm;
     let y = s.y;
     let square = times(t.m, t.m);
     let side = side_size(t);
-    let qm = matrix(End::Blinder, t, 2, pool, size, index);
-    let g = matrix(End::Blinder, t, 3, pool, size, index);
+    let qm = matrix(End::Blinder, t, 2, pool, at);
+    let g = matrix(End::Blinder, t, 3, pool, at);
     send(t, &mm[..square], &y[..side], residues, scratch, qm, g, out);
     BlinderAnswer {
         answer: Answer::Accepted(0),
@@ -121,14 +119,14 @@ pub fn blinder_second(
     residues: &[u32],
     out: &mut [u32],
 ) -> BlinderAnswer
-    ensures { λ r. ⌜ _≡_ {A = Leaves BlinderSession}
-        (record { answer = answerReply (r .answer); session = r .session; head = r .head; pool = now (pool .entry); scratch = now (scratch .entry); sent = now (out .exit); result = [] })
-        (leaves s (slotAt (now (pool .entry)) size index) (now (scratch .entry)) (now (out .entry)) []
-        (blinderSecond s (slotAt (now (pool .entry)) size index) (now (scratch .entry)) (record { head = a; residues = now (residues .entry) }) (length (now (out .entry))))) ⌝ }
+    ensures { λ r. ⌜ leaving (r .answer) (r .session) (r .head) (now (pool .entry)) (now (scratch .entry)) (now (out .exit)) []
+        ≡ leaves s (slotAt (now (pool .entry)) size index) (now (scratch .entry)) (now (out .entry)) []
+        (blinderSecond s (slotAt (now (pool .entry)) size index) (now (scratch .entry)) (record { head = a; residues = now (residues .entry) }) (length (now (out .entry)))) ⌝ }
 {
-    let checked = check(pool, size, index, scratch, s, a, residues, out.len());
+    let at = Place { size, index };
+    let checked = check(pool, at, scratch, s, a, residues, out.len());
     let Check::Passed = checked else {
         return refused(checked, s);
     };
-    compute(pool, size, index, scratch, s, a, residues, out)
+    compute(pool, at, scratch, s, a, residues, out)
 }

@@ -1,11 +1,14 @@
 -- `blinder::first::blinder_first` meets its contract. Assumes nothing.
 use mathlib.Core.Path.{sym, ap, _∙_}
 use mathlib.Core.List.{[]}
-use Rattle.protocol.specs.Tape.{slotAt}
+use lib.ListN.{length}
+use Rattle.protocol.specs.Tape.{slotAt, blinder}
 use Rattle.protocol.specs.Message.{messageWith}
 use Rattle.protocol.specs.System.{noBlinder, blinderFirstEffect, blinderFirst}
 use Rattle.judging.specs.InOrder.{checked}
-use Rattle.judging.proofs.Leaving.{refused-leaves, accepted-leaves}
+use Rattle.judging.proofs.Fits.{first-placed}
+use Rattle.judging.proofs.Leaving.{refused-leaves, step-leaves}
+use Rattle.blinder.proofs.Known.{first-known}
 use borrow.Author.Needs.{needs}
 use Rattle.blinder.proofs.first.blinder_first.Statement.{statement}
 use Rattle.blinder.proofs.first.blinder_first.Tie as tie
@@ -43,6 +46,16 @@ returns c =
 compute-requires : tie.Need-compute-requires
 compute-requires c κs = sym (c .before .before .before .before .before .check .ensures) ∙ ap checked (c .before .before .before .enum-told .given .1)
 
+take-up-at-requires : tie.Need-take-up-at-requires
+take-up-at-requires c κs =
+    let told = c .before .before .before .before .before .before .before .before .before in
+    let a = told .before .before .before .before .before .before .before .before .before .before .before .args in
+    let s = slotAt (a .pool .now) (a .size) (a .index) in
+    let m = messageWith (a .a) (a .residues .now) in
+    let f = first-known (a .t) s (length (a .scratch .now)) (a .mm .now) (a .y .now) m (length (a .out .now)) (a .words .now)
+    (sym (told .before .before .check .ensures) ∙ ap checked (told .enum-told .given .1)) in
+    first-placed blinder (a .t) s (f .first)
+
 same-length-2 : tie.Need-same-length-2
 same-length-2 c = search needs
 
@@ -53,15 +66,15 @@ same-length-4 : tie.Need-same-length-4
 same-length-4 c = search needs
 
 returns-2 : tie.Need-returns-2
-unfolding blinderFirst
+unfolding blinderFirst blinderFirstEffect
 returns-2 c =
     let told = c .before .before .before .before .before .before .before .before .before .before in
-    let a = told .before .before .before .before .before .before .before .before .before .before .before .args in
+    let a = told .before .before .before .before .before .before .before .before .before .before .before .before .before .args in
     let s = slotAt (a .pool .now) (a .size) (a .index) in
     let m = messageWith (a .a) (a .residues .now) in
-    c .before .before .before .before .before .before .compute .ensures
-    ∙ sym (accepted-leaves noBlinder s (a .scratch .now) (a .out .now) [] _ (blinderFirstEffect (a .t) s (a .mm .now) (a .y .now) (a .words .now) m)
-    (sym (told .before .before .check .ensures) ∙ ap checked (told .enum-told .given .1)))
+    step-leaves noBlinder s (a .scratch .now) (a .out .now) [] _ (blinderFirstEffect (a .t) s (a .mm .now) (a .y .now) (a .words .now) m)
+    (sym (told .before .before .before .before .check .ensures) ∙ ap checked (told .before .before .enum-told .given .1))
+    (c .before .before .before .before .before .before .before .before .compute .ensures) (c .before .before .take-up-at .ensures)
 
 pub blinder-first-spec : {M : Type 1} → statement M
 blinder-first-spec =
@@ -75,6 +88,7 @@ blinder-first-spec =
     same-length
     returns
     compute-requires
+    take-up-at-requires
     same-length-2
     same-length-3
     same-length-4

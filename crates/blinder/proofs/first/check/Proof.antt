@@ -25,7 +25,7 @@ start c = c .before .before .before .before .before .before .before .before
 
 -- what was told of the first phase
 told : (c : tie.After-worst) → let a = (start c) .args in checked (c .worst .result)
-    ≡ judged (firstNumbers (a .t) (slotAt (a .pool .now) (a .size) (a .index)) (a .scratch) (a .mm .now) (a .y .now) (messageWith (a .a) (a .residues .now)) (a .room))
+    ≡ judged (firstNumbers (a .t) (slotAt (a .pool .now) (a .at .size) (a .at .index)) (a .scratch) (a .mm .now) (a .y .now) (messageWith (a .a) (a .residues .now)) (a .room))
 unfolding firstNumbers
 told c = also _ _ (c .worst .ensures) (c .before .before .check-first-received .ensures) (c .before .check-inputs .ensures)
 
@@ -39,7 +39,7 @@ returns : tie.Need-returns
 returns c =
     let a = (start (c .before .before)) .args in
     hands-on (c .before .before .worst .result) _ (told (c .before .before)) (c .enum-told2 .given .1)
-    ∙ sym (first-phases (a .t) (slotAt (a .pool .now) (a .size) (a .index)) (a .scratch) (a .mm .now) (a .y .now) (a .words .now)
+    ∙ sym (first-phases (a .t) (slotAt (a .pool .now) (a .at .size) (a .at .index)) (a .scratch) (a .mm .now) (a .y .now) (a .words .now)
     (messageWith (a .a) (a .residues .now)) (a .room))
 
 check-drawn-requires : tie.Need-check-drawn-requires
@@ -51,7 +51,7 @@ returns-2 : tie.Need-returns-2
 returns-2 c =
     let a = (start (c .before .before .before)) .args in
     c .check-drawn .ensures
-    ∙ sym (first-phases (a .t) (slotAt (a .pool .now) (a .size) (a .index)) (a .scratch) (a .mm .now) (a .y .now) (a .words .now)
+    ∙ sym (first-phases (a .t) (slotAt (a .pool .now) (a .at .size) (a .at .index)) (a .scratch) (a .mm .now) (a .y .now) (a .words .now)
     (messageWith (a .a) (a .residues .now)) (a .room)
     ∙ goes-past (c .before .before .before .worst .result) (told (c .before .before .before)) (c .before .enum-told .given .1))
 

@@ -1,11 +1,14 @@
 -- `blinder::last::blinder_last` meets its contract. Assumes nothing.
 use mathlib.Core.Path.{sym, ap, _∙_}
 use mathlib.Core.List.{[]}
-use Rattle.protocol.specs.Tape.{slotAt}
+use lib.ListN.{length}
+use Rattle.protocol.specs.Tape.{slotAt, blinder}
 use Rattle.protocol.specs.Message.{messageWith}
 use Rattle.protocol.specs.System.{blinderLastEffect, blinderLast}
 use Rattle.judging.specs.InOrder.{checked}
-use Rattle.judging.proofs.Leaving.{refused-leaves, accepted-leaves}
+use Rattle.judging.proofs.Fits.{open-placed}
+use Rattle.judging.proofs.Leaving.{refused-leaves, step-leaves}
+use Rattle.blinder.proofs.Known.{last-known}
 use borrow.Author.Needs.{needs}
 use Rattle.blinder.proofs.last.blinder_last.Statement.{statement}
 use Rattle.blinder.proofs.last.blinder_last.Tie as tie
@@ -43,6 +46,16 @@ returns c =
 compute-requires : tie.Need-compute-requires
 compute-requires c κs = sym (c .before .before .before .before .before .check .ensures) ∙ ap checked (c .before .before .before .enum-told .given .1)
 
+spend-at-requires : tie.Need-spend-at-requires
+spend-at-requires c κs =
+    let told = c .before .before .before .before .before .before .before .before .before in
+    let a = told .before .before .before .before .before .before .before .before .before .args in
+    let s = slotAt (a .pool .now) (a .size) (a .index) in
+    let m = messageWith (a .a) (a .residues .now) in
+    open-placed blinder (a .s .terms) s
+    (last-known (a .s) s m (a .scratch .now) (length (a .out .now))
+    (sym (told .before .before .check .ensures) ∙ ap checked (told .enum-told .given .1)) .later .session-open)
+
 same-length-3 : tie.Need-same-length-3
 same-length-3 c = search needs
 
@@ -53,14 +66,15 @@ same-length-5 : tie.Need-same-length-5
 same-length-5 c = search needs
 
 returns-2 : tie.Need-returns-2
-unfolding blinderLast
+unfolding blinderLast blinderLastEffect
 returns-2 c =
-    let told = c .before .before .before .before .before .before .before .before .before .before in
-    let a = told .before .before .before .before .before .before .before .before .before .args in
+    let told = c .before .before .before .before .before .before .before .before in
+    let a = told .before .before .before .before .before .before .before .before .before .before .before .before .before .args in
     let s = slotAt (a .pool .now) (a .size) (a .index) in
-    c .before .before .before .before .before .before .compute .ensures
-    ∙ sym (accepted-leaves (a .s) s (a .scratch .now) [] (a .out .now) _ (blinderLastEffect (a .s) s (a .scratch .now) (messageWith (a .a) (a .residues .now)))
-    (sym (told .before .before .check .ensures) ∙ ap checked (told .enum-told .given .1)))
+    let m = messageWith (a .a) (a .residues .now) in
+    step-leaves (a .s) s (a .scratch .now) [] (a .out .now) _ (blinderLastEffect (a .s) s (a .scratch .now) m)
+    (sym (told .before .before .before .before .before .before .check .ensures) ∙ ap checked (told .before .before .before .before .enum-told .given .1))
+    (told .compute .ensures) (c .before .before .spend-at .ensures)
 
 pub blinder-last-spec : {M : Type 1} → statement M
 blinder-last-spec =
@@ -74,6 +88,7 @@ blinder-last-spec =
     same-length-2
     returns
     compute-requires
+    spend-at-requires
     same-length-3
     same-length-4
     same-length-5

@@ -18,13 +18,13 @@ use borrow.Author.Needs.{needs}
 use Rattle.blinder.proofs.last.compute.Statement.{statement}
 use Rattle.blinder.proofs.last.compute.Tie as tie
 
-abbrev start : tie.After-matrix-arg → tie.Start
-start c = c .before .before .before .before .before .before .before .before
+abbrev start : tie.After-struct-known2 → tie.Start
+start c = c .before .before .before .before .before .before .before
 
-known : (c : tie.Start) → BlinderFits 5 (c .args .s) (slotAt (c .args .pool .now) (c .args .size) (c .args .index)) (c .args .scratch .now)
+known : (c : tie.Start) → BlinderFits 5 (c .args .s) (slotAt (c .args .pool .now) (c .args .at .size) (c .args .at .index)) (c .args .scratch .now)
     (messageWith (c .args .a) (c .args .residues .now)) (sideSize (c .args .s .terms)) (length (c .args .out .now))
 known c =
-    last-known (c .args .s) (slotAt (c .args .pool .now) (c .args .size) (c .args .index)) (messageWith (c .args .a) (c .args .residues .now))
+    last-known (c .args .s) (slotAt (c .args .pool .now) (c .args .at .size) (c .args .at .index)) (messageWith (c .args .a) (c .args .residues .now))
     (c .args .scratch .now) (length (c .args .out .now)) (c .pre)
 
 cast-n : tie.Need-cast-n
@@ -58,12 +58,9 @@ write-product-requires c κs =
       room = omega (arith, side, f .write-room);
     }
 
-spend-at-requires : tie.Need-spend-at-requires
-spend-at-requires c κs = open-placed blinder _ _ (known (start (c .before .before .before .before .before .before)) .later .session-open)
-
 forget-requires : tie.Need-forget-requires
 forget-requires c κs =
-    let f = known (start (c .before .before .before .before .before .before .before .before .before .before)) in
+    let f = known (start (c .before .before .before .before .before .before)) in
     (f .later .session-open .terms .sides, f .scratch-room)
 
 no-head-requires : tie.Need-no-head-requires
@@ -75,24 +72,20 @@ same-length c = search needs
 same-length-2 : tie.Need-same-length-2
 same-length-2 c = search needs
 
-same-length-3 : tie.Need-same-length-3
-same-length-3 c = search needs
-
 returns : tie.Need-returns
 unfolding blinderLastEffect columns over
 returns c =
     let told = c .before .before .before .before .before .before .before in
-    let a = (start (told .before .before .before .before .before .before .before)) .args in
+    let a = (start (told .before .before .before)) .args in
     let m = messageWith (a .a) (a .residues .now) in
     let t = a .s .terms in
     rw (
       c .before .before .before .forget .ensures .0,
       c .before .before .before .forget .ensures .1,
       c .no-head .ensures,
-      told .spend-at .ensures,
-      told .before .before .before .before .write-product .ensures,
-      told .before .before .before .before .before .before .matrix .ensures,
-    ) (simp (found-part t m (found-size t m (known (start (told .before .before .before .before .before .before .before)) .message))))
+      told .write-product .ensures,
+      told .before .before .matrix .ensures,
+    ) (simp (found-part t m (found-size t m (known (start (told .before .before .before)) .message))))
 
 pub compute-spec : {M : Type 1} → statement M
 compute-spec =
@@ -103,10 +96,8 @@ compute-spec =
     cast-rhs
     matrix-requires
     write-product-requires
-    spend-at-requires
     forget-requires
     no-head-requires
     same-length
     same-length-2
-    same-length-3
     returns)

@@ -36,7 +36,7 @@ start c = c .before .before .before .before .before .before .before .before .bef
 
 -- what was told of the first phase
 told : (c : tie.After-worst2) → let a = (start c) .args in checked (c .worst2 .result)
-    ≡ judged (laterOpen (a .step) (a .fits) (a .s) (slotAt (a .pool .now) (a .size) (a .index)) (length (a .scratch .now)) (messageWith (a .a) (a .residues .now)))
+    ≡ judged (laterOpen (a .step) (a .fits) (a .s) (slotAt (a .pool .now) (a .at .size) (a .at .index)) (length (a .scratch .now)) (messageWith (a .a) (a .residues .now)))
 unfolding laterOpen roomTests
 told c =
     also _ _ (c .worst2 .ensures) (c .before .before .before .before .before .check-later .ensures)
@@ -52,7 +52,7 @@ returns : tie.Need-returns
 returns c =
     let a = (start (c .before .before)) .args in
     hands-on (c .before .before .worst2 .result) _ (told (c .before .before)) (c .enum-told2 .given .1) ∙ sym
-    (later-phases (a .s) (slotAt (a .pool .now) (a .size) (a .index)) (a .scratch .now) (messageWith (a .a) (a .residues .now)) (a .step) (a .fits))
+    (later-phases (a .s) (slotAt (a .pool .now) (a .at .size) (a .at .index)) (a .scratch .now) (messageWith (a .a) (a .residues .now)) (a .step) (a .fits))
 
 check-kept-requires : tie.Need-check-kept-requires
 check-kept-requires c κs =
@@ -63,7 +63,7 @@ returns-2 : tie.Need-returns-2
 returns-2 c =
     let a = (start (c .before .before .before)) .args in
     c .check-kept .ensures
-    ∙ sym (later-phases (a .s) (slotAt (a .pool .now) (a .size) (a .index)) (a .scratch .now) (messageWith (a .a) (a .residues .now)) (a .step) (a .fits)
+    ∙ sym (later-phases (a .s) (slotAt (a .pool .now) (a .at .size) (a .at .index)) (a .scratch .now) (messageWith (a .a) (a .residues .now)) (a .step) (a .fits)
     ∙ goes-past (c .before .before .before .worst2 .result) (told (c .before .before .before)) (c .before .enum-told .given .1))
 
 pub check-spec : {M : Type 1} → statement M

@@ -17,7 +17,7 @@ check-requires c κs = search needs
 returns : tie.Need-returns
 returns c =
     let a = c .before .before .before .before .before .args in
-    let s = slotAt (a .pool .now) (a .size) (a .index) in
+    let s = slotAt (a .pool .now) (a .at .size) (a .at .index) in
     (rw (c .before .has-room .ensures) at (c .check .ensures)) ∙ ap judged
     (second-tests (a .s) s (a .scratch .now) (messageWith (a .a) (a .residues .now)) (a .room))
 

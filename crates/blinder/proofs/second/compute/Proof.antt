@@ -9,7 +9,7 @@ use Rattle.protocol.specs.Message.{messageWith, messageSize}
 use Rattle.protocol.proofs.StepTests.{BlinderFits}
 use Rattle.judging.proofs.Fits.{open-placed}
 use Rattle.blinder.proofs.Kept.{side-bound, square-bound}
-use Rattle.blinder.proofs.Known.{second-known, sending-known, second-leaves}
+use Rattle.blinder.proofs.Known.{second-known, sending-known, second-computed}
 use borrow.Author.Needs.{needs}
 use Rattle.blinder.proofs.second.compute.Statement.{statement}
 use Rattle.blinder.proofs.second.compute.Tie as tie
@@ -17,22 +17,22 @@ use Rattle.blinder.proofs.second.compute.Tie as tie
 abbrev start : tie.After-side-size → tie.Start
 start c = c .before .before .before .before .before .before .before .before .before
 
-known : (c : tie.Start) → BlinderFits 3 (c .args .s) (slotAt (c .args .pool .now) (c .args .size) (c .args .index)) (c .args .scratch .now)
+known : (c : tie.Start) → BlinderFits 3 (c .args .s) (slotAt (c .args .pool .now) (c .args .at .size) (c .args .at .index)) (c .args .scratch .now)
     (messageWith (c .args .a) (c .args .residues .now)) (messageSize 4 (c .args .s .terms)) (length (c .args .out .now))
 known c =
-    second-known (c .args .s) (slotAt (c .args .pool .now) (c .args .size) (c .args .index)) (messageWith (c .args .a) (c .args .residues .now))
+    second-known (c .args .s) (slotAt (c .args .pool .now) (c .args .at .size) (c .args .at .index)) (messageWith (c .args .a) (c .args .residues .now))
     (c .args .scratch .now) (length (c .args .out .now)) (c .pre)
 
 m-fits : (c : tie.After-side-size) → c .before .times .result ≤ length ((start c) .args .s .mm)
 m-fits c =
     let x = (start c) .args .s in
-    let l : length (x .mm) ≡ 256 = sym (length-map (x .mm) _) ∙ (start c) .good .1 .1 .1 .1 .0 .1 .1 .1 .1 .0 .1 .0 .1 in
+    let l : length (x .mm) ≡ 256 = sym (length-map (x .mm) _) ∙ (start c) .good .1 .1 .1 .0 .1 .1 .1 .1 .0 .1 .0 .1 in
     omega (arith, l, c .before .times .ensures, square-bound (x .terms) (known (start c) .later .session-open .terms .sides))
 
 y-fits : (c : tie.After-side-size) → c .side-size .result ≤ length ((start c) .args .s .y)
 y-fits c =
     let x = (start c) .args .s in
-    let l : length (x .y) ≡ 16 = sym (length-map (x .y) _) ∙ (start c) .good .1 .1 .1 .1 .0 .1 .1 .1 .1 .1 .0 .1 .0 .1 in
+    let l : length (x .y) ≡ 16 = sym (length-map (x .y) _) ∙ (start c) .good .1 .1 .1 .0 .1 .1 .1 .1 .1 .0 .1 .0 .1 in
     omega (arith, l, c .side-size .ensures, side-bound (x .terms) (known (start c) .later .session-open .terms .sides))
 
 times-requires : tie.Need-times-requires
@@ -73,7 +73,7 @@ returns : tie.Need-returns
 returns c =
     let told = c .before .before .before .before .before .before .before .before in
     let a = (start told) .args in
-    second-leaves (a .s) (slotAt (a .pool .now) (a .size) (a .index)) (messageWith (a .a) (a .residues .now)) (known (start told))
+    second-computed (a .s) (slotAt (a .pool .now) (a .at .size) (a .at .index)) (messageWith (a .a) (a .residues .now)) (known (start told))
     (c .before .before .before .before .before .before .before .matrix .ensures) (c .before .before .before .before .before .before .matrix2 .ensures) (a .out .now) (told .before .times .ensures) (told .side-size .ensures)
     (c .before .before .send .ensures)
 
