@@ -32,9 +32,6 @@ fn fits(q: u32, m: usize, k: usize, p: usize, x: usize, y: usize, out: usize) ->
     if Field::LARGEST < q {
         return false;
     }
-    if p == 0 {
-        return false;
-    }
     if 2048 < m {
         return false;
     }

@@ -21,45 +21,41 @@ returns-4 c = refused
 returns-5 : tie.Need-returns-5
 returns-5 c = refused
 
+mul-if6 : tie.Need-mul-if6
+mul-if6 c =
+    let a = c .before .before .before .before .before .args in
+    omega (arith, mul-le-mul {n₁ = a .k} {m₁ = a .p} {n₂ = 2048} {m₂ = 2048} (search needs) (search needs))
+
 returns-6 : tie.Need-returns-6
 returns-6 c = refused
 
 mul-if7 : tie.Need-mul-if7
 mul-if7 c =
     let a = c .before .before .before .before .before .before .args in
-    omega (arith, mul-le-mul {n₁ = a .k} {m₁ = a .p} {n₂ = 2048} {m₂ = 2048} (search needs) (search needs))
+    omega (arith, mul-le-mul {n₁ = a .m} {m₁ = a .k} {n₂ = 2048} {m₂ = 2048} (search needs) (search needs))
 
 returns-7 : tie.Need-returns-7
 returns-7 c = refused
 
 mul-if8 : tie.Need-mul-if8
-mul-if8 c =
-    let a = c .before .before .before .before .before .before .before .args in
-    omega (arith, mul-le-mul {n₁ = a .m} {m₁ = a .k} {n₂ = 2048} {m₂ = 2048} (search needs) (search needs))
+mul-if8 c = search needs
 
 returns-8 : tie.Need-returns-8
 returns-8 c = refused
 
 mul-if9 : tie.Need-mul-if9
-mul-if9 c = search needs
+mul-if9 c =
+    let a = c .before .before .before .before .before .before .before .before .args in
+    omega (arith, mul-le-mul {n₁ = a .m} {m₁ = a .p} {n₂ = 2048} {m₂ = 2048} (search needs) (search needs))
 
 returns-9 : tie.Need-returns-9
 returns-9 c = refused
 
-mul-if10 : tie.Need-mul-if10
-mul-if10 c =
-    let a = c .before .before .before .before .before .before .before .before .before .args in
-    omega (arith, mul-le-mul {n₁ = a .m} {m₁ = a .p} {n₂ = 2048} {m₂ = 2048} (search needs) (search needs))
-
 returns-10 : tie.Need-returns-10
-returns-10 c = refused
-
-returns-11 : tie.Need-returns-11
-returns-11 c = record {
+returns-10 c = record {
   shape = λ _. record {
     some-q = omega arith;
     small-q = search needs;
-    some-p = omega arith;
     few-k = search needs;
     few-y = search needs;
     full-x = search needs;
@@ -77,6 +73,7 @@ fits-spec =
     returns-3
     returns-4
     returns-5
+    mul-if6
     returns-6
     mul-if7
     returns-7
@@ -84,6 +81,4 @@ fits-spec =
     returns-8
     mul-if9
     returns-9
-    mul-if10
-    returns-10
-    returns-11)
+    returns-10)
