@@ -19,7 +19,7 @@ use Rattle.protocol.specs.Bounds.{sidesFit, system, columns}
 use Rattle.protocol.specs.System.{padded, sideSize, scratchSize, scratchParts}
 use Rattle.vectors.specs.Fill.{firstWords}
 use Rattle.blinder.specs.Second.{Small}
-use Rattle.tape.proofs.Sides.{unknowns, one-column}
+use Rattle.tape.proofs.Sides.{unknowns}
 
 pub zero-array : (n : ℕ) → replicate n 0 ≡ zeros n
 unfolding zeros tabulate
@@ -73,9 +73,7 @@ module _ (t : Terms) (fits : sidesFit system (t .m) (t .k) (t .p) ≡ true) wher
       record {
         some-q = some;
         small-q = few;
-        some-n = u .some;
         few-n = u .few;
-        some-rhs = omega (arith, one-column (t .m) (t .k) (t .p) fits);
         few-rhs = omega (arith, u .most);
         square = square-bound;
         side = omega (arith, side-is, side-bound);

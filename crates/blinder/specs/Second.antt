@@ -17,9 +17,7 @@ use Rattle.protocol.specs.System.{sideSize, scratchSize, scratchParts}
 pub record Small (q n rhs : ℕ) : Type 0 where
   pub some-q : 0 < q
   pub small-q : q < 2147483648
-  pub some-n : 0 < n
   pub few-n : n ≤ 16
-  pub some-rhs : 0 < rhs
   pub few-rhs : rhs ≤ 16
   pub square : n * n ≤ 256
   pub side : n * rhs ≤ 16

@@ -33,7 +33,6 @@ write-deal-requires c κs =
       record {
         some-q = h .0 .some-q;
         small-q = h .0 .small-q;
-        some-p = h .0 .some-n;
         few-k = omega (arith, h .0 .few-n);
         few-y = omega
             (arith, h .0 .square);

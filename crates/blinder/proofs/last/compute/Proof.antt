@@ -9,7 +9,7 @@ use Rattle.protocol.specs.Message.{messageWith}
 use Rattle.protocol.specs.System.{sideSize, blinderLastEffect}
 use Rattle.protocol.proofs.CompletionLaws.{third-of}
 use Rattle.protocol.proofs.StepTests.{BlinderFits}
-use Rattle.tape.proofs.Sides.{unknowns, one-column}
+use Rattle.tape.proofs.Sides.{unknowns}
 use Rattle.judging.proofs.Fits.{open-placed}
 use Rattle.blinder.proofs.Kept.{side-is, side-bound, square-is, wide-enough}
 use Rattle.blinder.proofs.Known.{last-known}
@@ -50,7 +50,6 @@ write-product-requires c κs =
     record {
       some-q = omega (arith, o .big);
       small-q = omega (arith, o .small);
-      some-p = omega (arith, one-column (t .m) (t .k) (t .p) (o .sides));
       few-k = omega (arith, u .few);
       few-y = omega (arith, side, side-bound t (o .sides));
       full-x = omega (arith, ap length (c .before .matrix .ensures) ∙ third-of (f .later .matrices-fit) .size, square-is t (o .sides));

@@ -53,7 +53,6 @@ write-share-requires c κs =
       record {
         some-q = h .some-q;
         small-q = h .small-q;
-        some-p = b .some-p;
         few-k = b .few-k;
         few-y = b .few-kp;
         full-x = omega (arith, length-take-le (at .times .result) (a .residues .now) (omega (arith, h .full, n)), n);

@@ -61,7 +61,6 @@ write-reply-requires c κs =
       record {
         some-q = h .some-q;
         small-q = h .small-q;
-        some-p = b .some-p;
         few-k = b .few-k;
         few-y = b .few-kp;
         full-x = omega (arith, h .plain .size);

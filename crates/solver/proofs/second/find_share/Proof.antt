@@ -49,7 +49,6 @@ write-share-requires c κs =
       record {
         some-q = h .0;
         small-q = h .1;
-        some-p = omega (arith, f .least, f .some);
         few-k = omega (arith, f .square, f .few);
         few-y = omega (arith, f .kp-is, f .mp);
         full-x = simp length-take (omega (arith, n, h .3));
