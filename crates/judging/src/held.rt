@@ -1,8 +1,7 @@
-// The words of a half in its slot of a pool, and what a step with a message tests beside them.
+// The words of a half, and what a step with a message tests beside them. Each is lent the words of the half's slot.
 //   check_tape, check_body   the tape's status and numbers, and its matrices
 //   check_arrived            both, and the words of the message
 use crate::Check;
-use crate::half;
 use crate::numbers::check_same;
 use crate::order::need;
 use crate::order::worst;
@@ -10,30 +9,36 @@ use protocol::Head;
 use protocol::Refusal;
 use protocol::Terms;
 use tape::End;
-use tape::Place;
-use tape::slot;
+use tape::half::holds_residues;
+use tape::header::bears;
+use tape::header::status_is;
 use vectors::all_below;
 ghost use mathlib.Core.Path.{_≡_};
-ghost use Rattle.protocol.specs.Tape.{slotWords, tapeTests, bodyTests};
-ghost use Rattle.tape.specs.Ends.{role};
-ghost use Rattle.tape.specs.Placed.{slotIn, Placed};
+ghost use mathlib.Core.Bool.{true};
+ghost use Prim.Native.Nat.{_≤_};
+ghost use lib.ListN.{length};
+ghost use Rattle.protocol.specs.Bounds.{sidesFit};
+ghost use Rattle.protocol.specs.Tape.{headerSize, tapeSize, tapeTests, bodyTests};
+ghost use Rattle.tape.specs.Ends.{role, sort};
 ghost use Rattle.judging.specs.InOrder.{checked, judged};
 ghost use Rattle.judging.specs.Received.{sentTests, receivedWords};
 
 // The status, and the numbers of the tape.
-pub fn check_tape(end: End, status: u32, t: Terms, pool: &[u32], at: Place) -> Check
-    requires { ⌜ Placed (role end) t (slotIn (now pool) at) ⌝ }
-    ensures { λ r. ⌜ checked r ≡ judged (tapeTests (role end) status t (slotWords (slotIn (now (pool .entry)) at))) ⌝ }
+pub fn check_tape(end: End, status: u32, t: Terms, slot: &[u32]) -> Check
+    requires { ⌜ headerSize ≤ length (now slot) ⌝ }
+    ensures { λ r. ⌜ checked r ≡ judged (tapeTests (role end) status t (now (slot .entry))) ⌝ }
 {
-    half::check_tape(end, status, t, slot(pool, at))
+    let mark = need(Refusal::Mark, status_is(status, slot));
+    let numbers = need(Refusal::Stranger, bears(end, t, slot));
+    worst(mark, numbers)
 }
 
 // The matrices hold residues.
-pub fn check_body(end: End, t: Terms, pool: &[u32], at: Place) -> Check
-    requires { ⌜ Placed (role end) t (slotIn (now pool) at) ⌝ }
-    ensures { λ r. ⌜ checked r ≡ judged (bodyTests (role end) t (slotWords (slotIn (now (pool .entry)) at))) ⌝ }
+pub fn check_body(end: End, t: Terms, slot: &[u32]) -> Check
+    requires { ⌜ (sidesFit (sort end) (t .m) (t .k) (t .p) ≡ true) × (tapeSize (role end) (t .m) (t .k) (t .p) ≤ length (now slot)) ⌝ }
+    ensures { λ r. ⌜ checked r ≡ judged (bodyTests (role end) t (now (slot .entry))) ⌝ }
 {
-    half::check_body(end, t, slot(pool, at))
+    need(Refusal::Residue, holds_residues(end, t, slot))
 }
 
 // The message's numbers are the session's, and it holds residues.
@@ -53,14 +58,13 @@ pub fn check_arrived(
     t: Terms,
     a: Head,
     residues: &[u32],
-    pool: &[u32],
-    at: Place,
+    slot: &[u32],
 ) -> Check
-    requires { ⌜ Placed (role end) t (slotIn (now pool) at) ⌝ }
-    ensures { λ r. ⌜ checked r ≡ judged (receivedWords (role end) status t a (slotWords (slotIn (now (pool .entry)) at)) (now (residues .entry))) ⌝ }
+    requires { ⌜ (sidesFit (sort end) (t .m) (t .k) (t .p) ≡ true) × (tapeSize (role end) (t .m) (t .k) (t .p) ≤ length (now slot)) ⌝ }
+    ensures { λ r. ⌜ checked r ≡ judged (receivedWords (role end) status t a (now (slot .entry)) (now (residues .entry))) ⌝ }
 {
-    let tape = check_tape(end, status, t, pool, at);
+    let tape = check_tape(end, status, t, slot);
     let sent = check_sent(t, a, residues);
-    let body = check_body(end, t, pool, at);
+    let body = check_body(end, t, slot);
     worst(tape, worst(sent, body))
 }

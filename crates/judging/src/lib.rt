@@ -4,11 +4,10 @@
 //   order              one test, and the worse of two checks: the order in which refusals are given
 //   message            a message's kind and size
 //   numbers            the numbers of a session, of its slot and of a message
-//   half, held         the words of a half, in its slot and in its pool
+//   held               the words of a half, in its slot
 //   received           what every step checks that takes a message
 //   step               what steps and drops check, whatever their end
 // No function here is for hosts.
-mod half;
 pub mod held;
 pub mod message;
 pub mod numbers;

@@ -22,19 +22,21 @@ use tape::Place;
 use tape::header::IN_USE;
 use tape::header::READY;
 use tape::is_slot;
+use tape::slot;
 use vectors::all_below;
 ghost use mathlib.Core.Path.{_≡_};
+ghost use mathlib.Core.Bool.{true};
+ghost use Prim.Native.Nat.{_≤_};
 ghost use mathlib.Core.List.{[], _∷_, _++_};
 ghost use Rattle.protocol.specs.declared.Refusal.the-variants.{Size};
 ghost use Rattle.protocol.specs.Judge.{needs, given};
 ghost use lib.ListN.{length};
-ghost use Rattle.protocol.specs.Bounds.{inputTests};
-ghost use Rattle.protocol.specs.Tape.{slotWords, tapeTests, bodyTests};
+ghost use Rattle.protocol.specs.Bounds.{inputTests, sidesFit};
 ghost use Rattle.protocol.specs.Message.{messageWith, messageTests, dueTests};
 ghost use Rattle.protocol.specs.Step.{firstTests, isOpen, openTests, laterTests};
-ghost use Rattle.protocol.specs.Tape.{READY};
-ghost use Rattle.tape.specs.Ends.{role};
-ghost use Rattle.tape.specs.Placed.{slotIn, Placed};
+ghost use Rattle.protocol.specs.Tape.{READY, tapeSize, tapeTests, bodyTests};
+ghost use Rattle.tape.specs.Ends.{role, sort};
+ghost use Rattle.tape.specs.Placed.{slotIn};
 ghost use Rattle.judging.specs.InOrder.{checked, judged};
 ghost use Rattle.judging.specs.Groups.{openNumbers, noneDue};
 ghost use Rattle.judging.specs.Received.{firstReceived, laterReceived};
@@ -51,12 +53,12 @@ fn check_numbers(end: End, t: Terms, pool: usize, at: Place) -> Check
 }
 
 // The words of a half that is ready.
-fn check_ready(end: End, t: Terms, pool: &[u32], at: Place) -> Check
-    requires { ⌜ Placed (role end) t (slotIn (now pool) at) ⌝ }
-    ensures { λ r. ⌜ checked r ≡ judged (tapeTests (role end) READY t (slotWords (slotIn (now (pool .entry)) at)) ++ bodyTests (role end) t (slotWords (slotIn (now (pool .entry)) at))) ⌝ }
+fn check_ready(end: End, t: Terms, slot: &[u32]) -> Check
+    requires { ⌜ (sidesFit (sort end) (t .m) (t .k) (t .p) ≡ true) × (tapeSize (role end) (t .m) (t .k) (t .p) ≤ length (now slot)) ⌝ }
+    ensures { λ r. ⌜ checked r ≡ judged (tapeTests (role end) READY t (now (slot .entry)) ++ bodyTests (role end) t (now (slot .entry))) ⌝ }
 {
-    let tape = check_tape(end, READY, t, pool, at);
-    let body = check_body(end, t, pool, at);
+    let tape = check_tape(end, READY, t, slot);
+    let body = check_body(end, t, slot);
     worst(tape, body)
 }
 
@@ -67,7 +69,7 @@ pub fn check_first(end: End, t: Terms, pool: &[u32], at: Place) -> Check
     let Check::Passed = numbers else {
         return numbers;
     };
-    check_ready(end, t, pool, at)
+    check_ready(end, t, slot(pool, at))
 }
 
 // Nothing is due: of the session's own numbers none is judged.
@@ -89,7 +91,7 @@ pub fn check_open(end: End, due: u32, t: Terms, pool: &[u32], at: Place) -> Chec
     let Check::Passed = numbers else {
         return numbers;
     };
-    check_tape(end, IN_USE, t, pool, at)
+    check_tape(end, IN_USE, t, slot(pool, at))
 }
 
 // ---- with a message
@@ -126,7 +128,7 @@ pub fn check_first_received(
     let Check::Passed = numbers else {
         return numbers;
     };
-    check_arrived(end, READY, t, a, residues, pool, at)
+    check_arrived(end, READY, t, a, residues, slot(pool, at))
 }
 
 // The same of a later step, which has to be due itself.
@@ -168,7 +170,7 @@ pub fn check_later(
     let Check::Passed = numbers else {
         return numbers;
     };
-    check_arrived(end, IN_USE, t, a, residues, pool, at)
+    check_arrived(end, IN_USE, t, a, residues, slot(pool, at))
 }
 
 // Room that an open session asks for.

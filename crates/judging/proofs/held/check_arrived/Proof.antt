@@ -2,12 +2,17 @@
 use Rattle.judging.specs.Groups.{sameTests}
 use Rattle.judging.specs.Received.{sentTests, receivedWords}
 use Rattle.judging.proofs.Join.{also}
+use native.Mathlib.Omega.{arith}
+use Rattle.tape.specs.Ends.{role}
+use Rattle.tape.proofs.Slots.{half-body}
 use borrow.Author.Needs.{needs}
 use Rattle.judging.proofs.held.check_arrived.Statement.{statement}
 use Rattle.judging.proofs.held.check_arrived.Tie as tie
 
 check-tape-requires : tie.Need-check-tape-requires
-check-tape-requires c κs = search needs
+check-tape-requires c κs =
+    let a = c .before .before .args in
+    omega (arith, half-body (role (a .end)) (a .t), c .before .before .pre .1)
 
 check-sent-requires : tie.Need-check-sent-requires
 check-sent-requires c κs = search needs

@@ -5,7 +5,7 @@ use Rattle.tape.specs.Ends.{role}
 use Rattle.judging.specs.InOrder.{checked}
 use Rattle.judging.proofs.Join.{hands-on, goes-past}
 use Rattle.judging.specs.Received.{firstReceived}
-use Rattle.judging.proofs.Fits.{turn-placed}
+use Rattle.judging.proofs.Fits.{turn-placed, half-fits}
 use Rattle.judging.proofs.Steps.{received-phases}
 use borrow.Author.Needs.{needs}
 use Rattle.judging.proofs.step.check_first_received.Statement.{statement}
@@ -27,19 +27,26 @@ returns c =
     hands-on (n .result) _ (n .ensures) (c .enum-told2 .given .1) ∙ sym
     (received-phases (role (a .end)) (a .t) (slotAt (a .pool .now) (a .at .size) (a .at .index)) (a .kind) (a .a) (a .residues .now))
 
+slot-requires : tie.Need-slot-requires
+unfolding firstReceived
+slot-requires c κs =
+    let a = c .before .before .before .before .before .args in
+    (turn-placed (role (a .end)) (a .t) (a .a) _ (a .pool .now) (a .at .size) (a .at .index) _ (sym (c .before .before .check-first-numbers .ensures) ∙ ap checked (c .enum-told .given .1))) .inside
+
 check-arrived-requires : tie.Need-check-arrived-requires
 unfolding firstReceived
 check-arrived-requires c κs =
-    let a = c .before .before .before .before .before .args in
-    turn-placed (role (a .end)) (a .t) (a .a) _ (a .pool .now) (a .at .size) (a .at .index) _ (sym (c .before .before .check-first-numbers .ensures) ∙ ap checked (c .enum-told .given .1))
+    let a = c .before .before .before .before .before .before .args in
+    let p = turn-placed (role (a .end)) (a .t) (a .a) _ (a .pool .now) (a .at .size) (a .at .index) _ (sym (c .before .before .before .check-first-numbers .ensures) ∙ ap checked (c .before .enum-told .given .1)) in
+    half-fits (role (a .end)) (a .t) (slotAt (a .pool .now) (a .at .size) (a .at .index)) p (c .slot .ensures)
 
 returns-2 : tie.Need-returns-2
 returns-2 c =
-    let a = c .before .before .before .before .before .before .args in
-    let n = c .before .before .before .check-first-numbers in
-    c .check-arrived .ensures ∙ sym
+    let a = c .before .before .before .before .before .before .before .args in
+    let n = c .before .before .before .before .check-first-numbers in
+    (rw (c .before .slot .ensures) at (c .check-arrived .ensures)) ∙ sym
     (received-phases (role (a .end)) (a .t) (slotAt (a .pool .now) (a .at .size) (a .at .index)) (a .kind) (a .a) (a .residues .now)
-    ∙ goes-past (n .result) (n .ensures) (c .before .enum-told .given .1))
+    ∙ goes-past (n .result) (n .ensures) (c .before .before .enum-told .given .1))
 
 pub check-first-received-spec : {M : Type 1} → statement M
 check-first-received-spec =
@@ -49,5 +56,6 @@ check-first-received-spec =
     enum-told
     enum-told-2
     returns
+    slot-requires
     check-arrived-requires
     returns-2)

@@ -5,7 +5,7 @@ use Rattle.tape.specs.Ends.{role}
 use Rattle.judging.specs.InOrder.{checked}
 use Rattle.judging.proofs.Join.{hands-on, goes-past}
 use Rattle.judging.specs.Received.{laterReceived}
-use Rattle.judging.proofs.Fits.{turn-placed}
+use Rattle.judging.proofs.Fits.{turn-placed, half-fits}
 use Rattle.judging.proofs.Phases.{is-open}
 use Rattle.judging.proofs.Steps.{later-phases, later-closed}
 use borrow.Author.Needs.{needs}
@@ -36,19 +36,26 @@ returns-2 c =
     hands-on (n .result) _ (n .ensures) (c .enum-told2 .given .1) ∙ sym
     (later-phases (role (a .end)) (a .t) (slotAt (a .pool .now) (a .at .size) (a .at .index)) (a .kind) (a .a) (a .residues .now) (a .due) (is-open (a .due) (c .before .before .before .if1 .left)))
 
+slot-requires : tie.Need-slot-requires
+unfolding laterReceived
+slot-requires c κs =
+    let a = c .before .before .before .before .before .before .args in
+    (turn-placed (role (a .end)) (a .t) (a .a) _ (a .pool .now) (a .at .size) (a .at .index) _ (sym (c .before .before .check-later-numbers .ensures) ∙ ap checked (c .enum-told .given .1))) .inside
+
 check-arrived-requires : tie.Need-check-arrived-requires
 unfolding laterReceived
 check-arrived-requires c κs =
-    let a = c .before .before .before .before .before .before .args in
-    turn-placed (role (a .end)) (a .t) (a .a) _ (a .pool .now) (a .at .size) (a .at .index) _ (sym (c .before .before .check-later-numbers .ensures) ∙ ap checked (c .enum-told .given .1))
+    let a = c .before .before .before .before .before .before .before .args in
+    let p = turn-placed (role (a .end)) (a .t) (a .a) _ (a .pool .now) (a .at .size) (a .at .index) _ (sym (c .before .before .before .check-later-numbers .ensures) ∙ ap checked (c .before .enum-told .given .1)) in
+    half-fits (role (a .end)) (a .t) (slotAt (a .pool .now) (a .at .size) (a .at .index)) p (c .slot .ensures)
 
 returns-3 : tie.Need-returns-3
 returns-3 c =
-    let a = c .before .before .before .before .before .before .before .args in
-    let n = c .before .before .before .check-later-numbers in
-    c .check-arrived .ensures ∙ sym
-    (later-phases (role (a .end)) (a .t) (slotAt (a .pool .now) (a .at .size) (a .at .index)) (a .kind) (a .a) (a .residues .now) (a .due) (is-open (a .due) (c .before .before .before .before .if1 .left))
-    ∙ goes-past (n .result) (n .ensures) (c .before .enum-told .given .1))
+    let a = c .before .before .before .before .before .before .before .before .args in
+    let n = c .before .before .before .before .check-later-numbers in
+    (rw (c .before .slot .ensures) at (c .check-arrived .ensures)) ∙ sym
+    (later-phases (role (a .end)) (a .t) (slotAt (a .pool .now) (a .at .size) (a .at .index)) (a .kind) (a .a) (a .residues .now) (a .due) (is-open (a .due) (c .before .before .before .before .before .if1 .left))
+    ∙ goes-past (n .result) (n .ensures) (c .before .before .enum-told .given .1))
 
 pub check-later-spec : {M : Type 1} → statement M
 check-later-spec =
@@ -60,5 +67,6 @@ check-later-spec =
     enum-told
     enum-told-2
     returns-2
+    slot-requires
     check-arrived-requires
     returns-3)

@@ -4,7 +4,7 @@ use Rattle.protocol.specs.Tape.{slotAt}
 use Rattle.tape.specs.Ends.{role}
 use Rattle.judging.specs.InOrder.{checked}
 use Rattle.judging.proofs.Join.{hands-on, goes-past}
-use Rattle.judging.proofs.Fits.{numbers-placed}
+use Rattle.judging.proofs.Fits.{numbers-placed, header-fits}
 use Rattle.judging.proofs.Phases.{is-open}
 use Rattle.judging.proofs.Steps.{open-phases, none-due}
 use borrow.Author.Needs.{needs}
@@ -35,18 +35,24 @@ returns-2 c =
     hands-on (n .result) _ (n .ensures) (c .enum-told2 .given .1) ∙ sym
     (open-phases (role (a .end)) (a .t) (slotAt (a .pool .now) (a .at .size) (a .at .index)) (a .due) (is-open (a .due) (c .before .before .before .if1 .left)))
 
+slot-requires : tie.Need-slot-requires
+slot-requires c κs =
+    let a = c .before .before .before .before .before .args in
+    (numbers-placed (role (a .end)) (a .t) (a .pool .now) (a .at .size) (a .at .index) (sym (c .before .before .check-numbers .ensures) ∙ ap checked (c .enum-told .given .1))) .inside
+
 check-tape-requires : tie.Need-check-tape-requires
 check-tape-requires c κs =
-    let a = c .before .before .before .before .before .args in
-    numbers-placed (role (a .end)) (a .t) (a .pool .now) (a .at .size) (a .at .index) (sym (c .before .before .check-numbers .ensures) ∙ ap checked (c .enum-told .given .1))
+    let a = c .before .before .before .before .before .before .args in
+    let p = numbers-placed (role (a .end)) (a .t) (a .pool .now) (a .at .size) (a .at .index) (sym (c .before .before .before .check-numbers .ensures) ∙ ap checked (c .before .enum-told .given .1)) in
+    header-fits (role (a .end)) (a .t) (slotAt (a .pool .now) (a .at .size) (a .at .index)) p (c .slot .ensures)
 
 returns-3 : tie.Need-returns-3
 returns-3 c =
-    let a = c .before .before .before .before .before .before .args in
-    let n = c .before .before .before .check-numbers in
-    c .check-tape .ensures ∙ sym
-    (open-phases (role (a .end)) (a .t) (slotAt (a .pool .now) (a .at .size) (a .at .index)) (a .due) (is-open (a .due) (c .before .before .before .before .if1 .left))
-    ∙ goes-past (n .result) (n .ensures) (c .before .enum-told .given .1))
+    let a = c .before .before .before .before .before .before .before .args in
+    let n = c .before .before .before .before .check-numbers in
+    (rw (c .before .slot .ensures) at (c .check-tape .ensures)) ∙ sym
+    (open-phases (role (a .end)) (a .t) (slotAt (a .pool .now) (a .at .size) (a .at .index)) (a .due) (is-open (a .due) (c .before .before .before .before .before .if1 .left))
+    ∙ goes-past (n .result) (n .ensures) (c .before .before .enum-told .given .1))
 
 pub check-open-spec : {M : Type 1} → statement M
 check-open-spec =
@@ -58,5 +64,6 @@ check-open-spec =
     enum-told
     enum-told-2
     returns-2
+    slot-requires
     check-tape-requires
     returns-3)
