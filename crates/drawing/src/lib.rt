@@ -1,7 +1,7 @@
 // Residues drawn from raw words. No other crate knows how a word becomes a residue.
 //   read  how many words are read for n residues, or that they are too few
 //   draw  the residues, over the start of a lent slice
-// Mostly no word is thrown away. Both first look whether so, and then have no word to decide on: they take several at a time.
+// Mostly no word is thrown away. Both first look whether so, and take several words at a time then, since none decides.
 // No function here is for hosts.
 use reduction::prepare;
 use reduction::times;
@@ -98,8 +98,10 @@ pub fn read(q: u32, n: usize, words: &[u32]) -> Reading
 
 // Where none of the first n words is thrown away.
 fn draw_all(q: u32, n: usize, words: &[u32], out: &mut [u32])
-    requires { ⌜ (0 < q) × (q < 2147483648) × Kept q n (now words) × (n ≤ length (residuesOf q (now words))) × (n ≤ length (now out)) ⌝ }
-    ensures { λ _. ⌜ (n ≡ wordsRead q n (now (words .entry))) × (now (out .exit) ≡ over (drawn q n (now (words .entry))) (now (out .entry))) ⌝ }
+    requires { ⌜ (0 < q) × (q < 2147483648) × Kept q n (now words)
+        × (n ≤ length (residuesOf q (now words))) × (n ≤ length (now out)) ⌝ }
+    ensures { λ _. ⌜ n ≡ wordsRead q n (now (words .entry)) ⌝ }
+    ensures { λ _. ⌜ now (out .exit) ≡ over (drawn q n (now (words .entry))) (now (out .entry)) ⌝ }
 {
     let unit = prepare(1 % q, q);
     for j in 0..n {

@@ -15,7 +15,8 @@ limit-requires c κs = search needs
 
 returns : tie.Need-returns
 returns c = λ e j h.
-    kept-word (c .before .before .before .args .q) _ _ (c .before .limit .ensures) (omega (arith, c .before .before .shared-slice-known .given j, c .if1 .taken))
+    kept-word (c .before .before .before .args .q) _ _ (c .before .limit .ensures)
+    (omega (arith, c .before .before .shared-slice-known .given j, c .if1 .taken))
 
 cast-all-below : tie.Need-cast-all-below
 cast-all-below c =
