@@ -1,6 +1,7 @@
 -- One turn of a loop over raw words.
 -- Drew, drew-..      the loop that writes residues
 -- Passed, passed-..  the loop that counts the words to read
+-- all-passed, all-read  where none of the words is thrown away
 -- Assumes nothing.
 use mathlib.Core.Path.{_≡_, refl, sym, ap, _∙_}
 use mathlib.Core.Bool.{Bool, true, false, cond}
@@ -16,7 +17,7 @@ use borrow.Author.Tests.{lt-ltb, le-ltb, ne-eqb, le-leb, lt-leb}
 use Rattle.protocol.specs.Drawing.{isKept, residueOf, residuesOf, drawn, wordsRead}
 use Rattle.algebra.specs.Words.{over}
 use Rattle.drawing.specs.declared.Reading.the-variants.{Enough, Dry}
-use Rattle.drawing.specs.Extent.{readFor}
+use Rattle.drawing.specs.Extent.{readFor, Kept}
 
 pub kept-word : (q w below : ℕ) → below ≡ q * (4294967296 / q) → w < below → isKept q w ≡ true
 unfolding isKept
@@ -26,7 +27,7 @@ pub thrown-word : (q w below : ℕ) → below ≡ q * (4294967296 / q) → below
 unfolding isKept
 thrown-word q w below e h = le-ltb w _ (rw e at h)
 
-residues-few : (q : ℕ) (ws : List ℕ) → length (residuesOf q ws) ≤ length ws
+pub residues-few : (q : ℕ) (ws : List ℕ) → length (residuesOf q ws) ≤ length ws
 unfolding residuesOf
 residues-few q [] = omega arith
 residues-few q (w ∷ ws) = go (isKept q w) (residues-few q ws)
@@ -165,3 +166,13 @@ module _ (q n : ℕ) (words : List ℕ) (i due : ℕ) (s : Passed q n words i du
       let over : length words ≤ i = omega arith in
       let none : drop i words ≡ [] = drop-of-length-le words over in
       rw (lt-leb n (length (residuesOf q words)) (omega (arith, rw none at (s .kept))))
+
+module _ (q n : ℕ) (words : List ℕ) (inside : n ≤ length words) (all : Kept q n words) where
+  all-passed : (i : ℕ) → i ≤ n → Passed q n words i (n - i)
+  all-passed zero h = let whole : n - 0 ≡ n = omega arith in rw whole (passed-start q n words)
+  all-passed (suc i) h =
+      let less : n - i - 1 ≡ n - suc i = omega arith in
+      rw (add-one i, less) at (passed-kept q n words i (n - i) (all-passed i (omega arith)) (omega arith) (omega arith) (all i h))
+
+  pub all-read : Enough n ≡ readFor q n words
+  all-read = passed-all q n words n (n - n) (all-passed n (omega arith)) (omega arith)
