@@ -33,7 +33,7 @@ use Rattle.judging.specs.Groups.{modulusTests, numberTests, placeTests}
 use Rattle.judging.proofs.InOrder.{accepted-by}
 use Rattle.judging.proofs.Join.{judged-true}
 use Rattle.tape.proofs.Sides.{sides-of, unknowns, modulus}
-use Rattle.tape.proofs.Slots.{slot-inside, slot-room}
+use Rattle.tape.proofs.Slots.{slot-room}
 use Rattle.drawing.specs.declared.Reading.the-variants.{Dry}
 use Rattle.drawing.specs.Extent.{readFor}
 use Rattle.drawing.proofs.Then.{dry-few}
@@ -60,8 +60,8 @@ numbers-fit s t first second size index told e =
         field = rw (first-sort s) at (a .1 .0);
         sides = rw (first-sort s) at (a .1 .1 .1 .0);
       };
-      first-inside = slot-inside first size index (b .0);
-      second-inside = slot-inside second size index (b .1 .1 .1 .1 .1 .0);
+      first-inside = b .0;
+      second-inside = b .1 .1 .1 .1 .1 .0;
       room = omega (arith, leb-true (tapeSize (firstRole s) (t .m) (t .k) (t .p)) size (b .1 .0));
     }
 
@@ -100,7 +100,6 @@ module _ {s : Sort} {t : Terms} (f : Fits s t) where
       record {
         some-q = f .some-q;
         small-q = f .small-q;
-        some-p = b .some-p;
         few-k = b .few-k;
         few-mk = b .few-mk;
         few-kp = b .few-kp;

@@ -7,7 +7,8 @@
 use mathlib.Core.Path.{_≡_}
 use mathlib.Core.Bool.{true}
 use mathlib.Core.List.{List}
-use Prim.Native.Nat.{ℕ, _+_, _*_, _≤_, _<_}
+use Prim.Native.Nat.{ℕ, _*_, _/_, _≤_, _<_}
+use lib.Dec.{ltb}
 use lib.ListN.{length}
 use Rattle.protocol.specs.declared.Terms.{Terms}
 use Rattle.protocol.specs.Bounds.{Sort, fieldFits, sidesFit}
@@ -25,14 +26,13 @@ pub record Fits (s : Sort) (t : Terms) : Type 0 where
 -- of the pools: how many words they have
 pub record Numbers (s : Sort) (t : Terms) (first second size index : ℕ) : Type 0 where
   pub fits : Fits s t
-  pub first-inside : index * size + size ≤ first
-  pub second-inside : index * size + size ≤ second
+  pub first-inside : ltb index (first / size) ≡ true
+  pub second-inside : ltb index (second / size) ≡ true
   pub room : headerSize ≤ size
 
 pub record Masks (q m k p : ℕ) : Type 0 where
   pub some-q : 0 < q
   pub small-q : q < 2147483648
-  pub some-p : 0 < p
   pub few-k : k ≤ 2048
   pub few-mk : m * k ≤ 2048
   pub few-kp : k * p ≤ 2048

@@ -19,18 +19,22 @@ use judging::received::check_coins;
 use judging::worst;
 use protocol::Refusal;
 use protocol::Terms;
+use tape::Place;
 use tape::header::is_free;
+use tape::slot;
 use vectors::times;
 ghost use mathlib.Core.Path.{_≡_};
 ghost use mathlib.Core.Bool.{true};
-ghost use Prim.Native.Nat.{_+_, _*_, _≤_};
+ghost use Prim.Native.Nat.{_*_, _/_, _≤_};
+ghost use lib.Dec.{ltb};
 ghost use lib.ListN.{length, drop};
 ghost use Rattle.algebra.specs.Count.{part};
 ghost use Rattle.algebra.specs.Elimination.{regular};
 ghost use Rattle.algebra.specs.Prime.{isPrime};
 ghost use Rattle.protocol.specs.Bounds.{system};
 ghost use Rattle.protocol.specs.Drawing.{residuesOf, drawn};
-ghost use Rattle.protocol.specs.Tape.{headerSize, slotAt};
+ghost use Rattle.protocol.specs.Tape.{headerSize};
+ghost use Rattle.tape.specs.Placed.{slotIn};
 ghost use Rattle.protocol.specs.Deal.{drawnParts, dealTests};
 ghost use Rattle.judging.specs.InOrder.{checked, judged};
 ghost use Rattle.dealer.specs.Sorts.{sort, drawCount, request};
@@ -38,25 +42,23 @@ ghost use Rattle.dealer.specs.Groups.{dealNumbers, markTests, maskTests,
 ghost use Rattle.dealer.specs.Shape.{Fits, Numbers, Unknowns};
 
 // Of the pools' words it is told how many there are. The sides are tested with each half.
-fn check_numbers(s: Sort, t: Terms, first: usize, second: usize, size: usize, index: usize) -> Check
-    ensures { λ r. ⌜ checked r ≡ judged (dealNumbers (sort s) t first second size index) ⌝ }
+fn check_numbers(s: Sort, t: Terms, first: usize, second: usize, at: Place) -> Check
+    ensures { λ r. ⌜ checked r ≡ judged (dealNumbers (sort s) t first second (at .size) (at .index)) ⌝ }
 {
     let a = first_end(s);
     let b = second_end(s);
     let modulus = check_modulus(a, t.q);
-    let one = check_sizes(a, t, first, size, index);
-    let two = check_sizes(b, t, second, size, index);
+    let one = check_sizes(a, t, first, at);
+    let two = check_sizes(b, t, second, at);
     worst(modulus, worst(one, two))
 }
 
 // A tape is dealt over an empty or a spent one.
-fn check_mark(pool: &[u32], size: usize, index: usize) -> Check
-    requires { ⌜ (headerSize ≤ size) × (index * size + size ≤ length (now pool)) ⌝ }
-    ensures { λ r. ⌜ checked r ≡ judged (markTests (slotAt (now (pool .entry)) size index)) ⌝ }
+fn check_mark(pool: &[u32], at: Place) -> Check
+    requires { ⌜ (headerSize ≤ at .size) × (ltb (at .index) (length (now pool) / at .size) ≡ true) ⌝ }
+    ensures { λ r. ⌜ checked r ≡ judged (markTests (slotIn (now (pool .entry)) at)) ⌝ }
 {
-    let at = index * size;
-    let stop = at + size;
-    need(Refusal::Mark, is_free(&pool[at..stop]))
+    need(Refusal::Mark, is_free(slot(pool, at)))
 }
 
 // Whether the n by n mask that is drawn from the word at `at` on has an inverse.
@@ -104,42 +106,26 @@ fn check_raw(s: Sort, t: Terms, words: &[u32]) -> Check
 }
 
 // The slots' statuses and the raw words.
-fn check_words(
-    s: Sort,
-    t: Terms,
-    first: &[u32],
-    second: &[u32],
-    size: usize,
-    index: usize,
-    words: &[u32],
-) -> Check
-    requires { ⌜ Numbers (sort s) t (length (now first)) (length (now second)) size index ⌝ }
-    ensures { λ r. ⌜ checked r ≡ judged (dealWords (sort s) t (slotAt (now (first .entry)) size index)
-        (slotAt (now (second .entry)) size index) (now (words .entry))) ⌝ }
+fn check_words(s: Sort, t: Terms, first: &[u32], second: &[u32], at: Place, words: &[u32]) -> Check
+    requires { ⌜ Numbers (sort s) t (length (now first)) (length (now second)) (at .size) (at .index) ⌝ }
+    ensures { λ r. ⌜ checked r ≡ judged (dealWords (sort s) t (slotIn (now (first .entry)) at)
+        (slotIn (now (second .entry)) at) (now (words .entry))) ⌝ }
 {
-    let one = check_mark(first, size, index);
-    let two = check_mark(second, size, index);
+    let one = check_mark(first, at);
+    let two = check_mark(second, at);
     let raw = check_raw(s, t, words);
     worst(one, worst(two, raw))
 }
 
 // The session's number in the terms is of no account, but it is one.
-pub fn check(
-    s: Sort,
-    t: Terms,
-    first: &[u32],
-    second: &[u32],
-    size: usize,
-    index: usize,
-    words: &[u32],
-) -> Check
+pub fn check(s: Sort, t: Terms, first: &[u32], second: &[u32], at: Place, words: &[u32]) -> Check
     requires { ⌜ 1 ≤ t .session .0 ⌝ }
-    ensures { λ r. ⌜ checked r ≡ judged (dealTests (slotAt (now (first .entry)) size index) (slotAt (now (second .entry)) size index)
+    ensures { λ r. ⌜ checked r ≡ judged (dealTests (slotIn (now (first .entry)) at) (slotIn (now (second .entry)) at)
         (request (sort s) t (now (words .entry)))) ⌝ }
 {
-    let numbers = check_numbers(s, t, first.len(), second.len(), size, index);
+    let numbers = check_numbers(s, t, first.len(), second.len(), at);
     let Check::Passed = numbers else {
         return numbers;
     };
-    check_words(s, t, first, second, size, index, words)
+    check_words(s, t, first, second, at, words)
 }

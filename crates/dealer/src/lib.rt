@@ -24,6 +24,7 @@ use protocol::Terms;
 use sides::Matrix;
 use sort::Sort;
 use tape::End;
+use tape::Place;
 ghost use mathlib.Core.Path.{_≡_};
 ghost use Prim.Native.Nat.{_≤_};
 ghost use Rattle.protocol.specs.Deal.{productRequest, systemRequest, deal};
@@ -37,22 +38,27 @@ fn deal(
     t: Terms,
     first: &mut [u32],
     second: &mut [u32],
-    size: usize,
-    index: usize,
+    at: Place,
     words: &[u32],
 ) -> Answer
     requires { ⌜ 1 ≤ t .session .0 ⌝ }
     ensures { λ r. ⌜ _≡_ {A = Pools} (record { answer = answerReply r; first = now (first .exit); second = now (second .exit) })
         (pools (now (first .entry)) (now (second .entry))
-        (deal (now (first .entry)) (now (second .entry)) size index (request (sort s) t (now (words .entry))))) ⌝ }
+        (deal (now (first .entry)) (now (second .entry)) (at .size) (at .index) (request (sort s) t (now (words .entry))))) ⌝ }
 {
-    let checked = check(s, t, first, second, size, index, words);
+    let checked = check(s, t, first, second, at, words);
     let Check::Passed = checked else {
         return answer_of(checked);
     };
-    let at = index * size;
-    let stop = at + size;
-    let read = write_halves(s, t, words, &mut first[at..stop], &mut second[at..stop]);
+    let start = at.index * at.size;
+    let stop = start + at.size;
+    let read = write_halves(
+        s,
+        t,
+        words,
+        &mut first[start..stop],
+        &mut second[start..stop],
+    );
     Answer::Accepted(read)
 }
 
@@ -72,6 +78,7 @@ pub fn deal_product(
     ensures { λ r. ⌜ _≡_ {A = Pools} (record { answer = answerReply r; first = now (first .exit); second = now (second .exit) })
         (pools (now (first .entry)) (now (second .entry)) (deal (now (first .entry)) (now (second .entry)) size index (productRequest tape q m k p (now (words .entry))))) ⌝ }
 {
+    let at = Place { size, index };
     let session = SessionId(1);
     let t = Terms {
         session,
@@ -81,7 +88,7 @@ pub fn deal_product(
         k,
         p,
     };
-    deal(Sort::Product, t, first, second, size, index, words)
+    deal(Sort::Product, t, first, second, at, words)
 }
 
 // A system of n unknowns: blinder's half goes into the first pool, solver's into the second.
@@ -98,6 +105,7 @@ pub fn deal_system(
     ensures { λ r. ⌜ _≡_ {A = Pools} (record { answer = answerReply r; first = now (first .exit); second = now (second .exit) })
         (pools (now (first .entry)) (now (second .entry)) (deal (now (first .entry)) (now (second .entry)) size index (systemRequest tape q n (now (words .entry))))) ⌝ }
 {
+    let at = Place { size, index };
     // n + 1 may not be a number of 32 bits
     if !Matrix::unknowns_fit(n) {
         let modulus = check_modulus(End::Blinder, q);
@@ -112,5 +120,5 @@ pub fn deal_system(
         k: n,
         p: n + 1,
     };
-    deal(Sort::System, t, first, second, size, index, words)
+    deal(Sort::System, t, first, second, at, words)
 }

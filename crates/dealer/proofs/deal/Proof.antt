@@ -37,28 +37,28 @@ returns c =
     let check = c .before .before .before .check in
     let r = request (sort (a .s)) (a .t) (a .words .now) in
     rw (c .answer-of .ensures, enum-told2 .given .1)
-    (deal-refused (a .first .now) (a .second .now) (a .size) (a .index) r (sym (check .ensures) ∙ ap checked (enum-told2 .given .1)))
+    (deal-refused (a .first .now) (a .second .now) (a .at .size) (a .at .index) r (sym (check .ensures) ∙ ap checked (enum-told2 .given .1)))
 
-mul-at : tie.Need-mul-at
-mul-at c =
-    let a = c .before .before .before .before .before .before .before .before .args in
-    let k = deal-known _ (a .t) _ _ _ _ _ (c .before .before .check .ensures) (c .enum-told .given .1) in
+mul-start : tie.Need-mul-start
+mul-start c =
+    let a = c .before .before .before .before .before .before .before .before .before .args in
+    let k = deal-known _ (a .t) _ _ _ _ _ (c .before .before .before .check .ensures) (c .before .enum-told .given .1) in
     let i = k .first-inside in
     let j = k .second-inside in
     search needs
 
 add-stop : tie.Need-add-stop
 add-stop c =
-    let a = c .before .before .before .before .before .before .before .before .args in
-    let k = deal-known _ (a .t) _ _ _ _ _ (c .before .before .check .ensures) (c .enum-told .given .1) in
+    let a = c .before .before .before .before .before .before .before .before .before .before .args in
+    let k = deal-known _ (a .t) _ _ _ _ _ (c .before .before .before .before .check .ensures) (c .before .before .enum-told .given .1) in
     let i = k .first-inside in
     let j = k .second-inside in
     search needs
 
 mul-write-halves : tie.Need-mul-write-halves
 mul-write-halves c =
-    let a = c .before .before .before .before .before .before .before .before .args in
-    let k = deal-known _ (a .t) _ _ _ _ _ (c .before .before .check .ensures) (c .enum-told .given .1) in
+    let a = c .before .before .before .before .before .before .before .before .before .before .args in
+    let k = deal-known _ (a .t) _ _ _ _ _ (c .before .before .before .before .check .ensures) (c .before .before .enum-told .given .1) in
     let i = k .first-inside in
     let j = k .second-inside in
     search needs
@@ -71,16 +71,16 @@ part-write-halves-start c = search needs
 
 part-write-halves-end : tie.Need-part-write-halves-end
 part-write-halves-end c =
-    let a = c .before .before .before .before .before .before .before .before .args in
-    let k = deal-known _ (a .t) _ _ _ _ _ (c .before .before .check .ensures) (c .enum-told .given .1) in
+    let a = c .before .before .before .before .before .before .before .before .before .before .args in
+    let k = deal-known _ (a .t) _ _ _ _ _ (c .before .before .before .before .check .ensures) (c .before .before .enum-told .given .1) in
     let i = k .first-inside in
     let j = k .second-inside in
     search needs
 
 mul-write-halves-2 : tie.Need-mul-write-halves-2
 mul-write-halves-2 c =
-    let a = c .before .before .before .before .before .before .before .before .before .args in
-    let k = deal-known _ (a .t) _ _ _ _ _ (c .before .before .before .check .ensures) (c .before .enum-told .given .1) in
+    let a = c .before .before .before .before .before .before .before .before .before .before .before .args in
+    let k = deal-known _ (a .t) _ _ _ _ _ (c .before .before .before .before .before .check .ensures) (c .before .before .before .enum-told .given .1) in
     let i = k .first-inside in
     let j = k .second-inside in
     search needs
@@ -93,18 +93,18 @@ part-write-halves-start-2 c = search needs
 
 part-write-halves-end-2 : tie.Need-part-write-halves-end-2
 part-write-halves-end-2 c =
-    let a = c .before .before .before .before .before .before .before .before .before .args in
-    let k = deal-known _ (a .t) _ _ _ _ _ (c .before .before .before .check .ensures) (c .before .enum-told .given .1) in
+    let a = c .before .before .before .before .before .before .before .before .before .before .before .args in
+    let k = deal-known _ (a .t) _ _ _ _ _ (c .before .before .before .before .before .check .ensures) (c .before .before .before .enum-told .given .1) in
     let i = k .first-inside in
     let j = k .second-inside in
     search needs
 
 write-halves-requires : tie.Need-write-halves-requires
 write-halves-requires c κs =
-    let a = c .before .before .before .before .before .before .before .before .before .before .args in
-    let k = deal-known _ (a .t) _ _ _ _ _ (c .before .before .before .before .check .ensures) (c .before .before .enum-told .given .1) in
-    let first = slot-part-length (a .first .now) (a .size) (a .index) (k .first-inside) in
-    let second = slot-part-length (a .second .now) (a .size) (a .index) (k .second-inside) in
+    let a = c .before .before .before .before .before .before .before .before .before .before .before .before .args in
+    let k = deal-known _ (a .t) _ _ _ _ _ (c .before .before .before .before .before .before .check .ensures) (c .before .before .before .before .enum-told .given .1) in
+    let first = slot-part-length (a .first .now) (a .at .size) (a .at .index) (k .first-inside) in
+    let second = slot-part-length (a .second .now) (a .at .size) (a .at .index) (k .second-inside) in
     let r = k .room in
     record {
       fits = r .fits;
@@ -123,19 +123,19 @@ returns-2 : tie.Need-returns-2
 unfolding drawSize drawCount
 returns-2 c =
     let far = c .before .before .before .before .before .before .before .before .before .before in
-    let a = far .before .before .before .before .before .args in
-    let check = c .before .before .before .before .before .before .before .before .before .check in
-    let enum-told = c .before .before .before .before .before .before .before .enum-told in
+    let a = far .before .before .before .before .before .before .before .args in
+    let check = far .before .check in
+    let enum-told = c .before .before .before .before .before .before .before .before .before .enum-told in
     let write-halves = c .before .before .before .before .write-halves in
     let k = deal-known _ (a .t) _ _ _ _ _ (check .ensures) (enum-told .given .1) in
     let e = write-halves .ensures in
-    let first = slot-part-length (a .first .now) (a .size) (a .index) (k .first-inside) in
-    let second = slot-part-length (a .second .now) (a .size) (a .index) (k .second-inside) in
-    let one : length (write-halves .last .1 .1 .1 .0) ≡ a .size = omega (arith, first) in
-    let two : length (write-halves .last .1 .1 .1 .1 .0) ≡ a .size = omega (arith, second) in
-    deal-done (a .first .now) (a .second .now) (a .size) (a .index) (request (sort (a .s)) (a .t) (a .words .now))
+    let first = slot-part-length (a .first .now) (a .at .size) (a .at .index) (k .first-inside) in
+    let second = slot-part-length (a .second .now) (a .at .size) (a .at .index) (k .second-inside) in
+    let one : length (write-halves .last .1 .1 .1 .0) ≡ a .at .size = omega (arith, first) in
+    let two : length (write-halves .last .1 .1 .1 .1 .0) ≡ a .at .size = omega (arith, second) in
+    deal-done (a .first .now) (a .second .now) (a .at .size) (a .at .index) (request (sort (a .s)) (a .t) (a .words .now))
     (sym (check .ensures) ∙ ap checked (enum-told .given .1)) (e .0)
-    (half-back (a .first .now) _ _ (a .size) (a .index) one (e .1 .0)) (half-back (a .second .now) _ _ (a .size) (a .index) two (e .1 .1))
+    (half-back (a .first .now) _ _ (a .at .size) (a .at .index) one (e .1 .0)) (half-back (a .second .now) _ _ (a .at .size) (a .at .index) two (e .1 .1))
 
 pub deal-spec : {M : Type 1} → statement M
 deal-spec =
@@ -148,7 +148,7 @@ deal-spec =
     same-length
     same-length-2
     returns
-    mul-at
+    mul-start
     add-stop
     mul-write-halves
     sub-write-halves

@@ -37,9 +37,9 @@ returns c =
     let all = unfit (slotAt (a .first .now) (a .size) (a .index)) (slotAt (a .second .now) (a .size) (a .index)) r apart in
     rw (c .answer-of .ensures) (deal-checked (a .first .now) (a .second .now) (a .size) (a .index) r (worst .result) found Size told all)
 
-add-t18 : tie.Need-add-t18
+add-t19 : tie.Need-add-t19
 unfolding within
-add-t18 c =
+add-t19 c =
     let a = c .before .before .before .before .before .args in
     let few = leb-true (a .n) 16 (and-right _ _ (holds (c .before .unknowns-fit .ensures) (c .if1 .left))) in
     search needs
@@ -65,7 +65,7 @@ deal-system-spec =
     worst-requires
     answer-of-requires
     returns
-    add-t18
+    add-t19
     deal-requires
     same-length
     same-length-2

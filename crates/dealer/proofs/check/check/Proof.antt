@@ -23,7 +23,7 @@ returns c =
     let a = c .before .before .before .before .before .before .args in
     let h = c .before .before .before .before .before .before .pre in
     hands-on (check-numbers .result) _ (check-numbers .ensures) (c .enum-told2 .given .1)
-    ∙ sym (deal-phases (sort (a .s)) (a .t) (a .first .now) (a .second .now) (a .size) (a .index) (a .words .now) h)
+    ∙ sym (deal-phases (sort (a .s)) (a .t) (a .first .now) (a .second .now) (a .at .size) (a .at .index) (a .words .now) h)
 
 check-words-requires : tie.Need-check-words-requires
 check-words-requires c κs =
@@ -36,7 +36,7 @@ returns-2 c =
     let h = c .before .before .before .before .before .before .before .pre in
     let check-numbers = c .before .before .before .check-numbers in
     c .check-words .ensures
-    ∙ sym (deal-phases (sort (a .s)) (a .t) (a .first .now) (a .second .now) (a .size) (a .index) (a .words .now) h
+    ∙ sym (deal-phases (sort (a .s)) (a .t) (a .first .now) (a .second .now) (a .at .size) (a .at .index) (a .words .now) h
     ∙ goes-past (check-numbers .result) (check-numbers .ensures) (c .before .enum-told .given .1))
 
 pub check-spec : {M : Type 1} → statement M

@@ -66,7 +66,6 @@ write-masked-requires c κs =
       record {
         some-q = h .0 .some-q;
         small-q = h .0 .small-q;
-        some-p = omega (arith, h .0 .some-n);
         few-k = omega (arith, h .0 .few-n);
         few-y = omega (arith, few);
         full-x = simp (length-take, length-drop) (omega (arith, few));
