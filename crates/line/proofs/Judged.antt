@@ -1,127 +1,149 @@
--- The tests in code's order are those that protocol judges.
---   read-judged, write-judged, parse-judged   what the checks' verdict says of protocol's judgement
---   read-refused, read-done, parse-refused, parse-done, write-refused, write-done   what follows for the entries
---   head-stops, head-goes-on                                         the head's check, and what follows it
+-- The tests that the code makes are those that protocol judges.
+--   message-phases                       a message, judged in two phases
+--   holds, no-message                    what loading told
+--   parse-wrong, read-wrong              a line that is no message's
+--   form-held, form-short, read-phases   the tests of a line that was loaded
+--   parse-room, read-room                a message that passed has room
+--   parse-judged, read-judged, refuses, takes   what the entries answer and leave
 -- Assumes nothing.
-use mathlib.Core.Path.{_≡_, refl, sym, ap, _∙_}
-use mathlib.Core.Bool.{Bool, true, false, false≢true}
-use mathlib.Core.List.{List, [], _∷_}
-use mathlib.Core.Option.{some, none}
+use mathlib.Core.Path.{_≡_, refl, sym, ap, ap₂, subst, _∙_}
+use mathlib.Core.Bool.{Bool, true, false}
+use mathlib.Core.List.{List, [], _∷_, _++_}
+use mathlib.Core.Option.{Option, some, none}
 use Prim.Native.Nat.{ℕ, _≤_, _<_}
 use native.Mathlib.Omega.{arith}
-use native.Mathlib.Decide.{decLt}
+use lib.Dec.{leb, ltb}
 use lib.ListN.{length, drop, getD}
 use borrow.Author.Tests.{le-leb, lt-leb, le-ltb, lt-ltb}
 use Rattle.algebra.specs.Count.{both}
+use Rattle.algebra.specs.Words.{over}
 use Rattle.protocol.specs.declared.Head.{Head}
 use Rattle.protocol.specs.declared.Refusal.{Refusal}
 use Rattle.protocol.specs.declared.Refusal.the-variants.{Form, Size}
-use Rattle.protocol.specs.Judge.{needs, given, refused, done, clear, judgeBy, judge}
+use Rattle.protocol.specs.Judge.{Test, needs, given, Judged, refused, done, clear, judgeBy, judge, replyOf}
 use Rattle.protocol.specs.Bounds.{within, shapeTests, termsTests, inputTests, roomTests}
-use Rattle.protocol.specs.Message.{Message, messageTests}
-use Rattle.protocol.specs.Line.{numbersOf, messageFrom, messageLine, parseInto, readInto, writeInto, parseTests, readTests, writeTests}
-use Rattle.judging.specs.InOrder.{checked, inOrder, only, sortedBy, sorted, verdict, judged}
+use Rattle.protocol.specs.Message.{Message, messageWith, messageTests}
+use Rattle.protocol.specs.Line.{numbersOf, messageFrom, parsedFrom, readWith, parseInto, readInto, parseTests, readTests}
+use Rattle.judging.specs.InOrder.{checked, inOrder, only, sortedBy, sorted, verdict, judged, after}
+use Rattle.judging.specs.Lowest.{lower}
+use Rattle.judging.specs.Groups.{kindTests, numberTests, countTests, messageNumbers}
 use Rattle.judging.specs.declared.Check.{Check}
 use Rattle.judging.specs.declared.Check.the-variants as check
-use Rattle.judging.proofs.InOrder.{judge-sorted, refused-by, accepted-by, verdict-all, stops, goes-on}
-use Rattle.protocol.proofs.Judge.{all-split}
-use Rattle.line.specs.Order.{headTests, messageSizes}
-use Rattle.line.specs.Order.{shortOrder, parseOrder, restTests, inSize}
+use Rattle.judging.proofs.InOrder.{judge-sorted, refused-by, accepted-by}
+use Rattle.judging.proofs.Join.{judged-true, judged-join}
+use Rattle.judging.proofs.Steps.{in-two}
+use Rattle.line.specs.declared.Received.{Received}
+use Rattle.line.specs.declared.Received.the-variants as received
+use Rattle.line.specs.declared.Loaded.{Loaded}
+use Rattle.line.specs.declared.Loaded.the-variants as loaded
+use Rattle.line.specs.Entries.{noArrival, receivedReply, arrivedOf, residuesAfter, receivedBy}
+use Rattle.line.specs.Reading.{Holds, NoMessage, Loads, restTests}
+use Rattle.line.proofs.Fits.{has-room}
 
-pub read-judged : (room : ℕ) (xs : List ℕ) → 7 ≤ length xs
-    → judged (readTests room xs) ≡ verdict (inSize (messageFrom xs .head) (drop 7 xs) (length (drop 7 xs)) room)
-unfolding messageTests termsTests shapeTests inputTests roomTests sorted sortedBy only inSize restTests headTests messageSizes inOrder
-read-judged room xs h = judge-sorted (readTests room xs) tt ∙ rw (le-leb 7 (length xs) h)
+-- room and residues are tested where head and count passed
+pub message-phases : (h : Head) (rs : List ℕ) (size room : ℕ) → judged (messageTests (messageWith h rs) ++ roomTests size room)
+    ≡ after (judged (messageNumbers h (length rs))) (judged (restTests (h .terms .q) rs size room))
+unfolding sorted sortedBy only messageTests termsTests shapeTests inputTests roomTests messageNumbers kindTests numberTests countTests restTests
+message-phases h rs size room = in-two _ (messageNumbers h (length rs)) (restTests (h .terms .q) rs size room) refl
 
-pub write-judged : (room : ℕ) (a : Message) → judged (writeTests room a) ≡ verdict (inSize (a .head) (a .residues) (length (messageLine a)) room)
-unfolding messageTests termsTests shapeTests inputTests roomTests sorted sortedBy only inSize restTests headTests messageSizes inOrder
-write-judged room a = judge-sorted (writeTests room a) tt
+-- ---- what loading told
 
--- ---- a line with fewer than seven numbers
+pub holds : (s words : List ℕ) {r : Loaded} {h : Head} {n : ℕ} → Loads s words r → r ≡ loaded.Message h n → Holds s h n words
+holds s words t e = subst (Loads s words) e t
 
-pub read-none : (room : ℕ) (s : List ℕ) → numbersOf s ≡ none → readInto room s ≡ refused Form
-unfolding readInto
-read-none room s e = rw e
+pub no-message : (s words : List ℕ) {r : Loaded} → Loads s words r → r ≡ loaded.Wrong → NoMessage s
+no-message s words t e = subst (Loads s words) e t
 
-pub parse-none : (room : ℕ) (s : List ℕ) → numbersOf s ≡ none → parseInto room s ≡ refused Form
-unfolding parseInto
-parse-none room s e = rw e
-
-pub read-few : (room : ℕ) (s xs : List ℕ) → numbersOf s ≡ some xs → length xs < 7 → readInto room s ≡ refused Form
-unfolding readInto judge judgeBy clear both
-read-few room s xs e h = rw (e, lt-leb 7 (length xs) h)
-
-pub parse-few : (room : ℕ) (s xs : List ℕ) → numbersOf s ≡ some xs → length xs < 7 → parseInto room s ≡ refused Form
+pub parse-wrong : (room : ℕ) (s : List ℕ) → NoMessage s → parseInto room s ≡ refused Form
 unfolding parseInto judge judgeBy clear both
-parse-few room s xs e h = rw (e, lt-leb 7 (length xs) h)
+parse-wrong room s w = go (numbersOf s) refl
+  where
+    go : (o : Option (List ℕ)) → numbersOf s ≡ o → parsedFrom room o ≡ refused Form
+    go none e = refl
+    go (some xs) e = rw (lt-leb 7 (length xs) (w xs e))
 
--- ---- the other lines
+pub read-wrong : (room : ℕ) (s : List ℕ) → NoMessage s → readInto room s ≡ refused Form
+unfolding readInto judge judgeBy clear both
+read-wrong room s w = go (numbersOf s) refl
+  where
+    go : (o : Option (List ℕ)) → numbersOf s ≡ o → readWith room o ≡ refused Form
+    go none e = refl
+    go (some xs) e = rw (lt-leb 7 (length xs) (w xs e))
 
-module _ (room : ℕ) (s xs : List ℕ) (e : numbersOf s ≡ some xs) (h : 7 ≤ length xs) where
-  pub read-refused : (r : Refusal) → verdict (inSize (messageFrom xs .head) (drop 7 xs) (length (drop 7 xs)) room) ≡ refused r → readInto room s ≡ refused r
-  unfolding readInto
-  read-refused r v = rw e (refused-by (readTests room xs) (messageFrom xs) (read-judged room xs h ∙ v))
+-- ---- the tests of a line that was loaded
 
-  pub read-done : verdict (inSize (messageFrom xs .head) (drop 7 xs) (length (drop 7 xs)) room) ≡ done tt → readInto room s ≡ done (messageFrom xs)
-  unfolding readInto
-  read-done v = rw e (accepted-by (readTests room xs) (messageFrom xs) (read-judged room xs h ∙ v))
+same-judged : (ts us : List Test) → verdict (sorted ts) ≡ verdict (sorted us) → judged ts ≡ judged us
+same-judged ts us e = judge-sorted ts tt ∙ (e ∙ sym (judge-sorted us tt))
 
-  parse-held : length (drop 7 xs) ≤ room → judged (parseTests room xs) ≡ verdict (parseOrder (messageFrom xs .head) (length (drop 7 xs)) room)
-  unfolding given messageTests termsTests shapeTests inputTests roomTests sorted sortedBy only parseOrder inOrder
-  parse-held b = judge-sorted (parseTests room xs) tt ∙ rw (le-leb 7 (length xs) h, le-ltb room (length (drop 7 xs)) b, le-leb (length (drop 7 xs)) room b)
+module _ (room : ℕ) (xs : List ℕ) (h : 7 ≤ length xs) where
+  held : length (drop 7 xs) ≤ room → judged (parseTests room xs) ≡ judged (needs Form (within 1 5 (getD xs 0 0)) ∷ [])
+  unfolding given messageTests termsTests shapeTests inputTests roomTests sorted sortedBy only inOrder
+  held b =
+      same-judged (parseTests room xs) (needs Form (within 1 5 (getD xs 0 0)) ∷ [])
+      (rw (le-leb 7 (length xs) h, le-ltb room (length (drop 7 xs)) b, le-leb (length (drop 7 xs)) room b))
 
   -- the kind is tested once more with all that a message shows by itself
-  parse-short : room < length (drop 7 xs) → (known : Bool) → within 1 5 (getD xs 0 0) ≡ known
-      → judged (parseTests room xs) ≡ verdict (parseOrder (messageFrom xs .head) (length (drop 7 xs)) room)
-  unfolding given messageTests termsTests shapeTests inputTests roomTests sorted sortedBy only parseOrder shortOrder headTests messageSizes inOrder
-  parse-short b true k =
-      judge-sorted (parseTests room xs) tt ∙ rw (le-leb 7 (length xs) h, lt-ltb room (length (drop 7 xs)) b, lt-leb (length (drop 7 xs)) room b, k)
-  parse-short b false k = judge-sorted (parseTests room xs) tt ∙ rw (le-leb 7 (length xs) h, lt-ltb room (length (drop 7 xs)) b, k)
+  short : room < length (drop 7 xs) → (known : Bool) → within 1 5 (getD xs 0 0) ≡ known
+      → judged (parseTests room xs) ≡ judged (messageNumbers (messageFrom xs .head) (length (drop 7 xs)) ++ (needs Size false ∷ []))
+  unfolding given messageTests termsTests shapeTests inputTests roomTests messageNumbers kindTests numberTests countTests sorted sortedBy only inOrder
+  short b true k =
+      same-judged (parseTests room xs) (messageNumbers (messageFrom xs .head) (length (drop 7 xs)) ++ (needs Size false ∷ []))
+      (rw (le-leb 7 (length xs) h, lt-ltb room (length (drop 7 xs)) b, lt-leb (length (drop 7 xs)) room b, k))
+  short b false k =
+      same-judged (parseTests room xs) (messageNumbers (messageFrom xs .head) (length (drop 7 xs)) ++ (needs Size false ∷ []))
+      (rw (le-leb 7 (length xs) h, lt-ltb room (length (drop 7 xs)) b, k))
 
-  parse-judged : judged (parseTests room xs) ≡ verdict (parseOrder (messageFrom xs .head) (length (drop 7 xs)) room)
-  parse-judged =
-      elim (decLt room (length (drop 7 xs))) [
-        | yes b ↦ parse-short b (within 1 5 (getD xs 0 0)) refl
-        | no b ↦ parse-held (omega arith)
-      ]
+module _ {s words : List ℕ} {h : Head} {n : ℕ} (l : Holds s h n words) (room : ℕ) where
+  pub form-held : n ≤ room → judged (needs Form (within 1 5 (h .kind)) ∷ []) ≡ judged (parseTests room (l .values))
+  form-held b =
+      ap (λ (x : Head). judged (needs Form (within 1 5 (x .kind)) ∷ [])) (l .head)
+      ∙ sym (held room (l .values) (l .seven) (omega (arith, l .count)))
 
-  pub parse-refused : (r : Refusal) → verdict (parseOrder (messageFrom xs .head) (length (drop 7 xs)) room) ≡ refused r → parseInto room s ≡ refused r
+  pub form-short : room < n → judged (messageNumbers h n ++ (needs Size false ∷ [])) ≡ judged (parseTests room (l .values))
+  form-short b =
+      ap₂ (λ (x : Head) (m : ℕ). judged (messageNumbers x m ++ (needs Size false ∷ []))) (l .head) (sym (l .count))
+      ∙ sym (short room (l .values) (l .seven) (omega (arith, l .count)) _ refl)
+
+  -- that there are seven numbers has been tested
+  past-form : (ts : List Test) → judged (needs Form (leb 7 (length (l .values))) ∷ ts) ≡ judged ts
+  past-form ts =
+      judged-join (needs Form (leb 7 (length (l .values))) ∷ []) ts
+      ∙ ap (λ (v : Judged Unit). lower v (judged ts)) (sym (judged-true Form (le-leb 7 (length (l .values)) (l .seven))))
+
+  pub read-phases : judged (readTests room (l .values))
+      ≡ after (judged (messageNumbers h n)) (judged (restTests (h .terms .q) (drop 7 (l .values)) n room))
+  read-phases =
+      past-form _
+      ∙ (ap (λ (x : Head). judged (messageTests (messageWith x (drop 7 (l .values))) ++ roomTests (length (drop 7 (l .values))) room)) (sym (l .head))
+      ∙ (message-phases h (drop 7 (l .values)) (length (drop 7 (l .values))) room
+      ∙ ap (λ (m : ℕ). after (judged (messageNumbers h m)) (judged (restTests (h .terms .q) (drop 7 (l .values)) m room))) (l .count)))
+
+  pub parse-room : judged (parseTests room (l .values)) ≡ done tt → n ≤ room
+  parse-room e =
+      omega (arith, l .count, has-room (needs Form (leb 7 (length (l .values))) ∷ needs Form (within 1 5 (getD (l .values) 0 0)) ∷ given (ltb room (length (drop 7 (l .values)))) (messageTests (messageFrom (l .values)))) (length (drop 7 (l .values))) room e .1)
+
+  pub read-room : judged (readTests room (l .values)) ≡ done tt → n ≤ room
+  read-room e =
+      omega (arith, l .count, has-room (needs Form (leb 7 (length (l .values))) ∷ messageTests (messageFrom (l .values))) (length (drop 7 (l .values))) room e .1)
+
+  -- ---- what the entries answer and leave
+
+  pub parse-judged : parseInto room s ≡ judge (parseTests room (l .values)) (messageFrom (l .values))
   unfolding parseInto
-  parse-refused r v = rw e (refused-by (parseTests room xs) (messageFrom xs) (parse-judged ∙ v))
+  parse-judged = rw (l .reads)
 
-  pub parse-done : verdict (parseOrder (messageFrom xs .head) (length (drop 7 xs)) room) ≡ done tt → parseInto room s ≡ done (messageFrom xs)
-  unfolding parseInto
-  parse-done v = rw e (accepted-by (parseTests room xs) (messageFrom xs) (parse-judged ∙ v))
+  pub read-judged : readInto room s ≡ judge (readTests room (l .values)) (messageFrom (l .values))
+  unfolding readInto
+  read-judged = rw (l .reads)
 
--- a message that passed has room
-pub parse-passed : (h : Head) (count room : ℕ) → verdict (parseOrder h count room) ≡ done tt → count ≤ room
-unfolding parseOrder shortOrder
-parse-passed h count room e =
-    elim (decLt room count) [
-      | yes b ↦ absurd (false≢true (all-split (headTests h count) (needs Size false ∷ []) (verdict-all _ (rw (lt-ltb room count b) at e)) .1 .0))
-      | no b ↦ omega arith
-    ]
+module _ {s words : List ℕ} {h : Head} {n : ℕ} (l : Holds s h n words) (ts : List Test) {o : Judged Message} (is : o ≡ judge ts (messageFrom (l .values)))
+    (out : List ℕ) (x : Check) (e : checked x ≡ judged ts) where
+  pub refuses : {r : Refusal} {a : Received} → x ≡ check.Refused r → a ≡ receivedBy x
+      → (receivedReply a ≡ replyOf noArrival (arrivedOf o)) × (out ≡ residuesAfter o out)
+  refuses k f = rw (is ∙ refused-by ts (messageFrom (l .values)) (sym e ∙ ap checked k)) (ap receivedReply (f ∙ ap receivedBy k), refl)
 
-module _ (room : ℕ) (a : Message) where
-  pub write-refused : (r : Refusal) → verdict (inSize (a .head) (a .residues) (length (messageLine a)) room) ≡ refused r → writeInto room a ≡ refused r
-  unfolding writeInto
-  write-refused r v = refused-by (writeTests room a) (messageLine a) (write-judged room a ∙ v)
-
-  pub write-done : verdict (inSize (a .head) (a .residues) (length (messageLine a)) room) ≡ done tt → writeInto room a ≡ done (messageLine a)
-  unfolding writeInto
-  write-done v = accepted-by (writeTests room a) (messageLine a) (write-judged room a ∙ v)
-
--- ---- the head's check, and what follows it
-
-module _ (h : Head) (rs : List ℕ) (n need room : ℕ) (c : Check) (e : checked c ≡ verdict (headTests h n)) (l : length rs ≡ n) where
-  pub head-stops : (r : Refusal) → c ≡ check.Refused r → checked c ≡ verdict (inSize h rs need room)
-  unfolding inSize
-  head-stops r k =
-      let v : verdict (headTests h (length rs)) ≡ refused r = ap (λ (m : ℕ). verdict (headTests h m)) l ∙ sym e ∙ ap checked k in
-      ap checked k ∙ sym (stops (headTests h (length rs)) (restTests (h .terms .q) rs need room) tt v)
-
-  pub head-goes-on : c ≡ check.Passed → verdict (inSize h rs need room) ≡ verdict (restTests (h .terms .q) rs need room)
-  unfolding inSize
-  head-goes-on k =
-      let v : verdict (headTests h (length rs)) ≡ done tt = ap (λ (m : ℕ). verdict (headTests h m)) l ∙ sym e ∙ ap checked k in
-      goes-on (headTests h (length rs)) (restTests (h .terms .q) rs need room) tt v
+  pub takes : {left : List ℕ} → x ≡ check.Passed → left ≡ over (drop 7 (l .values)) out
+      → (receivedReply (received.Message h n) ≡ replyOf noArrival (arrivedOf o)) × (left ≡ residuesAfter o out)
+  takes k f =
+      rw (is ∙ accepted-by ts (messageFrom (l .values)) (sym e ∙ ap checked k))
+      (ap₂ (λ (x : Head) (m : ℕ). receivedReply (received.Message x m)) (l .head) (sym (l .count)), f)

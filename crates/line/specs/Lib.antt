@@ -1,4 +1,4 @@
 -- Entries  what the entries answer and leave
--- Order    the tests of a line, in the order in which code makes them
+-- Reading  a line that was loaded, and the tests that code makes last
 pub mod Entries
-pub mod Order
+pub mod Reading

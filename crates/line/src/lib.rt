@@ -5,30 +5,39 @@
 //   write  a message's line, judged as it is when read
 use decimal::Tally;
 use judging::Check;
+use judging::message::kind_known;
+use judging::need;
+use judging::numbers::check_message;
+use judging::worst;
 use protocol::Head;
 use protocol::Refusal;
 use protocol::SessionId;
 use protocol::TapeId;
 use protocol::Terms;
+use vectors::all_below;
 ghost use mathlib.Core.Path.{_≡_};
 ghost use mathlib.Core.List.{List};
-ghost use mathlib.Core.Option.{some};
 ghost use Prim.Native.Nat.{ℕ, _+_, _≤_};
 ghost use lib.ListN.{length, take, drop};
 ghost use Rattle.algebra.specs.Words.{over};
-ghost use Rattle.protocol.specs.Message.{Message};
 ghost use Rattle.protocol.specs.Judge.{replyOf};
-ghost use Rattle.protocol.specs.Line.{numbersOf, messageFrom, messageLine, parseInto, readInto, writeInto, mostSent};
-ghost use Rattle.judging.specs.InOrder.{checked, verdict};
+ghost use Rattle.protocol.specs.Line.{messageFrom, messageLine, parseInto, readInto, writeInto, parseTests, readTests, writeTests, mostSent};
+ghost use Rattle.judging.specs.InOrder.{checked, judged};
 ghost use Rattle.protocol.specs.Message.{messageWith};
 ghost use Rattle.decimal.specs.Writing.{headNumbers};
 ghost use Rattle.line.specs.Entries.{receivedReply, noArrival, arrivedOf, residuesAfter, receivedBy, writtenReply, bytesOf, bytesAfter, writtenBy};
-ghost use Rattle.line.specs.Order.{headTests, shortOrder, parseOrder, restTests, inSize};
+ghost use Rattle.line.specs.Reading.{Holds, Loads, restTests};
 
 // What a line is read as: a message's head and how many residues were stored, or why none.
 pub enum Received {
     Message(Head, usize),
     Refused(Refusal),
+}
+
+// A message's head and how many residues a line has, or none: it has a fault or too few numbers.
+enum Loaded {
+    Message(Head, usize),
+    Wrong,
 }
 
 // How many bytes a message's line has, or why none was written.
@@ -58,6 +67,21 @@ fn head_of(words: &[u32]) -> Head
     }
 }
 
+// The numbers of a line, stored as far as there is room.
+fn load(s: &[u8], words: &mut [u32]) -> Loaded
+    requires { ⌜ length (now words) ≡ 3079 ⌝ }
+    ensures { λ r. ⌜ Loads (now (s .entry)) (now (words .exit)) r ⌝ }
+{
+    let loaded = decimal::load(s, words);
+    let Tally::Numbers(n) = loaded else {
+        return Loaded::Wrong;
+    };
+    if n < 7 {
+        return Loaded::Wrong;
+    }
+    Loaded::Message(head_of(words), n - 7)
+}
+
 // The residues behind the head, stored.
 fn put_residues(words: &[u32], count: usize, out: &mut [u32])
     requires { ⌜ (count + 7 ≤ length (now words)) × (count ≤ length (now out)) ⌝ }
@@ -70,10 +94,10 @@ fn put_residues(words: &[u32], count: usize, out: &mut [u32])
     }
 }
 
-// The residues of the line xs, stored; they stand in the words behind the head where there is room for so many, and else the line is read again.
+// The residues of a line, stored; they stand in the words behind the head where there is room for so many, and else the line is read again.
 fn store(s: &[u8], words: &[u32], count: usize, out: &mut [u32])
     requires { ⌜ (length (now words) ≡ 3079) × (count ≤ length (now out)) ⌝ }
-    ensures { λ _. ⌜ ((xs : List ℕ) → numbersOf (now (s .entry)) ≡ some xs → length (drop 7 xs) ≡ count → (count ≤ mostSent → take count (drop 7 (now (words .entry))) ≡ drop 7 xs) → now (out .exit) ≡ over (drop 7 xs) (now (out .entry))) ⌝ }
+    ensures { λ _. ⌜ ((h : Head) (l : Holds (now (s .entry)) h count (now (words .entry))) → now (out .exit) ≡ over (drop 7 (l .values)) (now (out .entry))) ⌝ }
 {
     if count <= 3072 {
         put_residues(words, count, out);
@@ -92,58 +116,35 @@ fn refused(c: Check) -> Received
     }
 }
 
-// What a message shows by its head and its count of residues.
-fn check_head(h: Head, count: usize) -> Check
-    ensures { λ r. ⌜ checked r ≡ verdict (headTests h count) ⌝ }
-{
-    judging::numbers::check_message(h, count)
-}
-
-// A message whose residues have no room: the lowest refusal that applies to it by itself, and 4 where none lower does.
-fn check_short(h: Head, count: usize) -> Check
-    ensures { λ r. ⌜ checked r ≡ verdict (shortOrder h count) ⌝ }
-{
-    let own = check_head(h, count);
-    let Check::Passed = own else {
-        return own;
-    };
-    Check::Refused(Refusal::Size)
-}
-
-// The form of a message with `count` residues, and their room.
+// The form of a message, and the room of its residues. Without room it is judged by itself: by 4, or by what is lower.
 fn check_form(h: Head, count: usize, room: usize) -> Check
-    ensures { λ r. ⌜ checked r ≡ verdict (parseOrder h count room) ⌝ }
+    ensures { λ r. ⌜ ((s words : List ℕ) (l : Holds s h count words) → checked r ≡ judged (parseTests room (l .values))) ⌝ }
 {
     if room < count {
-        return check_short(h, count);
+        let own = check_message(h, count);
+        let short = need(Refusal::Size, false);
+        return worst(own, short);
     }
-    if !judging::message::kind_known(h.kind) {
-        return Check::Refused(Refusal::Form);
-    }
-    Check::Passed
+    need(Refusal::Form, kind_known(h.kind))
 }
 
-// The room that is needed, and the residues.
-fn check_rest(q: u32, residues: &[u32], need: usize, room: usize) -> Check
-    ensures { λ r. ⌜ checked r ≡ verdict (restTests q (now (residues .entry)) need room) ⌝ }
+// The room for `size` words or bytes, and the residues.
+fn check_rest(q: u32, residues: &[u32], size: usize, room: usize) -> Check
+    ensures { λ r. ⌜ checked r ≡ judged (restTests q (now (residues .entry)) size room) ⌝ }
 {
-    if room < need {
-        return Check::Refused(Refusal::Size);
-    }
-    if !vectors::all_below(q, residues) {
-        return Check::Refused(Refusal::Residue);
-    }
-    Check::Passed
+    let fits = need(Refusal::Size, size <= room);
+    let below = need(Refusal::Residue, all_below(q, residues));
+    worst(fits, below)
 }
 
-// A message with the residues rs, `count` of them, which stand in the words behind the head where there is room for so many.
+// All that a message shows by itself. Where head and count passed, its residues stand in the words behind the head.
 fn check_read(h: Head, count: usize, words: &[u32], room: usize) -> Check
     requires { ⌜ length (now words) ≡ 3079 ⌝ }
-    ensures { λ r. ⌜ ((rs : List ℕ) → length rs ≡ count → (count ≤ mostSent → take count (drop 7 (now (words .entry))) ≡ rs) → checked r ≡ verdict (inSize h rs count room)) ⌝ }
+    ensures { λ r. ⌜ ((s : List ℕ) (l : Holds s h count (now (words .entry))) → checked r ≡ judged (readTests room (l .values))) ⌝ }
 {
-    let head = check_head(h, count);
-    let Check::Passed = head else {
-        return head;
+    let own = check_message(h, count);
+    let Check::Passed = own else {
+        return own;
     };
     let t = h.terms;
     let end = count + 7;
@@ -156,15 +157,10 @@ pub fn parse(s: &[u8], out: &mut [u32]) -> Received
     ensures contents { λ _. ⌜ now (out .exit) ≡ residuesAfter (parseInto (length (now (out .entry))) (now (s .entry))) (now (out .entry)) ⌝ }
 {
     let mut words = [0u32; 3079];
-    let loaded = decimal::load(s, &mut words);
-    let Tally::Numbers(n) = loaded else {
+    let loaded = load(s, &mut words);
+    let Loaded::Message(head, count) = loaded else {
         return Received::Refused(Refusal::Form);
     };
-    if n < 7 {
-        return Received::Refused(Refusal::Form);
-    }
-    let head = head_of(&words);
-    let count = n - 7;
     let check = check_form(head, count, out.len());
     let Check::Passed = check else {
         return refused(check);
@@ -179,20 +175,15 @@ pub fn read(s: &[u8], out: &mut [u32]) -> Received
     ensures contents { λ _. ⌜ now (out .exit) ≡ residuesAfter (readInto (length (now (out .entry))) (now (s .entry))) (now (out .entry)) ⌝ }
 {
     let mut words = [0u32; 3079];
-    let loaded = decimal::load(s, &mut words);
-    let Tally::Numbers(n) = loaded else {
+    let loaded = load(s, &mut words);
+    let Loaded::Message(head, count) = loaded else {
         return Received::Refused(Refusal::Form);
     };
-    if n < 7 {
-        return Received::Refused(Refusal::Form);
-    }
-    let head = head_of(&words);
-    let count = n - 7;
     let check = check_read(head, count, &words, out.len());
     let Check::Passed = check else {
         return refused(check);
     };
-    put_residues(&words, count, out);
+    store(s, &words, count, out);
     Received::Message(head, count)
 }
 
@@ -218,11 +209,11 @@ fn message_length(h: Head, residues: &[u32]) -> usize
 }
 
 fn check_write(h: Head, residues: &[u32], room: usize) -> Check
-    ensures { λ r. ⌜ checked r ≡ verdict (inSize h (now (residues .entry)) (length (messageLine (messageWith h (now (residues .entry))))) room) ⌝ }
+    ensures { λ r. ⌜ checked r ≡ judged (writeTests room (messageWith h (now (residues .entry)))) ⌝ }
 {
-    let head = check_head(h, residues.len());
-    let Check::Passed = head else {
-        return head;
+    let own = check_message(h, residues.len());
+    let Check::Passed = own else {
+        return own;
     };
     let t = h.terms;
     check_rest(t.q, residues, message_length(h, residues), room)

@@ -1,29 +1,42 @@
--- `line::check_form` meets its contract: by the room, and then by the kind. Assumes nothing.
+-- `line::check_form` meets its contract: by the room. Assumes nothing.
+use mathlib.Core.Path.{_∙_}
+use mathlib.Core.List.{[], _∷_}
+use Rattle.judging.proofs.Join.{also}
+use Rattle.line.proofs.Judged.{form-held, form-short}
 use borrow.Author.Needs.{needs}
-use borrow.Author.Tests.{le-ltb, lt-ltb}
-use Rattle.judging.specs.InOrder.{inOrder}
-use Rattle.judging.proofs.Flags.{fails, holds}
-use Rattle.line.specs.Order.{parseOrder}
 use Rattle.line.proofs.check_form.Statement.{statement}
 use Rattle.line.proofs.check_form.Tie as tie
 
-check-short-requires : tie.Need-check-short-requires
-check-short-requires c κs = search needs
+check-message-requires : tie.Need-check-message-requires
+check-message-requires c κs = search needs
+
+need-requires : tie.Need-need-requires
+need-requires c κs = search needs
+
+worst-requires : tie.Need-worst-requires
+worst-requires c κs = search needs
 
 returns : tie.Need-returns
-unfolding parseOrder
-returns c = rw (lt-ltb _ _ (c .before .if1 .taken)) (c .check-short .ensures)
+returns c =
+    λ s words l. also _ (_ ∷ []) (c .worst .ensures) (c .before .before .check-message .ensures) (c .before .need .ensures) ∙ form-short l _ (c .before .before .before .if1 .taken)
 
 kind-known-requires : tie.Need-kind-known-requires
 kind-known-requires c κs = search needs
 
-returns-2 : tie.Need-returns-2
-unfolding inOrder parseOrder
-returns-2 c = rw (le-ltb _ _ (c .before .before .if1 .left), fails (c .before .kind-known .ensures) (c .if2 .taken))
+need-requires-2 : tie.Need-need-requires-2
+need-requires-2 c κs = search needs
 
-returns-3 : tie.Need-returns-3
-unfolding inOrder parseOrder
-returns-3 c = rw (le-ltb _ _ (c .before .before .if1 .left), holds (c .before .kind-known .ensures) (c .if2 .left))
+returns-2 : tie.Need-returns-2
+returns-2 c = λ s words l. (rw (c .before .kind-known .ensures) at (c .need2 .ensures)) ∙ form-held l _ (c .before .before .if1 .left)
 
 pub check-form-spec : {M : Type 1} → statement M
-check-form-spec = tie.close (tie.spec check-short-requires returns kind-known-requires returns-2 returns-3)
+check-form-spec =
+    tie.close
+    (tie.spec
+    check-message-requires
+    need-requires
+    worst-requires
+    returns
+    kind-known-requires
+    need-requires-2
+    returns-2)

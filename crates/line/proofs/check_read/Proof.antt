@@ -4,16 +4,17 @@ use mathlib.Core.List.{List}
 use Prim.Native.Nat.{ℕ, _+_, _-_}
 use native.Mathlib.Omega.{arith}
 use lib.ListN.{take, drop}
-use borrow.Author.Needs.{needs}
-use Rattle.judging.specs.InOrder.{checked, verdict}
+use Rattle.judging.specs.InOrder.{checked, judged}
+use Rattle.judging.proofs.Join.{hands-on, goes-past}
+use Rattle.line.specs.Reading.{restTests}
 use Rattle.line.proofs.Fits.{head-few}
-use Rattle.line.proofs.Judged.{head-stops, head-goes-on}
-use Rattle.line.specs.Order.{restTests}
+use Rattle.line.proofs.Judged.{read-phases}
+use borrow.Author.Needs.{needs}
 use Rattle.line.proofs.check_read.Statement.{statement}
 use Rattle.line.proofs.check_read.Tie as tie
 
-check-head-requires : tie.Need-check-head-requires
-check-head-requires c κs = search needs
+check-message-requires : tie.Need-check-message-requires
+check-message-requires c κs = search needs
 
 enum-told : tie.Need-enum-told
 enum-told c = search needs
@@ -23,14 +24,11 @@ enum-told-2 c = search needs
 
 returns : tie.Need-returns
 returns c =
-    let a = c .before .before .before .before .args in
-    λ rs e k. head-stops (a .h) rs (a .count) (a .count) (a .room) (c .before .before .check-head .result)
-    (c .before .before .check-head .ensures) e _ (c .enum-told2 .given .1)
+    let own = c .before .before .check-message in
+    λ s l. hands-on (own .result) _ (own .ensures) (c .enum-told2 .given .1) ∙ sym (read-phases l (c .before .before .before .before .args .room))
 
 add-end : tie.Need-add-end
-add-end c =
-    let a = c .before .before .before .before .before .args in
-    omega (arith, head-few (a .h) (a .count) (sym (c .before .before .before .check-head .ensures) ∙ ap checked (c .before .enum-told .given .1)))
+add-end c = omega (arith, head-few _ _ (sym (c .before .before .before .check-message .ensures) ∙ ap checked (c .before .enum-told .given .1)))
 
 sub-check-rest : tie.Need-sub-check-rest
 sub-check-rest c = search needs
@@ -40,8 +38,7 @@ part-check-rest-start c = search needs
 
 part-check-rest-end : tie.Need-part-check-rest-end
 part-check-rest-end c =
-    let a = c .before .before .before .before .before .args in
-    omega (arith, head-few (a .h) (a .count) (sym (c .before .before .before .check-head .ensures) ∙ ap checked (c .before .enum-told .given .1)), c .before .before .before .before .before .pre)
+    omega (arith, head-few _ _ (sym (c .before .before .before .check-message .ensures) ∙ ap checked (c .before .enum-told .given .1)), c .before .before .before .before .before .pre)
 
 check-rest-requires : tie.Need-check-rest-requires
 check-rest-requires c κs = search needs
@@ -49,18 +46,18 @@ check-rest-requires c κs = search needs
 returns-2 : tie.Need-returns-2
 returns-2 c =
     let a = c .before .before .before .before .before .before .before .args in
-    let check-head = c .before .before .before .before .before .check-head in
-    λ rs e k. let few = head-few (a .h) (a .count) (sym (check-head .ensures) ∙ ap checked (c .before .before .before .enum-told .given .1)) in
+    let own = c .before .before .before .before .before .check-message in
+    let k = c .before .before .before .enum-told .given .1 in
     let n : a .count + 7 - 7 ≡ a .count = omega arith in
-    c .check-rest .ensures ∙ ap (λ (l : List ℕ). verdict (restTests (a .h .terms .q) l (a .count) (a .room)))
-    (ap (λ (m : ℕ). take m (drop 7 (a .words .now))) n ∙ k few) ∙ sym
-    (head-goes-on (a .h) rs (a .count) (a .count) (a .room) (check-head .result) (check-head .ensures) e (c .before .before .before .enum-told .given .1))
+    λ s l. c .check-rest .ensures ∙ ap (λ (r : List ℕ). judged (restTests (a .h .terms .q) r (a .count) (a .room)))
+    (ap (λ (m : ℕ). take m (drop 7 (a .words .now))) n ∙ l .residues (head-few _ _ (sym (own .ensures) ∙ ap checked k)))
+    ∙ sym (read-phases l (a .room) ∙ goes-past (own .result) (own .ensures) k)
 
 pub check-read-spec : {M : Type 1} → statement M
 check-read-spec =
     tie.close
     (tie.spec
-    check-head-requires
+    check-message-requires
     enum-told
     enum-told-2
     returns

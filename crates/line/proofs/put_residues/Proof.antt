@@ -5,7 +5,7 @@ use Prim.Native.Nat.{ℕ, _+_, _-_, _≤_}
 use native.Mathlib.Omega.{arith}
 use lib.ListN.{length, getD, set, take, drop}
 use borrow.Author.Needs.{needs}
-use Rattle.line.proofs.Loaded.{copy-start, copy-turn, copy-same, copy-done}
+use Rattle.line.proofs.Words.{copy-start, copy-turn, copy-same, copy-done}
 use lib.Seq.{paste}
 use Rattle.algebra.specs.Words.{over}
 use Rattle.line.proofs.put_residues.Statement.{statement}

@@ -1,19 +1,23 @@
 -- The words that a line was read into.
---   loaded-head, loaded-count, loaded-residues   the head in front, then the residues
+--   none-loaded, few-loaded, message-loaded      what is known of the line, by the tally of its numbers
 --   copy-start, copy-turn, copy-done             the residues copied into a lent slice
 -- Assumes nothing.
 use mathlib.Core.Path.{_≡_, refl, sym, ap, ap₂, _∙_}
 use mathlib.Core.List.{List, [], _∷_, _++_}
 use Prim.Native.Nat.{ℕ, zero, suc, _+_, _-_, _≤_, _<_}
-use mathlib.Core.Option.{Option}
 use native.Mathlib.Omega.{arith}
 use native.Mathlib.Nat.{zero-add}
 use native.Mathlib.Numerals.{add-one}
-use lib.ListN.{length, getD, set, take, drop, replicate, length-drop, length-set, length-replicate}
+use lib.ListN.{length, getD, set, take, drop, length-drop, length-set}
 use lib.Seq.{sets, sets-eq, take-at, drop-append-le, getD-set-same, getD-set-other, getD-drop, length-take-le, paste, paste-zero, paste-suc, length-paste}
 use Rattle.algebra.specs.Words.{over}
-use Rattle.protocol.specs.Line.{messageFrom, mostSent}
-use Rattle.decimal.specs.Reading.{Stored}
+use Rattle.protocol.specs.declared.Head.{Head}
+use Rattle.protocol.specs.Line.{numbersOf, messageFrom}
+use Rattle.decimal.specs.declared.Tally.{Tally}
+use Rattle.decimal.specs.declared.Tally.the-variants as tally
+use Rattle.decimal.specs.Reading.{numbersBefore, tallyOf}
+use Rattle.decimal.proofs.Entry.{tallied, told}
+use Rattle.line.specs.Reading.{Holds, NoMessage}
 
 sets-before : (l : List ℕ) (xs : List ℕ) (k j : ℕ) → j < k → getD (sets l k xs) j 0 ≡ getD l j 0
 sets-before l [] k j h = refl
@@ -53,19 +57,33 @@ residues-loaded l xs h m =
     ∙ ap (take (length (drop 7 xs))) (drop-append-le 7 xs (drop (0 + length xs) l) h)
     ∙ take-at (drop 7 xs) (drop (0 + length xs) l) (length (drop 7 xs)) refl
 
-module _ (o : Option (List ℕ)) (n : ℕ) (words : List ℕ) (t : Stored o n (replicate 3079 0) words) (h : 7 ≤ n) where
-  pub loaded-head : messageFrom words .head ≡ messageFrom (t .values) .head
-  loaded-head =
-      ap (λ (w : List ℕ). messageFrom w .head) (t .stores)
-      ∙ head-loaded (replicate 3079 0) (t .values) (omega (arith, t .count)) (omega (arith, length-replicate {A = ℕ} 3079 0))
+wrong-tally : {A : Type 0} {n : ℕ} → tally.Wrong ≡ tally.Numbers n → A
+wrong-tally e = absurd (let z : _≡_ {A = ℕ} 0 1 = cc in omega arith)
 
-  pub loaded-count : length (drop 7 (t .values)) ≡ n - 7
-  loaded-count = length-drop 7 (t .values) ∙ omega (arith, t .count)
+same-tally : (m n : ℕ) → tally.Numbers m ≡ tally.Numbers n → m ≡ n
+same-tally m n e = cc
 
-  pub loaded-residues : n - 7 ≤ mostSent → take (n - 7) (drop 7 words) ≡ drop 7 (t .values)
-  loaded-residues k =
-      ap₂ (λ (m : ℕ) (w : List ℕ). take m (drop 7 w)) (sym loaded-count) (t .stores)
-      ∙ residues-loaded (replicate 3079 0) (t .values) (omega (arith, t .count)) (omega (arith, t .count, length-replicate {A = ℕ} 3079 0))
+module _ (s : List ℕ) {r : Tally} (e : r ≡ tallyOf (numbersOf s)) where
+  pub none-loaded : r ≡ tally.Wrong → NoMessage s
+  none-loaded w xs d = wrong-tally (sym w ∙ (e ∙ ap tallyOf d))
+
+  pub few-loaded : {n : ℕ} → r ≡ tally.Numbers n → n < 7 → NoMessage s
+  few-loaded {n} w k xs d = omega (arith, same-tally n (length xs) (sym w ∙ (e ∙ ap tallyOf d)))
+
+  pub message-loaded : (before after : List ℕ) {n : ℕ} {h : Head} → length before ≡ 3079 → after ≡ sets before 0 (numbersBefore s) → r ≡ tally.Numbers n → 7 ≤ n
+      → h ≡ messageFrom after .head → Holds s h (n - 7) after
+  message-loaded before after {n} {h} long f w k g =
+      let t = told (numbersOf s) before after r n (tallied 0 s before after r e f) w in
+      let seven : 7 ≤ length (t .values) = omega (arith, t .count) in
+      let count : length (drop 7 (t .values)) ≡ n - 7 = length-drop 7 (t .values) ∙ omega (arith, t .count) in
+      record {
+        values = t .values;
+        reads = t .reads;
+        seven = seven;
+        head = g ∙ (ap (λ (w : List ℕ). messageFrom w .head) (t .stores) ∙ head-loaded before (t .values) seven (omega (arith, long)));
+        count = count;
+        residues = λ few. ap₂ (λ (m : ℕ) (w : List ℕ). take m (drop 7 w)) (sym count) (t .stores) ∙ residues-loaded before (t .values) seven (omega (arith, t .count, long));
+      }
 
 -- ---- the residues copied into a lent slice
 
