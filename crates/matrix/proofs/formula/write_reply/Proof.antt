@@ -27,14 +27,20 @@ same-length c = search needs
 
 returns : tie.Need-returns
 returns c =
-    let a = c .before .before .before .before .before .before .before .before .before .before .before .before .before .before .before .before .before .args in
+    let first = c .before .before .before .before .before .before .before .before .before .before in
+    let start = first .before .before .before .before .before .before .before in
+    let a = start .args in
+    let minus : List ℕ = negated (a .q) (a .m * a .p) (a .u .now) in
     let n : ℕ = a .m * a .p in
     let d : List ℕ = a .out .now in
     let t : List ℕ = matMul (a .q) (a .m) (a .k) (a .p) (a .x .now) (a .y .now) in
     c .before .before .add-product .ensures
-    ∙ (ap (λ (o : List ℕ). over (matAdd (a .q) n t o) o) (c .before .before .before .before .before .before .subtract-from .ensures
-    ∙ (ap (λ (o : List ℕ). over (matSub (a .q) n o (a .a .now)) o) (c .before .before .before .before .before .before .before .before .before .before .write-negative .ensures) ∙ off (a .q) n (negated (a .q) n (a .u .now)) (a .a .now) d (negated-count (a .q) n (a .u .now))))
-    ∙ (onto (a .q) n t (matSub (a .q) n (negated (a .q) n (a .u .now)) (a .a .now)) d (sub-count (a .q) n (negated (a .q) n (a .u .now)) (a .a .now)) ∙ ap (λ (l : List ℕ). over l d) (twice-negated-sum (a .q) n (c .before .before .before .before .before .before .before .before .before .before .before .before .before .before .before .before .before .pre .0 .some-q) t (a .u .now) (a .a .now))))
+    ∙ (ap (λ (o : List ℕ). over (matAdd (a .q) n t o) o)
+    (c .before .before .before .before .before .before .subtract-from .ensures
+    ∙ (ap (λ (o : List ℕ). over (matSub (a .q) n o (a .a .now)) o) (first .write-negative .ensures)
+    ∙ off (a .q) n minus (a .a .now) d (negated-count (a .q) n (a .u .now))))
+    ∙ (onto (a .q) n t (matSub (a .q) n minus (a .a .now)) d (sub-count (a .q) n minus (a .a .now))
+    ∙ ap (λ (l : List ℕ). over l d) (twice-negated-sum (a .q) n (start .pre .0 .some-q) t (a .u .now) (a .a .now))))
 
 pub write-reply-spec : {M : Type 1} → statement M
 write-reply-spec =

@@ -23,13 +23,15 @@ same-length c = search needs
 
 returns : tie.Need-returns
 returns c =
-    let a = c .before .before .before .before .before .before .before .before .before .before .before .before .before .args in
+    let start = c .before .before .before .before .before .before .before .before .before .before .before .before .before in
+    let a = start .args in
     let n : ℕ = a .m * a .p in
     let d : List ℕ = a .out .now in
     let t : List ℕ = matMul (a .q) (a .m) (a .k) (a .p) (a .x .now) (a .y .now) in
     c .before .before .add-product .ensures
     ∙ (ap (λ (o : List ℕ). over (matAdd (a .q) n t o) o) (c .before .before .before .before .before .before .write-difference .ensures)
-    ∙ (onto (a .q) n t (matSub (a .q) n (a .r .now) (a .b .now)) d (sub-count (a .q) n (a .r .now) (a .b .now)) ∙ ap (λ (l : List ℕ). over l d) (difference-sum (a .q) n (c .before .before .before .before .before .before .before .before .before .before .before .before .before .pre .0 .some-q) t (a .r .now) (a .b .now))))
+    ∙ (onto (a .q) n t (matSub (a .q) n (a .r .now) (a .b .now)) d (sub-count (a .q) n (a .r .now) (a .b .now))
+    ∙ ap (λ (l : List ℕ). over l d) (difference-sum (a .q) n (start .pre .0 .some-q) t (a .r .now) (a .b .now))))
 
 pub write-share-spec : {M : Type 1} → statement M
 write-share-spec =
