@@ -1,14 +1,56 @@
-// The blinder's steps.
+// The blinder of a system.
 use crate::words;
+use blinder::BlinderAnswer;
+use blinder::blinder_drop;
 use blinder::blinder_first;
 use blinder::blinder_last;
 use blinder::blinder_second;
-use protocol::Answer;
+use judging::message::no_head;
+use protocol::BlinderSession;
+use protocol::Head;
+use protocol::Terms;
 ghost use mathlib.Core.Path.{_≡_};
 ghost use mathlib.Core.Logic.{_≢_};
 
+fn blinder(
+    c: u32,
+    pool: &mut [u32],
+    size: usize,
+    index: usize,
+    scratch: &mut [u32],
+    t: Terms,
+    mm: &[u32],
+    y: &[u32],
+    raw: &[u32],
+    s: BlinderSession,
+    a: Head,
+    residues: &[u32],
+    out: &mut [u32],
+    result: &mut [u32],
+) -> BlinderAnswer {
+    if c == 18 {
+        return blinder_first(pool, size, index, scratch, t, mm, y, raw, a, residues, out);
+    }
+    if c == 19 {
+        return blinder_second(pool, size, index, scratch, s, a, residues, out);
+    }
+    if c == 20 {
+        return blinder_last(pool, size, index, scratch, s, a, residues, result);
+    }
+    let done = blinder_drop(pool, size, index, scratch, s);
+    let answer = done.answer;
+    let session = done.session;
+    BlinderAnswer {
+        answer,
+        session,
+        head: no_head(),
+    }
+}
+
+// 18 blinder_first, 19 blinder_second, 20 blinder_last, 23 blinder_drop.
 #[no_mangle]
-pub extern "C" fn call_blinder_first(
+pub extern "C" fn call_blinder(
+    c: u32,
     pool: &mut [u32],
     size: usize,
     index: usize,
@@ -20,26 +62,20 @@ pub extern "C" fn call_blinder_first(
     head: &[u32],
     residues: &[u32],
     out: &mut [u32],
+    result: &mut [u32],
     session: &mut [u32],
     report: &mut [u32],
 ) -> u32
-    ensures { λ r. ⌜ (r ≢ 0 → now (session .exit) ≡ now (session .entry)) ⌝ }
+    ensures { λ r. ⌜ (c ≡ 18 → r ≢ 0 → now (session .exit) ≡ now (session .entry)) ⌝ }
 {
-    if terms.len() < 6 {
-        return 99;
-    }
-    if head.len() < 7 {
-        return 99;
-    }
-    if session.len() < 279 {
-        return 99;
-    }
-    if report.len() < 8 {
+    if words::is_short(c, terms.len(), head.len(), session.len(), report.len()) {
         return 99;
     }
     let t = words::terms_of(terms);
-    let taken = words::head_of(head);
-    let done = blinder_first(
+    let s = words::blinder_of(session);
+    let a = words::head_of(head);
+    let done = blinder(
+        c,
         pool,
         size,
         index,
@@ -48,81 +84,17 @@ pub extern "C" fn call_blinder_first(
         mm,
         y,
         raw,
-        taken,
+        s,
+        a,
         residues,
         out,
+        result,
     );
-    let a = done.answer;
-    let s = done.session;
-    let h = done.head;
-    words::put_report(a, h, report);
-    let Answer::Accepted(_) = a else {
-        return words::answered(a);
-    };
-    words::put_blinder(s, session);
-    0
-}
-
-#[no_mangle]
-pub extern "C" fn call_blinder_second(
-    pool: &mut [u32],
-    size: usize,
-    index: usize,
-    scratch: &[u32],
-    session: &mut [u32],
-    head: &[u32],
-    residues: &[u32],
-    out: &mut [u32],
-    report: &mut [u32],
-) -> u32 {
-    if session.len() < 279 {
-        return 99;
-    }
-    if head.len() < 7 {
-        return 99;
-    }
-    if report.len() < 8 {
-        return 99;
-    }
-    let open = words::blinder_of(session);
-    let taken = words::head_of(head);
-    let done = blinder_second(pool, size, index, scratch, open, taken, residues, out);
-    let a = done.answer;
-    let s = done.session;
-    let h = done.head;
-    words::put_blinder(s, session);
-    words::put_report(a, h, report);
-    words::answered(a)
-}
-
-#[no_mangle]
-pub extern "C" fn call_blinder_last(
-    pool: &mut [u32],
-    size: usize,
-    index: usize,
-    scratch: &mut [u32],
-    session: &mut [u32],
-    head: &[u32],
-    residues: &[u32],
-    out: &mut [u32],
-    report: &mut [u32],
-) -> u32 {
-    if session.len() < 279 {
-        return 99;
-    }
-    if head.len() < 7 {
-        return 99;
-    }
-    if report.len() < 8 {
-        return 99;
-    }
-    let open = words::blinder_of(session);
-    let taken = words::head_of(head);
-    let done = blinder_last(pool, size, index, scratch, open, taken, residues, out);
-    let a = done.answer;
-    let s = done.session;
-    let h = done.head;
-    words::put_blinder(s, session);
-    words::put_report(a, h, report);
-    words::answered(a)
+    let answer = done.answer;
+    let sent = done.head;
+    let next = done.session;
+    let answered = words::report_of(answer, sent, report);
+    let left = words::blinder_words(next);
+    words::put_back(c, 18, answered, &left, session);
+    answered
 }
