@@ -1,10 +1,16 @@
 // Lines of bytes. A report has how many residues, numbers or bytes there are, and the head that was read.
 use crate::words;
-use crate::words::Reply;
 use decimal::Count;
+use judging::message::no_head;
 use line::Received;
 use line::Written;
 use protocol::Answer;
+use protocol::Head;
+
+struct Reply {
+    answer: Answer,
+    head: Head,
+}
 
 fn received(r: Received) -> Reply {
     match r {
@@ -12,7 +18,21 @@ fn received(r: Received) -> Reply {
             answer: Answer::Accepted(n),
             head: h,
         },
-        Received::Refused(why) => words::unsent(Answer::Refused(why)),
+        Received::Refused(why) => Reply {
+            answer: Answer::Refused(why),
+            head: no_head(),
+        },
+    }
+}
+
+fn counted(c: Count) -> Reply {
+    let answer = match c {
+        Count::Words(n) => Answer::Accepted(n),
+        Count::Refused(why) => Answer::Refused(why),
+    };
+    Reply {
+        answer,
+        head: no_head(),
     }
 }
 
@@ -20,13 +40,6 @@ fn written(w: Written) -> Answer {
     match w {
         Written::Bytes(n) => Answer::Accepted(n),
         Written::Refused(why) => Answer::Refused(why),
-    }
-}
-
-fn counted(c: Count) -> Answer {
-    match c {
-        Count::Words(n) => Answer::Accepted(n),
-        Count::Refused(why) => Answer::Refused(why),
     }
 }
 
@@ -41,10 +54,8 @@ pub extern "C" fn call_write(
     if words::is_short(24, 0, head.len(), 0, report.len()) {
         return 99;
     }
-    let r = words::unsent(written(line::write(words::head_of(head), residues, bytes)));
-    let answer = r.answer;
-    let taken = r.head;
-    words::report_of(answer, taken, report)
+    let w = line::write(words::head_of(head), residues, bytes);
+    words::report_of(written(w), no_head(), report)
 }
 
 fn line(c: u32, bytes: &[u8], out: &mut [u32]) -> Reply {
@@ -54,7 +65,7 @@ fn line(c: u32, bytes: &[u8], out: &mut [u32]) -> Reply {
     if c == 26 {
         return received(line::read(bytes, out));
     }
-    words::unsent(counted(decimal::numbers(bytes, out)))
+    counted(decimal::numbers(bytes, out))
 }
 
 // 25 parse, 26 read, 27 numbers.

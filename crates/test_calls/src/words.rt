@@ -5,8 +5,13 @@
 //   solver    the terms, due, s                              23
 //   blinder   the terms, due, M, y                          279
 //   report    words read, then the head of what is sent       8
+use blinder::BlinderAnswer;
+use blinder::BlinderDropped;
 use judging::message::no_head;
 use judging::number_of;
+use product::LeftAnswer;
+use product::RightAnswer;
+use product::RightDropped;
 use protocol::Answer;
 use protocol::BlinderSession;
 use protocol::Head;
@@ -15,10 +20,13 @@ use protocol::SessionId;
 use protocol::SolverSession;
 use protocol::TapeId;
 use protocol::Terms;
+use solver::SolverAnswer;
+use solver::SolverDropped;
 use test_memory::load;
+use test_memory::part;
 use test_memory::store;
 ghost use mathlib.Core.Path.{_≡_};
-ghost use mathlib.Core.Logic.{_≢_};
+ghost use mathlib.Core.Logic.{_⊎_, _≢_};
 
 // ---- which calls have which records, and whether they are whole
 
@@ -129,63 +137,117 @@ pub fn blinder_of(w: &[u32]) -> BlinderSession {
 
 // ---- words from records
 
-fn start_of(t: Terms, due: u32) -> [u32; 7] {
+// The words of a session have zeros behind them.
+fn session_of(t: Terms, due: u32) -> [u32; 279] {
     let session = t.session;
     let tape = t.tape;
-    [session.0, tape.0, t.q, t.m, t.k, t.p, due]
-}
-
-pub fn right_words(s: RightSession) -> [u32; 7] {
-    start_of(s.terms, s.due)
-}
-
-pub fn solver_words(s: SolverSession) -> [u32; 23] {
-    let start = start_of(s.terms, s.due);
-    let kept = s.s;
-    let mut w = [0u32; 23];
+    let start = [session.0, tape.0, t.q, t.m, t.k, t.p, due];
+    let mut w = [0u32; 279];
     store(0, &start, &mut w);
+    w
+}
+
+fn right_words(s: RightSession) -> [u32; 279] {
+    session_of(s.terms, s.due)
+}
+
+fn solver_words(s: SolverSession) -> [u32; 279] {
+    let kept = s.s;
+    let mut w = session_of(s.terms, s.due);
     store(7, &kept, &mut w);
     w
 }
 
-pub fn blinder_words(s: BlinderSession) -> [u32; 279] {
-    let start = start_of(s.terms, s.due);
+fn blinder_words(s: BlinderSession) -> [u32; 279] {
     let mm = s.mm;
     let y = s.y;
-    let mut w = [0u32; 279];
-    store(0, &start, &mut w);
+    let mut w = session_of(s.terms, s.due);
     store(7, &mm, &mut w);
     store(263, &y, &mut w);
     w
 }
 
 // The words of a session go back, unless the call is a first step, and refused.
-pub fn put_back(c: u32, first: u32, answered: u32, words: &[u32], session: &mut [u32])
-    ensures { λ _. ⌜ (c ≡ first → answered ≢ 0 → now (session .exit) ≡ now (session .entry)) ⌝ }
+pub fn put_back(c: u32, answered: u32, words: &[u32], session: &mut [u32])
+    ensures { λ _. ⌜ ((c ≡ 12) ⊎ (c ≡ 15) ⊎ (c ≡ 18) → answered ≢ 0 → now (session .exit) ≡ now (session .entry)) ⌝ }
 {
+    let kept = part(0, session_words(c), words);
     if answered == 0 {
-        store(0, words, session);
+        store(0, kept, session);
         return;
     }
-    if c == first {
+    if c == 12 {
         return;
     }
-    store(0, words, session);
+    if c == 15 {
+        return;
+    }
+    if c == 18 {
+        return;
+    }
+    store(0, kept, session);
 }
 
 // ---- what a call answers
 
-// What a call answers beside its session: how many words or bytes there are, and the head of a message.
-pub struct Reply {
+// The answer of a step, the head of what it sends, and the words of its session.
+pub struct Done {
     pub answer: Answer,
     pub head: Head,
+    pub words: [u32; 279],
 }
 
-pub fn unsent(a: Answer) -> Reply {
-    Reply {
-        answer: a,
-        head: no_head(),
+fn left_with(answer: Answer, head: Head, words: [u32; 279]) -> Done {
+    Done {
+        answer,
+        head,
+        words,
     }
+}
+
+pub fn left_done(d: LeftAnswer) -> Done {
+    let answer = d.answer;
+    let head = d.head;
+    left_with(answer, head, [0u32; 279])
+}
+
+pub fn right_done(d: RightAnswer) -> Done {
+    let answer = d.answer;
+    let head = d.head;
+    let s = d.session;
+    left_with(answer, head, right_words(s))
+}
+
+pub fn solver_done(d: SolverAnswer) -> Done {
+    let answer = d.answer;
+    let head = d.head;
+    let s = d.session;
+    left_with(answer, head, solver_words(s))
+}
+
+pub fn blinder_done(d: BlinderAnswer) -> Done {
+    let answer = d.answer;
+    let head = d.head;
+    let s = d.session;
+    left_with(answer, head, blinder_words(s))
+}
+
+pub fn right_dropped(d: RightDropped) -> Done {
+    let answer = d.answer;
+    let s = d.session;
+    left_with(answer, no_head(), right_words(s))
+}
+
+pub fn solver_dropped(d: SolverDropped) -> Done {
+    let answer = d.answer;
+    let s = d.session;
+    left_with(answer, no_head(), solver_words(s))
+}
+
+pub fn blinder_dropped(d: BlinderDropped) -> Done {
+    let answer = d.answer;
+    let s = d.session;
+    left_with(answer, no_head(), blinder_words(s))
 }
 
 fn number(a: Answer) -> u32 {

@@ -20,12 +20,9 @@ use places::send;
 use places::terms_of;
 use places::vector;
 use places::wide;
-use test_calls::call_blinder;
 use test_calls::call_deal;
-use test_calls::call_left;
 use test_calls::call_line;
-use test_calls::call_right;
-use test_calls::call_solver;
+use test_calls::call_step;
 use test_calls::call_write;
 use test_memory::load;
 use test_memory::most;
@@ -74,138 +71,7 @@ pub fn deal(c: u32, r: &[u32; 32], m: &mut [u32], report: &mut [u32]) -> u32 {
 
 // ---- steps
 
-fn left(
-    r: &[u32; 32],
-    m: &[u32],
-    pool: &mut [u32],
-    out: &mut [u32],
-    share: &mut [u32],
-    report: &mut [u32],
-) -> u32 {
-    let size = wide(r[3]);
-    let index = wide(r[4]);
-    let terms = terms_of(r);
-    let x = matrix(r[25], m);
-    let words = raw(r[29], m);
-    let a = head(r[19], m);
-    let taken = residues(r[19], r[20], m);
-    call_left(
-        pool,
-        size,
-        index,
-        &terms,
-        x,
-        words,
-        a,
-        taken,
-        out,
-        share,
-        report,
-    )
-}
-
-fn right(
-    c: u32,
-    r: &[u32; 32],
-    m: &[u32],
-    pool: &mut [u32],
-    out: &mut [u32],
-    share: &mut [u32],
-    session: &mut [u32],
-    report: &mut [u32],
-) -> u32 {
-    let size = wide(r[3]);
-    let index = wide(r[4]);
-    let terms = terms_of(r);
-    let y = matrix(r[25], m);
-    let a = head(r[19], m);
-    let taken = residues(r[19], r[20], m);
-    call_right(
-        c,
-        pool,
-        size,
-        index,
-        &terms,
-        y,
-        a,
-        taken,
-        out,
-        share,
-        session,
-        report,
-    )
-}
-
-fn solver(
-    c: u32,
-    r: &[u32; 32],
-    m: &[u32],
-    pool: &mut [u32],
-    out: &mut [u32],
-    session: &mut [u32],
-    report: &mut [u32],
-) -> u32 {
-    let size = wide(r[3]);
-    let index = wide(r[4]);
-    let terms = terms_of(r);
-    let l = matrix(r[25], m);
-    let x = vector(r[27], m);
-    let a = head(r[19], m);
-    let taken = residues(r[19], r[20], m);
-    call_solver(
-        c,
-        pool,
-        size,
-        index,
-        &terms,
-        l,
-        x,
-        a,
-        taken,
-        out,
-        session,
-        report,
-    )
-}
-
-fn blinder(
-    c: u32,
-    r: &[u32; 32],
-    m: &[u32],
-    pool: &mut [u32],
-    scratch: &mut [u32],
-    out: &mut [u32],
-    share: &mut [u32],
-    session: &mut [u32],
-    report: &mut [u32],
-) -> u32 {
-    let size = wide(r[3]);
-    let index = wide(r[4]);
-    let terms = terms_of(r);
-    let mm = matrix(r[25], m);
-    let y = vector(r[27], m);
-    let words = raw(r[29], m);
-    let a = head(r[19], m);
-    let taken = residues(r[19], r[20], m);
-    call_blinder(
-        c,
-        pool,
-        size,
-        index,
-        scratch,
-        &terms,
-        mm,
-        y,
-        words,
-        a,
-        taken,
-        out,
-        share,
-        session,
-        report,
-    )
-}
-
+// Cuts all that any step may be lent.
 fn call(
     c: u32,
     r: &[u32; 32],
@@ -217,33 +83,19 @@ fn call(
     session: &mut [u32],
     report: &mut [u32],
 ) -> u32 {
-    match c {
-        13 => left(r, m, pool, out, share, report),
-        12 | 14 | 21 => right(c, r, m, pool, out, share, session, report),
-        15..=17 | 22 => solver(c, r, m, pool, out, session, report),
-        _ => blinder(c, r, m, pool, scratch, out, share, session, report),
-    }
-}
-
-fn call_lent(
-    c: u32,
-    r: &[u32; 32],
-    m: &[u32],
-    pool: &mut [u32],
-    scratch: &mut [u32],
-    out: &mut [u32],
-    share: &mut [u32],
-    session: &mut [u32],
-    report: &mut [u32],
-) -> u32 {
-    let a = lent(pool_length(r[0], r), pool);
-    let b = lent(places::scratch_length(r), scratch);
-    call(
+    let terms = terms_of(r);
+    call_step(
         c,
-        r,
-        m,
-        a,
-        b,
+        lent(pool_length(r[0], r), pool),
+        wide(r[3]),
+        wide(r[4]),
+        lent(places::scratch_length(r), scratch),
+        &terms,
+        matrix(r[25], m),
+        vector(r[27], m),
+        raw(r[29], m),
+        head(r[19], m),
+        residues(r[19], r[20], m),
         lent(r[22], out),
         lent(r[23], share),
         session,
@@ -267,7 +119,7 @@ fn step_on(c: u32, r: &[u32; 32], m: &mut [u32], report: &mut [u32]) -> u32 {
     load(out_from, m, &mut out);
     load(35432, m, &mut share);
     load(session_from, m, &mut session);
-    let answer = call_lent(
+    let answer = call(
         c,
         r,
         m,
