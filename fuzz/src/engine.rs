@@ -1,6 +1,10 @@
 //! The engine's calls. A slice is handed over as its pointer and its length.
 
 use reference::calls::{Calls, Slot, Taken};
+use reference::machine::{
+    BLINDER_DROP, BLINDER_FIRST, BLINDER_LAST, BLINDER_SECOND, DEAL_PRODUCT, DEAL_SYSTEM, LEFT_STEP, NUMBERS, PARSE, READ, RIGHT_DROP,
+    RIGHT_FIRST, RIGHT_LAST, SOLVER_DROP, SOLVER_FIRST, SOLVER_LAST, SOLVER_SECOND,
+};
 
 macro_rules! engine {
     ($($name:ident($($argument:ident: $kind:ty),*);)*) => {
@@ -15,32 +19,11 @@ type M = *mut u32;
 type N = usize;
 
 engine! {
-    call_deal_product(first: M, n0: N, second: M, n1: N, size: N, index: N, terms: W, n2: N, raw: W, n3: N, report: M, n4: N);
-    call_deal_system(first: M, n0: N, second: M, n1: N, size: N, index: N, terms: W, n2: N, raw: W, n3: N, report: M, n4: N);
-    call_right_first(pool: M, n0: N, size: N, index: N, terms: W, n1: N, y: W, n2: N, out: M, n3: N, session: M, n4: N, report: M, n5: N);
-    call_left_step(pool: M, n0: N, size: N, index: N, terms: W, n1: N, x: W, n2: N, raw: W, n3: N, head: W, n4: N, residues: W, n5: N,
-        out: M, n6: N, share: M, n7: N, report: M, n8: N);
-    call_right_last(pool: M, n0: N, size: N, index: N, session: M, n1: N, head: W, n2: N, residues: W, n3: N, share: M, n4: N,
-        report: M, n5: N);
-    call_solver_first(pool: M, n0: N, size: N, index: N, terms: W, n1: N, l: W, n2: N, x: W, n3: N, out: M, n4: N, session: M, n5: N,
-        report: M, n6: N);
-    call_solver_second(pool: W, n0: N, size: N, index: N, session: M, n1: N, head: W, n2: N, residues: W, n3: N, out: M, n4: N,
-        report: M, n5: N);
-    call_solver_last(pool: M, n0: N, size: N, index: N, session: M, n1: N, head: W, n2: N, residues: W, n3: N, out: M, n4: N,
-        report: M, n5: N);
-    call_blinder_first(pool: M, n0: N, size: N, index: N, scratch: M, n1: N, terms: W, n2: N, mm: W, n3: N, y: W, n4: N, raw: W, n5: N,
-        head: W, n6: N, residues: W, n7: N, out: M, n8: N, session: M, n9: N, report: M, n10: N);
-    call_blinder_second(pool: M, n0: N, size: N, index: N, scratch: W, n1: N, session: M, n2: N, head: W, n3: N, residues: W, n4: N,
-        out: M, n5: N, report: M, n6: N);
-    call_right_drop(pool: M, n0: N, size: N, index: N, session: M, n1: N, report: M, n2: N);
-    call_solver_drop(pool: M, n0: N, size: N, index: N, session: M, n1: N, report: M, n2: N);
-    call_blinder_drop(pool: M, n0: N, size: N, index: N, scratch: M, n1: N, session: M, n2: N, report: M, n3: N);
-    call_blinder_last(pool: M, n0: N, size: N, index: N, scratch: M, n1: N, session: M, n2: N, head: W, n3: N, residues: W, n4: N,
-        out: M, n5: N, report: M, n6: N);
-    call_parse(bytes: *const u8, n0: N, out: M, n1: N, report: M, n2: N);
-    call_read(bytes: *const u8, n0: N, out: M, n1: N, report: M, n2: N);
-    call_write(head: W, n0: N, residues: W, n1: N, out: *mut u8, n2: N, report: M, n3: N);
-    call_numbers(bytes: *const u8, n0: N, out: M, n1: N, report: M, n2: N);
+    call_deal(call: u32, first: M, n0: N, second: M, n1: N, size: N, index: N, terms: W, n2: N, raw: W, n3: N, report: M, n4: N);
+    call_step(call: u32, pool: M, n0: N, size: N, index: N, scratch: M, n1: N, terms: W, n2: N, one: W, n3: N, two: W, n4: N, raw: W, n5: N,
+        head: W, n6: N, residues: W, n7: N, out: M, n8: N, share: M, n9: N, session: M, n10: N, report: M, n11: N);
+    call_write(head: W, n0: N, residues: W, n1: N, bytes: *mut u8, n2: N, report: M, n3: N);
+    call_line(call: u32, bytes: *const u8, n0: N, out: M, n1: N, report: M, n2: N);
 }
 
 /// Calls with each slice taken apart.
@@ -58,48 +41,80 @@ macro_rules! call {
     ($name:ident: $($rest:tt)*) => { call!(@ $name [] $($rest)*) };
 }
 
+/// All that a step may be lent beside its slot and its report; what a call does not name is empty.
+#[derive(Default)]
+struct Lent<'a> {
+    scratch: &'a mut [u32],
+    terms: &'a [u32],
+    one: &'a [u32],
+    two: &'a [u32],
+    raw: &'a [u32],
+    head: &'a [u32],
+    residues: &'a [u32],
+    out: &'a mut [u32],
+    share: &'a mut [u32],
+    session: &'a mut [u32],
+}
+
+fn taken<'a>(a: Taken<'a>, session: &'a mut [u32]) -> Lent<'a> {
+    Lent { head: a.head, residues: a.residues, session, ..Lent::default() }
+}
+
+fn step(call: u32, s: Slot, l: Lent, report: &mut [u32]) -> u32 {
+    call!(call_step: = call, mut s.pool, = s.size, = s.index, mut l.scratch, &l.terms, &l.one, &l.two, &l.raw, &l.head, &l.residues,
+        mut l.out, mut l.share, mut l.session, mut report,)
+}
+
+fn deal(call: u32, s: Slot, second: &mut [u32], terms: &[u32], raw: &[u32], report: &mut [u32]) -> u32 {
+    call!(call_deal: = call, mut s.pool, mut second, = s.size, = s.index, &terms, &raw, mut report,)
+}
+
+fn line(call: u32, bytes: &[u8], out: &mut [u32], report: &mut [u32]) -> u32 {
+    call!(call_line: = call, &bytes, mut out, mut report,)
+}
+
 #[derive(Clone, PartialEq, Eq)]
 pub struct Engine;
 
 impl Calls for Engine {
     fn deal_product(s: Slot, second: &mut [u32], terms: &[u32], raw: &[u32], report: &mut [u32]) -> u32 {
-        call!(call_deal_product: mut s.pool, mut second, = s.size, = s.index, &terms, &raw, mut report,)
+        deal(DEAL_PRODUCT, s, second, terms, raw, report)
     }
 
     fn deal_system(s: Slot, second: &mut [u32], terms: &[u32], raw: &[u32], report: &mut [u32]) -> u32 {
-        call!(call_deal_system: mut s.pool, mut second, = s.size, = s.index, &terms, &raw, mut report,)
+        deal(DEAL_SYSTEM, s, second, terms, raw, report)
     }
 
     fn right_first(s: Slot, terms: &[u32], y: &[u32], out: &mut [u32], session: &mut [u32], report: &mut [u32]) -> u32 {
-        call!(call_right_first: mut s.pool, = s.size, = s.index, &terms, &y, mut out, mut session, mut report,)
+        step(RIGHT_FIRST, s, Lent { terms, one: y, out, session, ..Lent::default() }, report)
     }
 
     fn left_step(s: Slot, terms: &[u32], x: &[u32], raw: &[u32], a: Taken, out: &mut [u32], share: &mut [u32], report: &mut [u32]) -> u32 {
-        call!(call_left_step: mut s.pool, = s.size, = s.index, &terms, &x, &raw, &a.head, &a.residues, mut out, mut share, mut report,)
+        step(LEFT_STEP, s, Lent { terms, one: x, raw, out, share, ..taken(a, &mut []) }, report)
     }
 
     fn right_last(s: Slot, session: &mut [u32], a: Taken, share: &mut [u32], report: &mut [u32]) -> u32 {
-        call!(call_right_last: mut s.pool, = s.size, = s.index, mut session, &a.head, &a.residues, mut share, mut report,)
+        step(RIGHT_LAST, s, Lent { share, ..taken(a, session) }, report)
     }
 
     fn right_drop(s: Slot, session: &mut [u32], report: &mut [u32]) -> u32 {
-        call!(call_right_drop: mut s.pool, = s.size, = s.index, mut session, mut report,)
+        step(RIGHT_DROP, s, Lent { session, ..Lent::default() }, report)
     }
 
     fn solver_first(s: Slot, terms: &[u32], l: &[u32], x: &[u32], out: &mut [u32], session: &mut [u32], report: &mut [u32]) -> u32 {
-        call!(call_solver_first: mut s.pool, = s.size, = s.index, &terms, &l, &x, mut out, mut session, mut report,)
+        step(SOLVER_FIRST, s, Lent { terms, one: l, two: x, out, session, ..Lent::default() }, report)
     }
 
     fn solver_second(s: Slot, session: &mut [u32], a: Taken, out: &mut [u32], report: &mut [u32]) -> u32 {
-        call!(call_solver_second: &s.pool, = s.size, = s.index, mut session, &a.head, &a.residues, mut out, mut report,)
+        step(SOLVER_SECOND, s, Lent { out, ..taken(a, session) }, report)
     }
 
     fn solver_last(s: Slot, session: &mut [u32], a: Taken, out: &mut [u32], report: &mut [u32]) -> u32 {
-        call!(call_solver_last: mut s.pool, = s.size, = s.index, mut session, &a.head, &a.residues, mut out, mut report,)
+        step(SOLVER_LAST, s, Lent { out, ..taken(a, session) }, report)
     }
 
     fn solver_drop(s: Slot, session: &mut [u32], report: &mut [u32]) -> u32 {
-        call!(call_solver_drop: mut s.pool, = s.size, = s.index, mut session, mut report,)
+        step(SOLVER_DROP, s, Lent { session, ..Lent::default() }, report)
     }
 
     fn blinder_first(
@@ -114,28 +129,30 @@ impl Calls for Engine {
         session: &mut [u32],
         report: &mut [u32],
     ) -> u32 {
-        call!(call_blinder_first: mut s.pool, = s.size, = s.index, mut scratch, &terms, &m, &y, &raw, &a.head, &a.residues, mut out,
-            mut session, mut report,)
+        step(BLINDER_FIRST, s, Lent { scratch, terms, one: m, two: y, raw, out, ..taken(a, session) }, report)
     }
 
     fn blinder_second(s: Slot, scratch: &[u32], session: &mut [u32], a: Taken, out: &mut [u32], report: &mut [u32]) -> u32 {
-        call!(call_blinder_second: mut s.pool, = s.size, = s.index, &scratch, mut session, &a.head, &a.residues, mut out, mut report,)
+        let mut kept = scratch.to_vec();
+        let answer = step(BLINDER_SECOND, s, Lent { scratch: &mut kept, out, ..taken(a, session) }, report);
+        assert_eq!(kept, scratch, "the scratch after the blinder's second step");
+        answer
     }
 
     fn blinder_last(s: Slot, scratch: &mut [u32], session: &mut [u32], a: Taken, out: &mut [u32], report: &mut [u32]) -> u32 {
-        call!(call_blinder_last: mut s.pool, = s.size, = s.index, mut scratch, mut session, &a.head, &a.residues, mut out, mut report,)
+        step(BLINDER_LAST, s, Lent { scratch, share: out, ..taken(a, session) }, report)
     }
 
     fn blinder_drop(s: Slot, scratch: &mut [u32], session: &mut [u32], report: &mut [u32]) -> u32 {
-        call!(call_blinder_drop: mut s.pool, = s.size, = s.index, mut scratch, mut session, mut report,)
+        step(BLINDER_DROP, s, Lent { scratch, session, ..Lent::default() }, report)
     }
 
     fn parse(bytes: &[u8], out: &mut [u32], report: &mut [u32]) -> u32 {
-        call!(call_parse: &bytes, mut out, mut report,)
+        line(PARSE, bytes, out, report)
     }
 
     fn read(bytes: &[u8], out: &mut [u32], report: &mut [u32]) -> u32 {
-        call!(call_read: &bytes, mut out, mut report,)
+        line(READ, bytes, out, report)
     }
 
     fn write(a: Taken, out: &mut [u8], report: &mut [u32]) -> u32 {
@@ -143,6 +160,6 @@ impl Calls for Engine {
     }
 
     fn numbers(bytes: &[u8], out: &mut [u32], report: &mut [u32]) -> u32 {
-        call!(call_numbers: &bytes, mut out, mut report,)
+        line(NUMBERS, bytes, out, report)
     }
 }

@@ -1,4 +1,4 @@
-//! The machine that performs the calls of a script; the engine's crate `replay` describes the script's lines, the registers and the arrays.
+//! The machine that performs the calls of a script; the engine's crate `test_machine` describes the script's lines, the registers and the arrays.
 
 use std::fmt::Write;
 use std::marker::PhantomData;

@@ -3,32 +3,29 @@ use crate::words;
 use dealer::deal_product;
 use dealer::deal_system;
 use judging::message::no_head;
+use protocol::Answer;
+use protocol::Terms;
 
-#[no_mangle]
-pub extern "C" fn call_deal_product(
+fn deal(
+    c: u32,
     first: &mut [u32],
     second: &mut [u32],
     size: usize,
     index: usize,
-    terms: &[u32],
+    t: Terms,
     raw: &[u32],
-    report: &mut [u32],
-) -> u32 {
-    if terms.len() < 6 {
-        return 99;
-    }
-    if report.len() < 8 {
-        return 99;
-    }
-    let t = words::terms_of(terms);
+) -> Answer {
     let id = t.tape;
-    let a = deal_product(first, second, size, index, id, t.q, t.m, t.k, t.p, raw);
-    words::put_report(a, no_head(), report);
-    words::answered(a)
+    if c == 10 {
+        return deal_product(first, second, size, index, id, t.q, t.m, t.k, t.p, raw);
+    }
+    deal_system(first, second, size, index, id, t.q, t.m, raw)
 }
 
+// 10 deal_product, 11 deal_system.
 #[no_mangle]
-pub extern "C" fn call_deal_system(
+pub extern "C" fn call_deal(
+    c: u32,
     first: &mut [u32],
     second: &mut [u32],
     size: usize,
@@ -37,15 +34,9 @@ pub extern "C" fn call_deal_system(
     raw: &[u32],
     report: &mut [u32],
 ) -> u32 {
-    if terms.len() < 6 {
+    if words::is_short(c, terms.len(), 0, 0, report.len()) {
         return 99;
     }
-    if report.len() < 8 {
-        return 99;
-    }
-    let t = words::terms_of(terms);
-    let id = t.tape;
-    let a = deal_system(first, second, size, index, id, t.q, t.m, raw);
-    words::put_report(a, no_head(), report);
-    words::answered(a)
+    let a = deal(c, first, second, size, index, words::terms_of(terms), raw);
+    words::report_of(a, no_head(), report)
 }

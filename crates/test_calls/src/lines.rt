@@ -4,77 +4,78 @@ use decimal::Count;
 use judging::message::no_head;
 use line::Received;
 use line::Written;
+use protocol::Answer;
+use protocol::Head;
 
-fn received(r: Received, report: &mut [u32]) -> u32 {
-    if report.len() < 8 {
-        return 99;
-    }
+struct Reply {
+    answer: Answer,
+    head: Head,
+}
+
+fn received(r: Received) -> Reply {
     match r {
-        Received::Message(h, n) => {
-            words::put_count(words::low(n), h, report);
-            0
-        }
-        Received::Refused(why) => {
-            words::put_count(0, no_head(), report);
-            judging::number_of(why)
-        }
+        Received::Message(h, n) => Reply {
+            answer: Answer::Accepted(n),
+            head: h,
+        },
+        Received::Refused(why) => Reply {
+            answer: Answer::Refused(why),
+            head: no_head(),
+        },
     }
 }
 
-#[no_mangle]
-pub extern "C" fn call_parse(bytes: &[u8], out: &mut [u32], report: &mut [u32]) -> u32 {
-    if report.len() < 8 {
-        return 99;
+fn counted(c: Count) -> Reply {
+    let answer = match c {
+        Count::Words(n) => Answer::Accepted(n),
+        Count::Refused(why) => Answer::Refused(why),
+    };
+    Reply {
+        answer,
+        head: no_head(),
     }
-    received(line::parse(bytes, out), report)
 }
 
-#[no_mangle]
-pub extern "C" fn call_read(bytes: &[u8], out: &mut [u32], report: &mut [u32]) -> u32 {
-    if report.len() < 8 {
-        return 99;
+fn written(w: Written) -> Answer {
+    match w {
+        Written::Bytes(n) => Answer::Accepted(n),
+        Written::Refused(why) => Answer::Refused(why),
     }
-    received(line::read(bytes, out), report)
 }
 
+// 24 write.
 #[no_mangle]
 pub extern "C" fn call_write(
     head: &[u32],
     residues: &[u32],
-    out: &mut [u8],
+    bytes: &mut [u8],
     report: &mut [u32],
 ) -> u32 {
-    if head.len() < 7 {
+    if words::is_short(24, 0, head.len(), 0, report.len()) {
         return 99;
     }
-    if report.len() < 8 {
-        return 99;
-    }
-    match line::write(words::head_of(head), residues, out) {
-        Written::Bytes(n) => {
-            words::put_count(words::low(n), no_head(), report);
-            0
-        }
-        Written::Refused(why) => {
-            words::put_count(0, no_head(), report);
-            judging::number_of(why)
-        }
-    }
+    let w = line::write(words::head_of(head), residues, bytes);
+    words::report_of(written(w), no_head(), report)
 }
 
+fn line(c: u32, bytes: &[u8], out: &mut [u32]) -> Reply {
+    if c == 25 {
+        return received(line::parse(bytes, out));
+    }
+    if c == 26 {
+        return received(line::read(bytes, out));
+    }
+    counted(decimal::numbers(bytes, out))
+}
+
+// 25 parse, 26 read, 27 numbers.
 #[no_mangle]
-pub extern "C" fn call_numbers(bytes: &[u8], out: &mut [u32], report: &mut [u32]) -> u32 {
-    if report.len() < 8 {
+pub extern "C" fn call_line(c: u32, bytes: &[u8], out: &mut [u32], report: &mut [u32]) -> u32 {
+    if words::is_short(c, 0, 0, 0, report.len()) {
         return 99;
     }
-    match decimal::numbers(bytes, out) {
-        Count::Words(n) => {
-            words::put_count(words::low(n), no_head(), report);
-            0
-        }
-        Count::Refused(why) => {
-            words::put_count(0, no_head(), report);
-            judging::number_of(why)
-        }
-    }
+    let r = line(c, bytes, out);
+    let answer = r.answer;
+    let taken = r.head;
+    words::report_of(answer, taken, report)
 }

@@ -5,174 +5,272 @@
 //   solver    the terms, due, s                              23
 //   blinder   the terms, due, M, y                          279
 //   report    words read, then the head of what is sent       8
+use blinder::BlinderAnswer;
+use blinder::BlinderDropped;
+use judging::message::no_head;
 use judging::number_of;
+use product::LeftAnswer;
+use product::RightAnswer;
+use product::RightDropped;
 use protocol::Answer;
 use protocol::BlinderSession;
 use protocol::Head;
-use protocol::Refusal;
 use protocol::RightSession;
 use protocol::SessionId;
 use protocol::SolverSession;
 use protocol::TapeId;
 use protocol::Terms;
-use vectors::write_copy;
+use solver::SolverAnswer;
+use solver::SolverDropped;
+use test_memory::load;
+use test_memory::part;
+use test_memory::store;
 ghost use mathlib.Core.Path.{_≡_};
-ghost use Prim.Native.Nat.{_%_, _≤_};
-ghost use lib.ListN.{length};
-ghost use Rattle.protocol.specs.Step.{answerNumber, answerRead};
+ghost use mathlib.Core.Logic.{_⊎_, _≢_};
 
-// 0, or the number of the refusal.
-pub fn answered(a: Answer) -> u32
-    ensures { λ r. ⌜ r ≡ answerNumber a ⌝ }
+// ---- which calls have which records, and whether they are whole
+
+fn terms_words(c: u32) -> usize {
+    match c {
+        10..=13 | 15 | 18 => 6,
+        _ => 0,
+    }
+}
+
+fn head_words(c: u32) -> usize {
+    match c {
+        13 | 14 | 16..=20 | 24 => 7,
+        _ => 0,
+    }
+}
+
+fn session_words(c: u32) -> usize {
+    match c {
+        12 | 14 | 21 => 7,
+        15..=17 | 22 => 23,
+        18..=20 | 23 => 279,
+        _ => 0,
+    }
+}
+
+// Of each record is told how many words are lent, and 0 where the call has none.
+pub fn is_short(c: u32, terms: usize, head: usize, session: usize, report: usize) -> bool {
+    if terms < terms_words(c) {
+        return true;
+    }
+    if head < head_words(c) {
+        return true;
+    }
+    if session < session_words(c) {
+        return true;
+    }
+    report < 8
+}
+
+// ---- records from words; those that are not there count as 0
+
+fn terms_at(at: usize, w: &[u32]) -> Terms {
+    let mut a = [0u32; 6];
+    load(at, w, &mut a);
+    Terms {
+        session: SessionId(a[0]),
+        tape: TapeId(a[1]),
+        q: a[2],
+        m: a[3],
+        k: a[4],
+        p: a[5],
+    }
+}
+
+fn word_at(at: usize, w: &[u32]) -> u32 {
+    let mut a = [0u32; 1];
+    load(at, w, &mut a);
+    a[0]
+}
+
+fn side_at(at: usize, w: &[u32]) -> [u32; 16] {
+    let mut a = [0u32; 16];
+    load(at, w, &mut a);
+    a
+}
+
+fn matrix_at(at: usize, w: &[u32]) -> [u32; 256] {
+    let mut a = [0u32; 256];
+    load(at, w, &mut a);
+    a
+}
+
+pub fn terms_of(w: &[u32]) -> Terms {
+    terms_at(0, w)
+}
+
+pub fn head_of(w: &[u32]) -> Head {
+    Head {
+        kind: word_at(0, w),
+        terms: terms_at(1, w),
+    }
+}
+
+pub fn right_of(w: &[u32]) -> RightSession {
+    RightSession {
+        terms: terms_at(0, w),
+        due: word_at(6, w),
+    }
+}
+
+pub fn solver_of(w: &[u32]) -> SolverSession {
+    SolverSession {
+        terms: terms_at(0, w),
+        due: word_at(6, w),
+        s: side_at(7, w),
+    }
+}
+
+pub fn blinder_of(w: &[u32]) -> BlinderSession {
+    BlinderSession {
+        terms: terms_at(0, w),
+        due: word_at(6, w),
+        mm: matrix_at(7, w),
+        y: side_at(263, w),
+    }
+}
+
+// ---- words from records
+
+// The words of a session have zeros behind them.
+fn session_of(t: Terms, due: u32) -> [u32; 279] {
+    let session = t.session;
+    let tape = t.tape;
+    let start = [session.0, tape.0, t.q, t.m, t.k, t.p, due];
+    let mut w = [0u32; 279];
+    store(0, &start, &mut w);
+    w
+}
+
+fn right_words(s: RightSession) -> [u32; 279] {
+    session_of(s.terms, s.due)
+}
+
+fn solver_words(s: SolverSession) -> [u32; 279] {
+    let kept = s.s;
+    let mut w = session_of(s.terms, s.due);
+    store(7, &kept, &mut w);
+    w
+}
+
+fn blinder_words(s: BlinderSession) -> [u32; 279] {
+    let mm = s.mm;
+    let y = s.y;
+    let mut w = session_of(s.terms, s.due);
+    store(7, &mm, &mut w);
+    store(263, &y, &mut w);
+    w
+}
+
+// The words of a session go back, unless the call is a first step, and refused.
+pub fn put_back(c: u32, answered: u32, words: &[u32], session: &mut [u32])
+    ensures { λ _. ⌜ ((c ≡ 12) ⊎ (c ≡ 15) ⊎ (c ≡ 18) → answered ≢ 0 → now (session .exit) ≡ now (session .entry)) ⌝ }
 {
+    let kept = part(0, session_words(c), words);
+    if answered == 0 {
+        store(0, kept, session);
+        return;
+    }
+    if c == 12 {
+        return;
+    }
+    if c == 15 {
+        return;
+    }
+    if c == 18 {
+        return;
+    }
+    store(0, kept, session);
+}
+
+// ---- what a call answers
+
+// The answer of a step, the head of what it sends, and the words of its session.
+pub struct Done {
+    pub answer: Answer,
+    pub head: Head,
+    pub words: [u32; 279],
+}
+
+fn left_with(answer: Answer, head: Head, words: [u32; 279]) -> Done {
+    Done {
+        answer,
+        head,
+        words,
+    }
+}
+
+pub fn left_done(d: LeftAnswer) -> Done {
+    let answer = d.answer;
+    let head = d.head;
+    left_with(answer, head, [0u32; 279])
+}
+
+pub fn right_done(d: RightAnswer) -> Done {
+    let answer = d.answer;
+    let head = d.head;
+    let s = d.session;
+    left_with(answer, head, right_words(s))
+}
+
+pub fn solver_done(d: SolverAnswer) -> Done {
+    let answer = d.answer;
+    let head = d.head;
+    let s = d.session;
+    left_with(answer, head, solver_words(s))
+}
+
+pub fn blinder_done(d: BlinderAnswer) -> Done {
+    let answer = d.answer;
+    let head = d.head;
+    let s = d.session;
+    left_with(answer, head, blinder_words(s))
+}
+
+pub fn right_dropped(d: RightDropped) -> Done {
+    let answer = d.answer;
+    let s = d.session;
+    left_with(answer, no_head(), right_words(s))
+}
+
+pub fn solver_dropped(d: SolverDropped) -> Done {
+    let answer = d.answer;
+    let s = d.session;
+    left_with(answer, no_head(), solver_words(s))
+}
+
+pub fn blinder_dropped(d: BlinderDropped) -> Done {
+    let answer = d.answer;
+    let s = d.session;
+    left_with(answer, no_head(), blinder_words(s))
+}
+
+fn number(a: Answer) -> u32 {
     match a {
         Answer::Accepted(_) => 0,
         Answer::Refused(r) => number_of(r),
     }
 }
 
-// A count as a word.
-pub fn low(n: usize) -> u32
-    ensures { λ r. ⌜ r ≡ n % 4294967296 ⌝ }
-{
-    (n % 4294967296) as u32
-}
-
-// The words read, and 0 at a refusal.
-fn read_in(a: Answer) -> usize
-    ensures { λ r. ⌜ r ≡ answerRead a ⌝ }
-{
+// The low word of a count, and 0 at a refusal.
+fn count(a: Answer) -> u32 {
     match a {
-        Answer::Accepted(n) => n,
+        Answer::Accepted(n) => (n % 4294967296) as u32,
         Answer::Refused(_) => 0,
     }
 }
 
-pub fn terms_of(w: &[u32]) -> Terms
-    requires { ⌜ 6 ≤ length (now w) ⌝ }
-{
-    Terms {
-        session: SessionId(w[0]),
-        tape: TapeId(w[1]),
-        q: w[2],
-        m: w[3],
-        k: w[4],
-        p: w[5],
-    }
-}
-
-pub fn head_of(w: &[u32]) -> Head
-    requires { ⌜ 7 ≤ length (now w) ⌝ }
-{
-    let terms = terms_of(&w[1..]);
-    Head { kind: w[0], terms }
-}
-
-// The report of a call that read so many words or bytes, or wrote them.
-pub fn put_count(n: u32, h: Head, out: &mut [u32])
-    requires { ⌜ 8 ≤ length (now out) ⌝ }
-{
+// Writes the report, and answers 0 or the number of the refusal.
+pub fn report_of(a: Answer, h: Head, report: &mut [u32]) -> u32 {
     let t = h.terms;
     let session = t.session;
     let tape = t.tape;
-    let w = [n, h.kind, session.0, tape.0, t.q, t.m, t.k, t.p];
-    write_copy(8, &w, out);
-}
-
-pub fn put_report(a: Answer, h: Head, out: &mut [u32])
-    requires { ⌜ 8 ≤ length (now out) ⌝ }
-{
-    put_count(low(read_in(a)), h, out);
-}
-
-pub fn right_of(w: &[u32]) -> RightSession
-    requires { ⌜ 7 ≤ length (now w) ⌝ }
-{
-    let terms = terms_of(w);
-    RightSession { terms, due: w[6] }
-}
-
-fn start_of(t: Terms, due: u32) -> [u32; 7] {
-    let session = t.session;
-    let tape = t.tape;
-    [session.0, tape.0, t.q, t.m, t.k, t.p, due]
-}
-
-pub fn put_right(s: RightSession, out: &mut [u32])
-    requires { ⌜ 7 ≤ length (now out) ⌝ }
-{
-    let w = start_of(s.terms, s.due);
-    write_copy(7, &w, out);
-}
-
-pub fn solver_of(w: &[u32]) -> SolverSession
-    requires { ⌜ 23 ≤ length (now w) ⌝ }
-{
-    let terms = terms_of(w);
-    let mut s = [0u32; 16];
-    write_copy(16, &w[7..], &mut s);
-    SolverSession {
-        terms,
-        due: w[6],
-        s: s,
-    }
-}
-
-// The words of a session behind its start.
-fn put_kept(a: &[u32; 16], w: &mut [u32])
-    requires { ⌜ 23 ≤ length (now w) ⌝ }
-{
-    write_copy(16, a, &mut w[7..]);
-}
-
-fn put_matrix(a: &[u32; 256], w: &mut [u32])
-    requires { ⌜ 279 ≤ length (now w) ⌝ }
-{
-    write_copy(256, a, &mut w[7..]);
-}
-
-fn put_vector(a: &[u32; 16], w: &mut [u32])
-    requires { ⌜ 279 ≤ length (now w) ⌝ }
-{
-    write_copy(16, a, &mut w[263..]);
-}
-
-pub fn put_solver(s: SolverSession, out: &mut [u32])
-    requires { ⌜ 23 ≤ length (now out) ⌝ }
-{
-    let start = start_of(s.terms, s.due);
-    let kept = s.s;
-    let mut w = [0u32; 23];
-    write_copy(7, &start, &mut w);
-    put_kept(&kept, &mut w);
-    write_copy(23, &w, out);
-}
-
-pub fn blinder_of(w: &[u32]) -> BlinderSession
-    requires { ⌜ 279 ≤ length (now w) ⌝ }
-{
-    let terms = terms_of(w);
-    let mut mm = [0u32; 256];
-    let mut y = [0u32; 16];
-    write_copy(256, &w[7..], &mut mm);
-    write_copy(16, &w[263..], &mut y);
-    BlinderSession {
-        terms,
-        due: w[6],
-        mm: mm,
-        y: y,
-    }
-}
-
-pub fn put_blinder(s: BlinderSession, out: &mut [u32])
-    requires { ⌜ 279 ≤ length (now out) ⌝ }
-{
-    let start = start_of(s.terms, s.due);
-    let mm = s.mm;
-    let y = s.y;
-    let mut w = [0u32; 279];
-    write_copy(7, &start, &mut w);
-    put_matrix(&mm, &mut w);
-    put_vector(&y, &mut w);
-    write_copy(279, &w, out);
+    let w = [count(a), h.kind, session.0, tape.0, t.q, t.m, t.k, t.p];
+    store(0, &w, report);
+    number(a)
 }

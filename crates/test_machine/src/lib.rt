@@ -35,8 +35,10 @@
 // 27 numbers. Any other answers 98.
 //
 //   script    a line of the script, and the loop over all
-// The crate `memory` has the arrays and what is printed of them, `replay_products` and `replay_systems` the calls.
+//   shown     what is printed
+// The crate `test_memory` has what is done with words, `test_steps` the calls.
 // No function here is for hosts.
 mod script;
+mod shown;
 
 pub use script::run;

@@ -1,13 +1,13 @@
 // A line of the script, and the loop over all lines.
 // All arrays stand in one memory, in this order: 0 first pool, 1 second pool, 2 scratch, 3 sessions, 4 messages, 5 share, 6 inputs (a
 // matrix, from 2100 a vector, from 2164 raw words), 7 registers.
+use crate::shown;
 use decimal::Count;
 use test_memory::fill_bytes;
 use test_memory::fill_part;
 use test_memory::load;
 use test_memory::put_bytes;
 use test_memory::put_part;
-use test_memory::shown;
 ghost use Prim.Native.Nat.{_≤_, _<_};
 ghost use lib.ListN.{length};
 
@@ -95,18 +95,12 @@ fn call(c: u32, r: &[u32; 32], m: &mut [u32], bytes: &mut [u8], report: &mut [u3
         return 0;
     }
     if c < 12 {
-        return test_products::deal(c, r, m, report);
-    }
-    if c < 15 {
-        return test_products::step(c, r, m, report);
-    }
-    if c == 21 {
-        return test_products::step(c, r, m, report);
+        return test_steps::deal(c, r, m, report);
     }
     if c < 24 {
-        return test_systems::step(c, r, m, report);
+        return test_steps::step(c, r, m, report);
     }
-    test_products::line(c, r, m, bytes, report)
+    test_steps::line(c, r, m, bytes, report)
 }
 
 // A call, and the line that it prints.

@@ -1,9 +1,5 @@
-// The memory of the machine that replays calls (crate `replay`): words from seeds, copies, bytes, and sums.
-//   places   where things stand in the memory, and a call's numbers in the registers
-//   shown    what is printed of it
+// The memory of the machine that replays calls (crate `test_machine`): words from seeds, copies, parts, bytes, and sums.
 // No function here is for hosts.
-pub mod places;
-pub mod shown;
 
 ghost use mathlib.Core.Path.{_≡_};
 ghost use Prim.Native.Nat.{_≤_};
@@ -15,6 +11,12 @@ pub fn most(n: u32, limit: usize) -> usize
 {
     let wanted = n as usize;
     if limit < wanted { limit } else { wanted }
+}
+
+fn least(n: usize, limit: usize) -> usize
+    ensures { λ r. ⌜ r ≤ limit ⌝ }
+{
+    if limit < n { limit } else { n }
 }
 
 pub fn within(n: u32, limit: u32) -> u32 {
@@ -95,6 +97,13 @@ pub fn store(at: usize, from: &[u32], m: &mut [u32]) {
         return;
     }
     put(from, &mut m[at..]);
+}
+
+// At most n words of the memory, from a position on.
+pub fn part(at: usize, n: usize, m: &[u32]) -> &[u32] {
+    let start = least(at, m.len());
+    let end = start + least(n, m.len() - start);
+    &m[start..end]
 }
 
 fn byte_of(n: u32) -> u8 {

@@ -1,4 +1,4 @@
-//! The parts of the script that the program `replay_main` performs, one after the other on one machine.
+//! The parts of the script that the program `test_script` performs, one after the other on one machine.
 
 use super::damage::{single, Damage};
 use super::dealings::dealings;
@@ -45,7 +45,7 @@ fn refusals(writer: &mut Writer, random: &mut Random, plan: &Plan) {
     }
 }
 
-/// The damages that a program over the crate `replay` can make.
+/// The damages that a program over the crate `test_machine` can make.
 fn whole_records(plan: &Plan, call: u32, writer: &Writer) -> Vec<Damage> {
     single(plan, call, &writer.machine).into_iter().filter(Damage::has_whole_records).collect()
 }

@@ -1,9 +1,9 @@
 // What is printed: a line of numbers for each call.
-use crate::mixed;
-use crate::most;
-use crate::sum;
-use crate::sum_bytes;
 use libc::STDOUT_FILENO;
+use test_memory::mixed;
+use test_memory::most;
+use test_memory::sum;
+use test_memory::sum_bytes;
 
 fn text(bytes: &[u8]) {
     io::write_all(STDOUT_FILENO, bytes);

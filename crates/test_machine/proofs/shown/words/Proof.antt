@@ -1,8 +1,8 @@
 -- The loop stays inside the slice. Assumes nothing.
 use Prim.Native.Nat.{_-_, _≤_}
 use borrow.Author.Needs.{needs}
-use Rattle.test_memory.proofs.shown.words.Statement.{statement}
-use Rattle.test_memory.proofs.shown.words.Tie as tie
+use Rattle.test_machine.proofs.shown.words.Statement.{statement}
+use Rattle.test_machine.proofs.shown.words.Tie as tie
 
 abbrev Inv-loop : tie.InvT-loop
 Inv-loop w n i₀ i = i ≤ n
