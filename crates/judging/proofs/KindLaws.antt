@@ -80,6 +80,13 @@ pub two-parts : (kind : ℕ) (t : Terms) → getD (messageLayout kind (t .m) (t 
 unfolding messageSize
 two-parts kind t = cases kind (λ l. getD l 0 0 + getD l 1 0 ≡ total l) t (omega arith) (omega arith) (omega arith) (omega arith) (omega arith)
 
+-- both together are no more than the first by itself or X and R may be
+pub both-parts : (kind : ℕ) (t : Terms) (n : ℕ) → getD (messageLayout kind (t .m) (t .k) (t .p)) 0 0 ≤ n → t .m * t .k + t .m * t .p ≤ n
+    → getD (messageLayout kind (t .m) (t .k) (t .p)) 0 0 + getD (messageLayout kind (t .m) (t .k) (t .p)) 1 0 ≤ n
+both-parts kind t n e f =
+    cases kind (λ l. getD l 0 0 ≤ n → getD l 0 0 + getD l 1 0 ≤ n) t (λ h. omega arith) (λ h. f) (λ h. omega arith)
+    (λ h. omega (arith, few-columns (t .m) (t .p), f)) (λ h. omega arith) e
+
 -- no kind but 2 and 4 has a second part
 pub no-second : (kind : ℕ) (t : Terms) → (kind ≡ 2 → ⊥) → (kind ≡ 4 → ⊥) → getD (messageLayout kind (t .m) (t .k) (t .p)) 1 0 ≡ 0
 unfolding messageLayout

@@ -60,26 +60,6 @@ pub fn side_size(t: Terms) -> usize
     times(t.m, t.p - t.m)
 }
 
-// How many residues a message has.
-pub fn message_size(kind: u32, t: Terms) -> usize
-    requires { ⌜ t .m * t .k + t .m * t .p ≤ 4096 ⌝ }
-    ensures { λ r. ⌜ r ≡ messageSize kind t ⌝ }
-{
-    if kind == 1 {
-        return times(t.k, t.p);
-    }
-    if kind == 2 {
-        return times(t.m, t.k) + times(t.m, t.p);
-    }
-    if kind == 3 {
-        return times(t.m, t.k);
-    }
-    if kind == 4 {
-        return times(t.m, t.k) + side_size(t);
-    }
-    side_size(t)
-}
-
 // The first and the second part of a message.
 fn first_part(kind: u32, t: Terms) -> usize
     ensures { λ r. ⌜ r ≡ getD (messageLayout kind (t .m) (t .k) (t .p)) 0 0 ⌝ }
@@ -109,6 +89,14 @@ fn second_part(kind: u32, t: Terms) -> usize
         return side_size(t);
     }
     0
+}
+
+// How many residues a message has.
+pub fn message_size(kind: u32, t: Terms) -> usize
+    requires { ⌜ t .m * t .k + t .m * t .p ≤ 4096 ⌝ }
+    ensures { λ r. ⌜ r ≡ messageSize kind t ⌝ }
+{
+    first_part(kind, t) + second_part(kind, t)
 }
 
 // A message has room; any sides may be handed over.

@@ -1,5 +1,6 @@
 // Step 1: right sends Y1 = Y − Y0, and its half is in use.
 use crate::RightAnswer;
+use crate::accepted;
 use crate::refused;
 use judging::Check;
 use judging::check_input;
@@ -7,7 +8,6 @@ use judging::message::has_room;
 use judging::need;
 use judging::step::check_first;
 use judging::worst;
-use protocol::Answer;
 use protocol::Head;
 use protocol::Refusal;
 use protocol::RightSession;
@@ -56,11 +56,10 @@ fn compute(pool: &[u32], at: Place, t: Terms, y: &[u32], out: &mut [u32]) -> Rig
 {
     let y0 = matrix(End::Right, t, 0, pool, at);
     subtract_residues(t.q, times(t.k, t.p), y, y0, out);
-    RightAnswer {
-        answer: Answer::Accepted(0),
-        session: RightSession { terms: t, due: 2 },
-        head: Head { kind: 1, terms: t },
-    }
+    accepted(
+        RightSession { terms: t, due: 2 },
+        Head { kind: 1, terms: t },
+    )
 }
 
 // Step 1 (RULES 4.2): Y1 = Y − Y0.

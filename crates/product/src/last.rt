@@ -1,5 +1,6 @@
 // Step 3: right's share is X1 × Y0 + R1 − B0. Its half is spent, and its session closes.
 use crate::RightAnswer;
+use crate::accepted;
 use judging::Check;
 use judging::answer_of;
 use judging::message::no_head;
@@ -7,7 +8,6 @@ use judging::step::check_later;
 use judging::step::check_room;
 use judging::worst;
 use matrix::write_share;
-use protocol::Answer;
 use protocol::Head;
 use protocol::RightSession;
 use protocol::Terms;
@@ -76,11 +76,7 @@ fn compute(
     let y0 = matrix(End::Right, t, 0, pool, at);
     let b0 = matrix(End::Right, t, 1, pool, at);
     write_own(t, residues, y0, b0, share);
-    RightAnswer {
-        answer: Answer::Accepted(0),
-        session: RightSession { terms: t, due: 0 },
-        head: no_head(),
-    }
+    accepted(RightSession { terms: t, due: 0 }, no_head())
 }
 
 // Step 3 (RULES 4.4): the share is X1 × Y0 + R1 − B0.

@@ -24,6 +24,7 @@ use protocol::Head;
 use protocol::RightSession;
 ghost use mathlib.Core.Path.{_≡_};
 ghost use Rattle.judging.specs.InOrder.{answerOf};
+ghost use Rattle.protocol.specs.declared.Answer.the-variants.{Accepted};
 ghost use Rattle.protocol.specs.Message.{noMessage};
 ghost use Rattle.protocol.specs.Product.{noRight};
 
@@ -50,5 +51,16 @@ fn refused(c: Check) -> RightAnswer
         answer: answer_of(c),
         session: RightSession { terms, due: 0 },
         head: none,
+    }
+}
+
+// A step that is taken: its next session, and the head of the message that it sends.
+fn accepted(session: RightSession, head: Head) -> RightAnswer
+    ensures { λ r. ⌜ r ≡ record { answer = Accepted 0; session = session; head = head } ⌝ }
+{
+    RightAnswer {
+        answer: Answer::Accepted(0),
+        session: session,
+        head: head,
     }
 }

@@ -3,6 +3,7 @@
 //   compute        the message and the session
 //   solver_first   the step
 use crate::SolverAnswer;
+use crate::accepted;
 use crate::no_session;
 use crate::refused;
 use crate::session_of;
@@ -14,7 +15,6 @@ use judging::message::side_size;
 use judging::need;
 use judging::step::check_first;
 use judging::worst;
-use protocol::Answer;
 use protocol::Head;
 use protocol::Refusal;
 use protocol::SolverSession;
@@ -38,7 +38,7 @@ ghost use Rattle.protocol.specs.Judge.{done};
 ghost use Rattle.protocol.specs.Bounds.{sidesFit, system, columns, inputTests, roomTests};
 ghost use Rattle.protocol.specs.Tape.{solver, slotAt};
 ghost use Rattle.protocol.specs.Message.{messageSize};
-ghost use Rattle.protocol.specs.Step.{answerReply, firstTests};
+ghost use Rattle.protocol.specs.Step.{firstTests};
 ghost use Rattle.protocol.specs.System.{noSolver, sideSize, solverFirstEffect, solverFirstTests, solverFirst};
 ghost use Rattle.tape.specs.Placed.{slotIn};
 ghost use Rattle.judging.specs.InOrder.{checked, judged};
@@ -88,11 +88,7 @@ fn compute(pool: &[u32], at: Place, t: Terms, l: &[u32], x: &[u32], out: &mut [u
 {
     let y0 = matrix(End::Solver, t, 0, pool, at);
     write_y1(t, l, x, y0, out);
-    SolverAnswer {
-        answer: Answer::Accepted(0),
-        session: session_of(t, 2),
-        head: Head { kind: 1, terms: t },
-    }
+    accepted(session_of(t, 2), Head { kind: 1, terms: t })
 }
 
 // Step 1 (RULES 5.3): Y1 = [L, x] − Y0.

@@ -2,6 +2,7 @@
 //   compute       the message and the session, by write_joint and find_t
 //   solver_last   the step
 use crate::SolverAnswer;
+use crate::accepted;
 use crate::later::check;
 use crate::refused;
 use crate::session_of;
@@ -80,11 +81,7 @@ fn answer(t: Terms, found: bool) -> SolverAnswer
 {
     let session = session_of(t, 0);
     if found {
-        return SolverAnswer {
-            answer: Answer::Accepted(0),
-            session: session,
-            head: Head { kind: 5, terms: t },
-        };
+        return accepted(session, Head { kind: 5, terms: t });
     }
     SolverAnswer {
         answer: Answer::Refused(Refusal::Singular),

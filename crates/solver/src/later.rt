@@ -20,26 +20,7 @@ ghost use Rattle.protocol.specs.Message.{messageWith};
 ghost use Rattle.protocol.specs.System.{keptS, keptTests};
 ghost use Rattle.tape.specs.Placed.{slotIn};
 ghost use Rattle.judging.specs.InOrder.{checked, judged};
-ghost use Rattle.solver.specs.Groups.{arriving, receiving};
-
-// All tests but those of what the session keeps.
-fn check_arriving(
-    pool: &[u32],
-    at: Place,
-    kind: u32,
-    sends: u32,
-    s: SolverSession,
-    a: Head,
-    residues: &[u32],
-    room: usize,
-) -> Check
-    ensures { λ r. ⌜ checked r ≡ judged (arriving kind sends s (slotIn (now (pool .entry)) at) (messageWith a (now (residues .entry))) room) ⌝ }
-{
-    let t = s.terms;
-    let shared = check_later(End::Solver, kind, s.due, t, a, residues, pool, at);
-    let sent = check_room(s.due, has_room(sends, t, room));
-    worst(shared, sent)
-}
+ghost use Rattle.solver.specs.Groups.{receiving};
 
 fn check_kept(s: SolverSession) -> Check
     requires { ⌜ sidesFit system (s .terms .m) (s .terms .k) (s .terms .p) ≡ true ⌝ }
@@ -63,7 +44,10 @@ pub fn check(
 ) -> Check
     ensures { λ r. ⌜ checked r ≡ judged (receiving kind sends s (slotIn (now (pool .entry)) at) (messageWith a (now (residues .entry))) room) ⌝ }
 {
-    let arrived = check_arriving(pool, at, kind, sends, s, a, residues, room);
+    let t = s.terms;
+    let shared = check_later(End::Solver, kind, s.due, t, a, residues, pool, at);
+    let sent = check_room(s.due, has_room(sends, t, room));
+    let arrived = worst(shared, sent);
     let Check::Passed = arrived else {
         return arrived;
     };

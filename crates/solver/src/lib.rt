@@ -1,6 +1,6 @@
 // The solver's three steps and its drop, by value: it hands over L and x at its first, and sends Y1, F and t. A step checks everything, then computes,
 // and then the tape's status changes.
-//   SolverAnswer, SolverDropped   what a step answers, and what the drop does
+//   SolverAnswer, SolverDropped   what a step answers, and what the drop does; refused, accepted
 //   first                         step 1: solver_first
 //   later                         what steps 3 and 5 check
 //   second, last                  steps 3 and 5: solver_second, solver_last
@@ -26,6 +26,7 @@ use protocol::Terms;
 pub use second::solver_second;
 ghost use mathlib.Core.Path.{_≡_};
 ghost use Rattle.algebra.specs.Matrix.{zeros};
+ghost use Rattle.protocol.specs.declared.Answer.the-variants.{Accepted};
 ghost use Rattle.protocol.specs.Message.{noMessage};
 ghost use Rattle.judging.specs.InOrder.{answerOf};
 ghost use Rattle.protocol.specs.System.{noSolver};
@@ -71,5 +72,16 @@ fn refused(c: Check, session: SolverSession) -> SolverAnswer
         answer: judging::answer_of(c),
         session: session,
         head: no_head(),
+    }
+}
+
+// A step that is taken: its next session, and the head of the message that it sends.
+fn accepted(session: SolverSession, head: Head) -> SolverAnswer
+    ensures { λ r. ⌜ r ≡ record { answer = Accepted 0; session = session; head = head } ⌝ }
+{
+    SolverAnswer {
+        answer: Answer::Accepted(0),
+        session: session,
+        head: head,
     }
 }

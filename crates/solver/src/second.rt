@@ -2,11 +2,11 @@
 //   compute         the message and the session, by find_share and finish
 //   solver_second   the step
 use crate::SolverAnswer;
+use crate::accepted;
 use crate::later::check;
 use crate::refused;
 use judging::Check;
 use matrix::write_share;
-use protocol::Answer;
 use protocol::Head;
 use protocol::SolverSession;
 use protocol::Terms;
@@ -91,15 +91,12 @@ fn finish(t: Terms, r: &[u32], share: &[u32], out: &mut [u32]) -> SolverAnswer
 {
     write_f(t, r, share, out);
     let s = last_column(t, share);
-    SolverAnswer {
-        answer: Answer::Accepted(0),
-        session: SolverSession {
-            terms: t,
-            due: 4,
-            s: s,
-        },
-        head: Head { kind: 3, terms: t },
-    }
+    let session = SolverSession {
+        terms: t,
+        due: 4,
+        s: s,
+    };
+    accepted(session, Head { kind: 3, terms: t })
 }
 
 fn compute(

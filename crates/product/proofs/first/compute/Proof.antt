@@ -43,16 +43,19 @@ subtract-residues-requires c κs =
       omega (arith, f .message-room, size-1 (a .t), n),
     )
 
+accepted-requires : tie.Need-accepted-requires
+accepted-requires c κs = search needs
+
 same-length : tie.Need-same-length
 same-length c = search needs
 
 returns : tie.Need-returns
 unfolding rightFirstEffect sendY join over
 returns c =
-    let at = c .before .before .before .before in
-    rw (c .before .before .subtract-residues .ensures, at .times .ensures, at .before .matrix .ensures) (simp append-nil)
+    let at = c .before .before .before .before .before in
+    rw (c .accepted .ensures, c .before .before .before .subtract-residues .ensures, at .times .ensures, at .before .matrix .ensures) (simp append-nil)
 
 pub compute-spec : {M : Type 1} → statement M
 compute-spec =
     tie.close
-    (tie.spec matrix-requires times-requires subtract-residues-requires same-length returns)
+    (tie.spec matrix-requires times-requires subtract-residues-requires accepted-requires same-length returns)

@@ -39,20 +39,23 @@ write-own-requires c κs =
 no-head-requires : tie.Need-no-head-requires
 no-head-requires c κs = search needs
 
+accepted-requires : tie.Need-accepted-requires
+accepted-requires c κs = search needs
+
 same-length : tie.Need-same-length
 same-length c = search needs
 
 returns : tie.Need-returns
 unfolding rightLastEffect over
 returns c =
-    let at = c .before .before .before .before .before in
+    let at = c .before .before .before .before .before .before in
     let start = at .before .before .before .before .before .before in
     let a = start .args in
     let s = slotAt (a .pool .now) (a .at .size) (a .at .index) in
     let m = messageWith (a .a) (a .residues .now) in
     let f = sharing (a .s) s m (length (a .share .now)) (last-known (a .s) s m (length (a .share .now)) (start .pre)) in
-    let share = rw (at .before .matrix .ensures, at .matrix2 .ensures) at (c .before .before .before .write-own .ensures) in
-    rw (c .no-head .ensures, share) (simp (first-part (a .s .terms) m, second-part (a .s .terms) m (f .full)))
+    let share = rw (at .before .matrix .ensures, at .matrix2 .ensures) at (c .before .before .before .before .write-own .ensures) in
+    rw (c .accepted .ensures, c .before .no-head .ensures, share) (simp (first-part (a .s .terms) m, second-part (a .s .terms) m (f .full)))
 
 pub compute-spec : {M : Type 1} → statement M
 compute-spec =
@@ -62,5 +65,6 @@ compute-spec =
     matrix-requires-2
     write-own-requires
     no-head-requires
+    accepted-requires
     same-length
     returns)

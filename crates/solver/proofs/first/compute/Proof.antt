@@ -39,13 +39,16 @@ write-y1-requires c κs =
 session-of-requires : tie.Need-session-of-requires
 session-of-requires c κs = search needs
 
+accepted-requires : tie.Need-accepted-requires
+accepted-requires c κs = search needs
+
 same-length : tie.Need-same-length
 same-length c = search needs
 
 returns : tie.Need-returns
 unfolding solverFirstEffect join over
-returns c = rw (c .session-of .ensures, c .before .before .before .write-y1 .ensures, c .before .before .before .before .before .matrix .ensures) (simp append-nil)
+returns c = rw (c .accepted .ensures, c .before .session-of .ensures, c .before .before .before .before .write-y1 .ensures, c .before .before .before .before .before .before .matrix .ensures) (simp append-nil)
 
 pub compute-spec : {M : Type 1} → statement M
 compute-spec =
-    tie.close (tie.spec matrix-requires write-y1-requires session-of-requires same-length returns)
+    tie.close (tie.spec matrix-requires write-y1-requires session-of-requires accepted-requires same-length returns)

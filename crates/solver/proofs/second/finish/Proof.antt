@@ -9,11 +9,14 @@ write-f-requires c κs = search needs
 last-column-requires : tie.Need-last-column-requires
 last-column-requires c κs = search needs
 
+accepted-requires : tie.Need-accepted-requires
+accepted-requires c κs = search needs
+
 same-length : tie.Need-same-length
 same-length c = search needs
 
 returns : tie.Need-returns
-returns c = (rw (c .last-column .ensures), c .before .before .before .write-f .ensures)
+returns c = (rw (c .accepted .ensures, c .before .last-column .ensures), c .before .before .before .before .write-f .ensures)
 
 pub finish-spec : {M : Type 1} → statement M
-finish-spec = tie.close (tie.spec write-f-requires last-column-requires same-length returns)
+finish-spec = tie.close (tie.spec write-f-requires last-column-requires accepted-requires same-length returns)
