@@ -6,12 +6,17 @@ use product::right_last;
 use protocol::Head;
 use protocol::Terms;
 use rehearse_lines::print;
+use tape::End;
+use tape::half::half_size;
 use vectors::times;
 ghost use mathlib.Core.Path.{_≡_};
-ghost use Prim.Native.Nat.{_*_, _≤_};
+ghost use mathlib.Core.Bool.{true};
+ghost use Prim.Native.Nat.{_+_, _*_, _≤_};
 ghost use lib.ListN.{length};
 ghost use Rattle.algebra.specs.Matrix.{zeros};
 ghost use Rattle.protocol.specs.Judge.{done};
+ghost use Rattle.protocol.specs.Bounds.{product, sidesFit};
+ghost use Rattle.protocol.specs.Tape.{headerSize};
 ghost use Rattle.protocol.specs.Rehearsal.{rehearsalTests, slotSize, run};
 ghost use Rattle.judging.specs.InOrder.{judged};
 ghost use Rattle.rehearse_lines.specs.Prints.{MOST, runOf};
@@ -55,16 +60,15 @@ fn steps(
 
 // A slot's words, for the larger of the two halves.
 fn slot_size(t: Terms) -> usize
-    requires { ⌜ (t .m * t .k ≤ 2048) × (t .k * t .p ≤ 2048) × (t .m * t .p ≤ 1024) ⌝ }
-    ensures { λ r. ⌜ (r ≡ slotSize t) × (r ≤ 3079) ⌝ }
+    requires { ⌜ sidesFit product (t .m) (t .k) (t .p) ≡ true ⌝ }
+    ensures { λ r. ⌜ (r ≡ slotSize t) × (r ≤ headerSize + 3072) ⌝ }
 {
-    let mk = times(t.m, t.k);
-    let kp = times(t.k, t.p);
-    let mp = times(t.m, t.p);
-    if mk <= kp {
-        return 7 + kp + mp;
+    let left = half_size(End::Left, t);
+    let right = half_size(End::Right, t);
+    if left <= right {
+        return right;
     }
-    7 + mk + mp
+    left
 }
 
 // The run in the slices that it is lent, and what it leaves printed.
@@ -107,8 +111,8 @@ pub fn perform(
     let mp = times(t.m, t.p);
     let sent = times(t.m, t.k) + mp;
     let size = slot_size(t);
-    let mut first = [0u32; 3079];
-    let mut second = [0u32; 3079];
+    let mut first = [0u32; 4096];
+    let mut second = [0u32; 4096];
     let mut y1 = [0u32; 2048];
     let mut x1r1 = [0u32; 3072];
     let mut u = [0u32; 1024];

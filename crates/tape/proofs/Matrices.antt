@@ -1,6 +1,6 @@
 -- The sizes of a half's matrices, past the first: the same for every end of one sort.
 --   second-size, later-sizes   the second matrix, and those behind it
---   half-bound                 no half passes 8,192 words behind its header
+--   half-bound, product-bound  no half passes 8,192 words behind its header, and none of a product 3,072
 --   Stands, matrix-stands, matrix-length   matrix j of a half is one part of its pool
 -- Assumes nothing.
 use mathlib.Core.Path.{_≡_, refl, sym, ap, _∙_}
@@ -12,11 +12,11 @@ use lib.ListN.{length, getD, take, drop, length-take, length-drop}
 use lib.Seq.{drop-drop}
 use Rattle.algebra.specs.Count.{part}
 use Rattle.protocol.specs.declared.Terms.{Terms}
-use Rattle.protocol.specs.Bounds.{sidesFit}
+use Rattle.protocol.specs.Bounds.{product, sidesFit}
 use Rattle.protocol.specs.Tape.{headerSize, Role, left, right, blinder, solver, sortOf, layout, matrixAt, bodySize, tapeSize, slotAt, slotWords, matrices}
 use Rattle.protocol.proofs.Matrices.{part-of-start, matrix-next, matrix-within, matrix-part}
 use Rattle.tape.specs.Placed.{Placed}
-use Rattle.tape.proofs.Sides.{sides-of}
+use Rattle.tape.proofs.Sides.{sides, sides-of}
 use Rattle.tape.proofs.Slots.{slot-room}
 
 pub second-size : (role : Role) (t : Terms) → getD (layout role (t .m) (t .k) (t .p)) 1 0 ≡ t .m * t .p
@@ -41,6 +41,10 @@ half-bound left m k p e = let s = sides-of (sortOf left) m k p e in omega (arith
 half-bound right m k p e = let s = sides-of (sortOf right) m k p e in omega (arith, s .few-mk, s .few-kp, s .few-mp)
 half-bound blinder m k p e = let s = sides-of (sortOf blinder) m k p e in omega (arith, s .few-mk, s .few-kp, s .few-mp)
 half-bound solver m k p e = let s = sides-of (sortOf solver) m k p e in omega (arith, s .few-mk, s .few-kp, s .few-mp)
+
+pub product-bound : (m k p : ℕ) → sidesFit product m k p ≡ true → (tapeSize left m k p ≤ headerSize + 3072) × (tapeSize right m k p ≤ headerSize + 3072)
+unfolding tapeSize bodySize
+product-bound m k p e = let s = sides m k p e in (omega (arith, s .few-mk, s .few-mp), omega (arith, s .few-kp, s .few-mp))
 
 -- the words of a pool from one place to another
 pub record Stands (from stop : ℕ) (pool words : List ℕ) : Type 0 where

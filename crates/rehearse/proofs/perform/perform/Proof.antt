@@ -7,7 +7,7 @@ use lib.ListN.{length, getD, set, take, drop}
 use borrow.Author.Needs.{needs}
 use lib.ListN.{replicate, length-replicate}
 use lib.Seq.{length-take-le}
-use Rattle.rehearse.proofs.Runs.{bounds, pool-taken, rooms-taken}
+use Rattle.rehearse.proofs.Runs.{fits, bounds, pool-taken, rooms-taken}
 use Rattle.rehearse.proofs.perform.perform.Statement.{statement}
 use Rattle.rehearse.proofs.perform.perform.Tie as tie
 
@@ -30,21 +30,19 @@ add-sent c =
 slot-size-requires : tie.Need-slot-size-requires
 slot-size-requires c κs =
     let a = c .before .before .before .before .before .before .before .before .args in
-    let b = bounds (a .t) (a .x .now) (a .y .now) (a .dealer .now) (a .coins .now)
-    (c .before .before .before .before .before .before .before .before .pre .0) in
-    (b .few-mk, b .few-kp, b .few-mp)
+    fits (a .t) (a .x .now) (a .y .now) (a .dealer .now) (a .coins .now) (c .before .before .before .before .before .before .before .before .pre .0) .terms .sides
 
 array-borrow-prefix-first : tie.Need-array-borrow-prefix-first
 array-borrow-prefix-first c = search needs
 
 slice-aggregate-play : tie.Need-slice-aggregate-play
-slice-aggregate-play c = sym (length-take-le _ _ (omega (arith, c .before .slot-size .ensures .1, length-replicate {A = ℕ} 3079 0)))
+slice-aggregate-play c = sym (length-take-le _ _ (omega (arith, c .before .slot-size .ensures .1, length-replicate {A = ℕ} 4096 0)))
 
 array-borrow-prefix-second : tie.Need-array-borrow-prefix-second
 array-borrow-prefix-second c = search needs
 
 slice-aggregate-play-2 : tie.Need-slice-aggregate-play-2
-slice-aggregate-play-2 c = sym (length-take-le _ _ (omega (arith, c .before .before .slot-size .ensures .1, length-replicate {A = ℕ} 3079 0)))
+slice-aggregate-play-2 c = sym (length-take-le _ _ (omega (arith, c .before .before .slot-size .ensures .1, length-replicate {A = ℕ} 4096 0)))
 
 array-borrow-prefix-y1 : tie.Need-array-borrow-prefix-y1
 array-borrow-prefix-y1 c =
@@ -111,7 +109,7 @@ play-requires c κs =
     let times3 = c .before .before .before .before .before .before .before .before .times3 in
     let a = c .before .before .before .before .before .before .before .before .before .before .before .before .before .before .before .before .args in
     let b = bounds (a .t) (a .x .now) (a .y .now) (a .dealer .now) (a .coins .now) (h .0) in
-    (h .0, pool-taken (a .t) (slot-size .result) 3079 (slot-size .ensures .1) (slot-size .ensures .0), pool-taken (a .t) (slot-size .result) 3079 (slot-size .ensures .1) (slot-size .ensures .0), rooms-taken (a .t) (times .result) (times3 .result + times2 .result) (times2 .result) (omega (arith, b .few-kp, times .ensures)) (omega (arith, b .few-mk, b .few-mp, times2 .ensures, times3 .ensures)) (omega (arith, b .few-mp, times2 .ensures)) (times .ensures) (omega (arith, times2 .ensures, times3 .ensures)) (times2 .ensures), h .1)
+    (h .0, pool-taken (a .t) (slot-size .result) 4096 (omega (arith, slot-size .ensures .1)) (slot-size .ensures .0), pool-taken (a .t) (slot-size .result) 4096 (omega (arith, slot-size .ensures .1)) (slot-size .ensures .0), rooms-taken (a .t) (times .result) (times3 .result + times2 .result) (times2 .result) (omega (arith, b .few-kp, times .ensures)) (omega (arith, b .few-mk, b .few-mp, times2 .ensures, times3 .ensures)) (omega (arith, b .few-mp, times2 .ensures)) (times .ensures) (omega (arith, times2 .ensures, times3 .ensures)) (times2 .ensures), h .1)
 
 same-length : tie.Need-same-length
 same-length c = search needs
