@@ -156,9 +156,11 @@ module _ (status : ℕ) (ms : List ℕ) (d : Dealing) (before : List ℕ) where
   tape-spent n e =
       let r = d .request in
       let same : length ms ≡ length (zeros n) = e ∙ sym (length-tabulate n (λ i. 0)) in
-      ap (λ (z : List ℕ). headerWords SPENT (r .tape .0) (r .sort) (r .q) (r .m) (r .k) (r .p) ++ (zeros n ++ z))
-      (drop-at ms (drop (suc (suc (suc (suc (suc (suc (suc (length ms)))))))) before) (length (zeros n)) same
-      ∙ ap (λ (c : ℕ). drop (suc (suc (suc (suc (suc (suc (suc c))))))) before) same)
+      let header = headerWords SPENT (r .tape .0) (r .sort) (r .q) (r .m) (r .k) (r .p) in
+      let long : length (header ++ ms) ≡ length (header ++ zeros n)
+      = length-append header ms ∙ ap (λ (c : ℕ). length header + c) same ∙ sym (length-append header (zeros n)) in
+      ap (λ (z : List ℕ). header ++ (zeros n ++ z))
+      (drop-at ms (drop (length (header ++ ms)) before) (length (zeros n)) same ∙ ap (λ (c : ℕ). drop c before) long)
 
 -- the matrices of a half that stands in a slot
 pub tape-matrices : (role : Role) (t : Terms) (status : ℕ) (d : Dealing) (ls : List (List ℕ)) (before : List ℕ)

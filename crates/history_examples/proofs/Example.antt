@@ -5,11 +5,11 @@ use mathlib.Core.Logic.{_≢_, _⊎_, inl, inr}
 use mathlib.Core.Bool.{Bool, true, false, cond}
 use mathlib.Core.List.{List, [], _∷_, _++_}
 use mathlib.Core.Option.{Option, some, none}
-use Prim.Native.Nat.{ℕ, zero, suc, _≤_, _<_}
+use Prim.Native.Nat.{ℕ, zero, suc, _+_, _≤_, _<_}
 use native.Mathlib.Omega.{arith}
 use native.Mathlib.Decide.{ℕ-discrete}
 use lib.Dec.{eqb}
-use lib.ListN.{length, take}
+use lib.ListN.{length, take, replicate}
 use borrow.Author.Tests.{ltb-true, eq-eqb}
 use Rattle.algebra.specs.Matrix.{sumTo, tabulate, zeros, addMod, subMod, matAdd, matSub, dotTo, dot, matMul}
 use Rattle.algebra.specs.Count.{both, parts, join, eqList, sumLists, count}
@@ -25,8 +25,8 @@ use Rattle.protocol.specs.declared.Answer.the-variants.{Accepted, Refused}
 use Rattle.protocol.specs.declared.Refusal.the-variants.{Singular}
 use Rattle.protocol.specs.Judge.{given, clear, judgeBy, judge}
 use Rattle.protocol.specs.Drawing.{isKept, residueOf, residuesOf, drawn, wordsRead, drawTests}
-use Rattle.protocol.specs.Bounds.{within, columns, allBelow, fieldFits, sidesFit, shapeTests, termsTests, inputTests, roomTests}
-use Rattle.protocol.specs.Tape.{isSlot, slotWords, poolWith, headerWords, bodySize, tapeSize, statusOf, withStatus, spent, body, matrices, wordsInUse, wordsSpent, slotTests, halfTests, tapeTests, bodyTests, Role, sortOf, left, right, blinder, solver}
+use Rattle.protocol.specs.Bounds.{product, within, columns, allBelow, fieldFits, sidesFit, shapeTests, termsTests, inputTests, roomTests}
+use Rattle.protocol.specs.Tape.{headerSize, EMPTY, READY, SPENT, isSlot, slotWords, poolWith, headerWords, bodySize, tapeSize, statusOf, withStatus, spent, body, matrices, wordsInUse, wordsSpent, slotTests, halfTests, tapeTests, bodyTests, Role, sortOf, left, right, blinder, solver}
 use Rattle.protocol.specs.Deal.{Request, productRequest, systemRequest, drawSize, drawnParts, dealtB, dealtV, isFree, dealTests, dealtOver, dealtEffect, deal, dealAnswer}
 use Rattle.protocol.specs.Message.{Message, kindSort, messageLayout, messageSize, messageParts, messageTests, dueTests}
 use Rattle.protocol.specs.Step.{answerNumber, answerAfter, firstTests, isOpen, openTests, laterTests}
@@ -46,12 +46,16 @@ use Rattle.history.proofs.Rightness.{demand-2}
 use Rattle.history.proofs.Facts.{same-dealing, none≢}
 use Rattle.history.proofs.Named.{unbegun}
 
--- three slots of 13 words, and one word more
+-- a slot that the solver's half of a system with one unknown fills
+abbrev pub slot-size : ℕ
+slot-size = headerSize + 6
+
+-- three such slots, and one word more
 abbrev pub sizes : Party → ℕ
-sizes w = 13
+sizes w = slot-size
 
 abbrev blank : List ℕ
-blank = 0 ∷ 9 ∷ 9 ∷ 9 ∷ 9 ∷ 9 ∷ 9 ∷ 9 ∷ 9 ∷ 9 ∷ 9 ∷ 9 ∷ 9 ∷ []
+blank = EMPTY ∷ replicate (headerSize + 5) 9
 
 abbrev pub start : Party → List ℕ
 start w = blank ++ (blank ++ (blank ++ (9 ∷ [])))
@@ -81,8 +85,8 @@ a-system i = systemRequest (record { 0 = i }) 5 1 (1 ∷ 4 ∷ 2 ∷ 0 ∷ 3 ∷
 abbrev opening : List Call
 opening =
     beginning first 0 0 (system-terms 5) (solver-first (2 ∷ []) (3 ∷ []) 2)
-    ∷ dealing second 13 1 (a-system 5)
-    ∷ dealing second 13 3 (a-system 5)
+    ∷ dealing second slot-size 1 (a-system 5)
+    ∷ dealing second slot-size 3 (a-system 5)
     ∷ []
 
 abbrev one : List Call
@@ -106,7 +110,7 @@ singular =
 abbrev two : List Call
 two =
     beginning second 1 0 (system-terms 7) (solver-first (2 ∷ []) (3 ∷ []) 2)
-    ∷ dealing first 13 1 (a-system 7)
+    ∷ dealing first slot-size 1 (a-system 7)
     ∷ singular
 
 abbrev regular-run : List Call
@@ -132,7 +136,7 @@ with-product =
     ∷ beginning second 0 0 (product-terms 4) (left-only (3 ∷ 5 ∷ []) (5 ∷ []) (msg 1 (product-terms 6) (3 ∷ 3 ∷ [])) 3 1)
     ∷ beginning first 0 0 (product-terms 4) (right-first (2 ∷ 6 ∷ []) 2)
     ∷ beginning first 0 0 (product-terms 4) (right-first (2 ∷ []) 2)
-    ∷ dealing second 13 0 (a-product 4)
+    ∷ dealing second slot-size 0 (a-product 4)
     ∷ regular-run
 
 -- a product at the same place, and a system at another, whose sessions 6 and 7 are dropped
@@ -140,10 +144,10 @@ abbrev calls : List Call
 calls =
     continuing first 2 0 7 solver-drop
     ∷ beginning first 2 0 (system-terms 8) (solver-first (2 ∷ []) (3 ∷ []) 2)
-    ∷ dealing second 13 2 (a-system 8)
+    ∷ dealing second slot-size 2 (a-system 8)
     ∷ continuing second 0 0 6 right-drop
     ∷ beginning second 0 0 (product-terms 6) (right-first (2 ∷ 6 ∷ []) 2)
-    ∷ dealing first 13 0 (a-product 6)
+    ∷ dealing first slot-size 0 (a-product 6)
     ∷ with-product
 
 abbrev end : World
@@ -175,8 +179,8 @@ all-answers = refl
 
 -- the first party's left half of the second product, of which nothing was used; the second party's right half, spent by a drop; P's and U0's words, zeroed, with
 -- what follows them; behind each tape the words from before the dealing
-pub then-stands : (slotWords (slotOf sizes (end .state .pools) first 0) ≡ 1 ∷ 6 ∷ 0 ∷ 7 ∷ 1 ∷ 2 ∷ 1 ∷ 1 ∷ 4 ∷ 2 ∷ 9 ∷ 9 ∷ 9 ∷ [])
-    × (slotWords (slotOf sizes (end .state .pools) second 0) ≡ 3 ∷ 6 ∷ 0 ∷ 7 ∷ 1 ∷ 2 ∷ 1 ∷ 0 ∷ 0 ∷ 0 ∷ 9 ∷ 9 ∷ 9 ∷ [])
+pub then-stands : (slotWords (slotOf sizes (end .state .pools) first 0) ≡ headerWords READY 6 product 7 1 2 1 ++ (1 ∷ 4 ∷ 2 ∷ 9 ∷ 9 ∷ 9 ∷ []))
+    × (slotWords (slotOf sizes (end .state .pools) second 0) ≡ headerWords SPENT 6 product 7 1 2 1 ++ (0 ∷ 0 ∷ 0 ∷ 9 ∷ 9 ∷ 9 ∷ []))
     × (end .state .scratches 3 ≡ 0 ∷ 0 ∷ 0 ∷ 9 ∷ [])
     × (view (end .log) 4 .half ≡ (6 ∷ 3 ∷ []) ∷ (2 ∷ []) ∷ [])
 unfolding sumTo tabulate zeros addMod subMod matAdd matSub dotTo dot matMul both parts join cols beside noDivisor isPrime inverseBy inverse swapAt swapRows scaleRow clearColumn pivotFrom pivot step eliminateFrom eliminate regular solution dealB sendY sendX sendR rightShare dealV solverShare sendF sendW sendC sumMatrix over writtenAt given clear judgeBy judge isKept residueOf residuesOf drawn wordsRead drawTests within columns allBelow fieldFits sidesFit shapeTests termsTests inputTests roomTests isSlot slotWords poolWith headerWords bodySize tapeSize statusOf withStatus spent body matrices wordsInUse wordsSpent slotTests halfTests tapeTests bodyTests drawSize drawnParts dealtB dealtV isFree dealTests dealtOver dealtEffect deal kindSort messageLayout messageSize messageParts messageTests dueTests firstTests isOpen openTests laterTests rightFirstEffect rightFirstTests rightFirst leftEffect leftTests leftStep rightLastEffect rightLastTests rightLast padded sideSize keptS keptM keptY scratchSize keptTests blinderTests solverTests coinsOf scratchParts regularTests jointSum solverFirstEffect solverFirstTests solverFirst blinderFirstEffect blinderFirstTests blinderFirst solverSecondEffect solverSecondTests solverSecond blinderSecondEffect blinderSecondTests blinderSecond solverLastEffect solverLastTests solverLast blinderLastEffect blinderLastTests blinderLast dropRight dropSolver dropBlinder said runFirst runLater here halfRole half ℕ-discrete

@@ -13,7 +13,7 @@ use mathlib.Core.Bool.{true}
 use mathlib.Core.List.{List, [], _∷_, _++_}
 use mathlib.Core.Option.{Option, some, none}
 use mathlib.Core.Logic.{inl, inr}
-use Prim.Native.Nat.{ℕ, zero, suc, _≤_}
+use Prim.Native.Nat.{ℕ, zero, suc, _+_, _≤_}
 use native.Mathlib.Omega.{arith}
 use native.Mathlib.Decide.{ℕ-discrete}
 use lib.ListN.{length, take}
@@ -29,7 +29,7 @@ use Rattle.protocol.specs.declared.Terms.{Terms}
 use Rattle.protocol.specs.Judge.{Judged, refused, done, given, clear, judgeBy, judge}
 use Rattle.protocol.specs.Drawing.{isKept, residueOf, residuesOf, drawn, wordsRead, drawTests}
 use Rattle.protocol.specs.Bounds.{within, columns, allBelow, fieldFits, sidesFit, shapeTests, termsTests, inputTests, roomTests, system}
-use Rattle.protocol.specs.Tape.{isSlot, slotWords, poolWith, headerWords, bodySize, tapeSize, statusOf, withStatus, spent, body, matrices, wordsInUse, wordsSpent, slotTests, halfTests, tapeTests, bodyTests, Role, left, right, blinder, solver}
+use Rattle.protocol.specs.Tape.{headerSize, isSlot, slotWords, poolWith, headerWords, bodySize, tapeSize, statusOf, withStatus, spent, body, matrices, wordsInUse, wordsSpent, slotTests, halfTests, tapeTests, bodyTests, Role, left, right, blinder, solver}
 use Rattle.protocol.specs.Deal.{Request, Dealt, productRequest, drawSize, drawnParts, dealtB, dealtV, isFree, dealTests, dealtOver, dealtEffect, deal, maskFits}
 use Rattle.protocol.specs.Message.{Message, kindSort, messageLayout, messageSize, messageParts, messageTests, dueTests}
 use Rattle.protocol.specs.Step.{Outcome, firstTests, isOpen, openTests, laterTests}
@@ -45,7 +45,7 @@ use Rattle.history.specs.Seen.{view}
 use Rattle.history.specs.Right.{newest, result, Paired, AddTo, OnlySolution, Demand2, DealtNow, HasServed, TakenNow, TermsOf, SentTo, FairLater, SoFar, Stood}
 use Rattle.history.proofs.Rightness.{demand-2}
 use Rattle.history.proofs.Facts.{none≢}
-use Rattle.history_examples.proofs.Example.{sizes, start, lent, product-terms, system-terms, msg, a-product, a-system, answers, distinct, own, other-role, NoBlinder, no-session, three-slots, Ends-here, paired, arrived}
+use Rattle.history_examples.proofs.Example.{slot-size, sizes, start, lent, product-terms, system-terms, msg, a-product, a-system, answers, distinct, own, other-role, NoBlinder, no-session, three-slots, Ends-here, paired, arrived}
 
 -- ---- the list
 
@@ -77,9 +77,9 @@ answering =
     ∷ begin 2 second 2 0 (ten-terms 3) (right-first (4 ∷ 9 ∷ []) 2)
     ∷ begin 1 second 1 0 (system-terms 2) (solver-first (2 ∷ []) (3 ∷ []) 2)
     ∷ begin 0 first 0 0 (product-terms 1) (right-first (2 ∷ 6 ∷ []) 2)
-    ∷ dealing first 13 2 (a-ten 3)
-    ∷ dealing first 13 1 (a-system 2)
-    ∷ dealing second 13 0 (a-product 1)
+    ∷ dealing first slot-size 2 (a-ten 3)
+    ∷ dealing first slot-size 1 (a-system 2)
+    ∷ dealing second slot-size 0 (a-product 1)
     ∷ []
 
 -- the blinder and the other left begin, sessions 4 and 5, and the solver goes on; a dealing where right's half is still in use is refused
@@ -87,7 +87,7 @@ abbrev to-halfway : List Call
 to-halfway =
     go-on 1 second 1 0 (solver-second (msg 2 (system-terms 2) (3 ∷ 0 ∷ 2 ∷ [])) 1)
     ∷ begin 5 first 2 0 (ten-terms 3) left-answers
-    ∷ dealing first 13 0 (a-system 4)
+    ∷ dealing first slot-size 0 (a-system 4)
     ∷ begin 4 first 1 3 (system-terms 2) blinder-begins
     ∷ []
 
@@ -106,7 +106,7 @@ abbrev to-dropping : List Call
 to-dropping =
     go-on 4 first 1 3 (blinder-second (msg 3 (system-terms 2) (4 ∷ [])) 2)
     ∷ begin 6 second 0 0 (system-terms 4) (solver-first (2 ∷ []) (3 ∷ []) 2)
-    ∷ dealing first 13 0 (a-system 4)
+    ∷ dealing first slot-size 0 (a-system 4)
     ∷ []
 
 abbrev pub dropping : List Call
@@ -397,7 +397,7 @@ blinder-home =
 -- the halves of the first tape have served, so its slots are dealt again
 served-facts : (fieldFits system 5 ≡ true) × (sidesFit system 1 1 2 ≡ true)
     × (isSlot (slotOf sizes (after served .state .pools) first 0) ≡ true) × (isSlot (slotOf sizes (after served .state .pools) second 0) ≡ true)
-    × (tapeSize blinder 1 1 2 ≡ 12) × (tapeSize solver 1 1 2 ≡ 13)
+    × (tapeSize blinder 1 1 2 ≡ headerSize + 5) × (tapeSize solver 1 1 2 ≡ slot-size)
     × HasServed (after served .state .sessions) (place (after served .log) first 0) × HasServed (after served .state .sessions) (place (after served .log) second 0)
     × (drawSize (a-system 4) ≡ 8) × (length (residuesOf 5 (a-system 4 .words)) ≡ 8) × (maskFits system 5 1 (drawnParts (a-system 4)) ≡ true)
 unfolding sumTo tabulate zeros addMod subMod matAdd matSub dotTo dot matMul both parts join cols beside noDivisor isPrime inverseBy inverse swapAt swapRows scaleRow clearColumn pivotFrom pivot step eliminateFrom eliminate regular solution dealB sendY sendX sendR rightShare dealV solverShare sendF sendW sendC sumMatrix over writtenAt given clear judgeBy judge isKept residueOf residuesOf drawn wordsRead drawTests within columns allBelow fieldFits sidesFit shapeTests termsTests inputTests roomTests isSlot slotWords poolWith headerWords bodySize tapeSize statusOf withStatus spent body matrices wordsInUse wordsSpent slotTests halfTests tapeTests bodyTests drawSize drawnParts dealtB dealtV isFree dealTests dealtOver dealtEffect deal kindSort messageLayout messageSize messageParts messageTests dueTests firstTests isOpen openTests laterTests rightFirstEffect rightFirstTests rightFirst leftEffect leftTests leftStep rightLastEffect rightLastTests rightLast padded sideSize keptS keptM keptY scratchSize keptTests blinderTests solverTests coinsOf scratchParts regularTests jointSum solverFirstEffect solverFirstTests solverFirst blinderFirstEffect blinderFirstTests blinderFirst solverSecondEffect solverSecondTests solverSecond blinderSecondEffect blinderSecondTests blinderSecond solverLastEffect solverLastTests solverLast blinderLastEffect blinderLastTests blinderLast dropRight dropSolver dropBlinder said runFirst runLater here halfRole half ℕ-discrete
@@ -407,10 +407,10 @@ by-party : (P : Party → Type 0) → P first → P second → (w : Party) → P
 by-party P a b first = a
 by-party P a b second = b
 
-pub dealt-again : DealtNow (after served) first 13 0 (a-system 4)
+pub dealt-again : DealtNow (after served) first slot-size 0 (a-system 4)
 dealt-again =
     let f = served-facts in
-    demand-2 sizes start lent three-slots served served-kept .dealing-taken first 13 0 (a-system 4) (record {
+    demand-2 sizes start lent three-slots served served-kept .dealing-taken first slot-size 0 (a-system 4) (record {
       modulus = (omega arith, omega arith);
       field = f .0;
       sides = f .1;

@@ -34,7 +34,7 @@ use Rattle.protocol.specs.View.{View}
 use Rattle.protocol.specs.Completion.{incoming, said, andThen, eqLists, isCompletion, completions}
 use Rattle.protocol.proofs.Slots.{written}
 use Rattle.protocol.proofs.Drawn.{drawn-residues, enough-residues}
-use Rattle.protocol.proofs.Halves.{Holding}
+use Rattle.protocol.proofs.Halves.{Holding, tape-holding}
 
 -- ---- tests
 
@@ -105,13 +105,11 @@ halfSlot role t ls =
 
 pub dealt-alone : (role : Role) (t : Terms) (ls : List (List ℕ)) → Fits (t .q) (layout role (t .m) (t .k) (t .p)) ls → Holding role READY t ls (halfSlot role t ls)
 unfolding halfSlot isSlot slotWords headerWords tapeSize bodySize
-dealt-alone role t ls f = record {
-  inside = one-slot (length ws) (tapeSize role (t .m) (t .k) (t .p)) (omega (arith, size)) (omega arith);
-  rest = [];
-  words = ap (λ (n : ℕ). take (tapeSize role (t .m) (t .k) (t .p)) (drop n ws)) start
-      ∙ take-all (tapeSize role (t .m) (t .k) (t .p)) ws (omega (arith, size)) ∙ ap (λ (l : List ℕ). headerWords READY (t .tape .0) (sortOf role) (t .q) (t .m) (t .k) (t .p) ++ l) (sym (append-nil (join ls)));
-  fits = f;
-}
+dealt-alone role t ls f =
+    tape-holding role READY t ls _ [] (one-slot (length ws) (tapeSize role (t .m) (t .k) (t .p)) (omega (arith, size)) (omega arith))
+    (ap (λ (n : ℕ). take (tapeSize role (t .m) (t .k) (t .p)) (drop n ws)) start
+    ∙ take-all (tapeSize role (t .m) (t .k) (t .p)) ws (omega (arith, size))
+    ∙ ap (λ (l : List ℕ). headerWords READY (t .tape .0) (sortOf role) (t .q) (t .m) (t .k) (t .p) ++ l) (sym (append-nil (join ls)))) f
   where
     size : length (join ls) ≡ total (layout role (t .m) (t .k) (t .p))
     size = fits-join f .size

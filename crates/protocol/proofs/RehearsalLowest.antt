@@ -8,7 +8,7 @@
 use mathlib.Core.Path.{_≡_, refl, sym, _∙_, subst}
 use mathlib.Core.Bool.{Bool, true, false, false≢true}
 use mathlib.Core.List.{List, [], _∷_, _++_}
-use Prim.Native.Nat.{ℕ, suc, _+_, _*_, _≤_, _<_}
+use Prim.Native.Nat.{ℕ, _+_, _*_, _≤_, _<_}
 use native.Mathlib.Omega.{arith}
 use lib.ListN.{length, take, drop, length-append, length-take}
 use borrow.Author.Tests.{eq-eqb, le-leb, leb-true}
@@ -38,7 +38,7 @@ use Rattle.protocol.proofs.Slots.{written}
 use Rattle.protocol.proofs.Tests.{HalfFits, half-slot, half-room, half-tape, body-fits, fits-body, open-due, MessageFits, message-due, input-tests, room-tests}
 use Rattle.protocol.proofs.Halves.{tapeWords, Holding, header-fits, half-fits, matrices-fit, fits-holding, holding-used}
 use Rattle.protocol.proofs.Messages.{own-message}
-use Rattle.protocol.proofs.Dealing.{requestFor, dealt-inside, dealt-words}
+use Rattle.protocol.proofs.Dealing.{requestFor, wordsBehind, dealt-inside, dealt-words}
 use Rattle.protocol.proofs.RehearsalRight.{empty-slot, empty-free, some-words, left-room, right-room}
 
 -- ---- of these tests only the terms can fail
@@ -113,19 +113,17 @@ module _ (i : Input) (h0 : 0 < i .terms .q) where
     abbrev s : Slot
     s = written empty (dealtOver (requestFor (sortOf role) t (i .dealerWords)) ls empty)
 
-    abbrev behind : List ℕ
-    behind = drop (suc (suc (suc (suc (suc (suc (suc (length (join ls))))))))) (slotWords empty)
-
-    words : slotWords s ≡ tapeWords role READY t ls behind
+    words : slotWords s ≡ tapeWords role READY t ls (wordsBehind role t ls empty)
     words = dealt-words role t (i .dealerWords) ls empty inside room (short .few)
 
     half : HalfFits role READY t s
-    half = header-fits role READY t ls s behind (dealt-inside role t (i .dealerWords) ls empty inside room (short .few)) room words
+    half = header-fits role READY t ls s (wordsBehind role t ls empty) (dealt-inside role t (i .dealerWords) ls empty inside room (short .few)) words room
 
     below : allBelow (t .q) (body role t (slotWords s)) ≡ true
     unfolding body headerWords
-    below = rw words (below-take (t .q) (bodySize role (t .m) (t .k) (t .p)) (join ls ++ behind)
-        (below-append (t .q) (join ls) behind (short .below) (below-drop (t .q) (suc (suc (suc (suc (suc (suc (suc (length (join ls))))))))) (slotWords empty) empty-below)))
+    below = rw words (below-take (t .q) (bodySize role (t .m) (t .k) (t .p)) (join ls ++ wordsBehind role t ls empty)
+        (below-append (t .q) (join ls) (wordsBehind role t ls empty) (short .below)
+        (below-drop (t .q) (length (headerWords READY (t .tape .0) (sortOf role) (t .q) (t .m) (t .k) (t .p) ++ join ls)) (slotWords empty) empty-below)))
 
     short-holding : Holding role READY t (matrices role t (slotWords s)) s
     unfolding bodyTests

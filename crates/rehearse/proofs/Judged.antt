@@ -34,7 +34,7 @@ use Rattle.rehearse_lines.specs.declared.Lines.{Lines}
 use Rattle.rehearse_lines.specs.declared.Lines.the-variants.{Read, Wrong}
 use Rattle.rehearse_lines.specs.Prints.{MOST}
 use Rattle.rehearse_lines.specs.Says.{Said, Says}
-use Rattle.rehearse.specs.Order.{inputOf, sizeTests, numberTests, wordTests, refusalIn, Prints}
+use Rattle.rehearse.specs.Order.{inputOf, sizeTests, numberTests, residueTests, wordTests, refusalIn, PrintsAll, Prints}
 
 -- ---- the numbers
 
@@ -84,7 +84,7 @@ module _ (t : Terms) (x y d l : List ℕ) where
   i = inputOf t x y d l
 
   two-phases : judged (rehearsalTests i) ≡ after (judged (numberTests t (length x) (length y))) (judged (wordTests t x y d l))
-  unfolding sorted sortedBy only rehearsalTests termsTests shapeTests inputTests drawTests numberTests sizeTests wordTests modulusTests request
+  unfolding sorted sortedBy only rehearsalTests termsTests shapeTests inputTests drawTests numberTests sizeTests wordTests residueTests modulusTests request
   two-phases =
       judged-phases (rehearsalTests i) (numberTests t (length x) (length y) ∷ wordTests t x y d l ∷ []) refl
       ∙ ap (after (judged (numberTests t (length x) (length y)))) (sym (after-last (judged (wordTests t x y d l))))
@@ -147,20 +147,20 @@ pub said-read : (s f x y d l : List ℕ) (r : Lines) (c : Counts) → Says s f x
 said-read s f x y d l r c said e = subst (Says s f x y d l) e said
 
 pub wrong-printed : (s : List ℕ) (n : ℕ) (before after : List ℕ) → rehearse s ≡ printed (refused Form) → n ≡ length (printed (refused Form))
-    → n ≤ MOST → after ≡ over (printed (refused Form)) before → (n ≡ length (rehearse s)) × (n ≤ MOST) × (after ≡ over (rehearse s) before)
-wrong-printed s n before after e place few contents = (place ∙ ap length (sym e), few, contents ∙ ap (λ (b : List ℕ). over b before) (sym e))
+    → n ≤ MOST → after ≡ over (printed (refused Form)) before → PrintsAll (rehearse s) n before after
+wrong-printed s n before after e place few contents =
+    record { place = place ∙ ap length (sym e); few = few; contents = contents ∙ ap (λ (b : List ℕ). over b before) (sym e) }
 
 input-made : (i : Input) (t : Terms) (d l : List ℕ) → t ≡ i .terms → d ≡ i .dealerWords → l ≡ i .leftWords → inputOf t (i .x) (i .y) d l ≡ i
 input-made i t d l e f g = rw (e, f, g) refl
 
 pub said-printed : (s : List ℕ) (i : Input) (t : Terms) (d l : List ℕ) (n : ℕ) (before after : List ℕ)
     → rehearse s ≡ printed (judge (rehearsalTests i) (run i)) → t ≡ i .terms → d ≡ i .dealerWords → l ≡ i .leftWords
-    → Prints (judge (rehearsalTests (inputOf t (i .x) (i .y) d l)) (run (inputOf t (i .x) (i .y) d l))) n before after
-    → (n ≡ length (rehearse s)) × (n ≤ MOST) × (after ≡ over (rehearse s) before)
+    → Prints (judge (rehearsalTests (inputOf t (i .x) (i .y) d l)) (run (inputOf t (i .x) (i .y) d l))) n before after → PrintsAll (rehearse s) n before after
 said-printed s i t d l n before after e f g h p =
     let same : printed (judge (rehearsalTests (inputOf t (i .x) (i .y) d l)) (run (inputOf t (i .x) (i .y) d l))) ≡ rehearse s
     = ap (λ (z : Input). printed (judge (rehearsalTests z) (run z))) (input-made i t d l f g h) ∙ sym e in
-    (p .place ∙ ap length same, p .few, p .contents ∙ ap (λ (b : List ℕ). over b before) same)
+    record { place = p .place ∙ ap length same; few = p .few; contents = p .contents ∙ ap (λ (b : List ℕ). over b before) same }
 
 -- how many residues the dealer draws, as the code adds them
 pub draw-size : (t : Terms) (x y d l : List ℕ) → t .m * t .k + (t .k * t .p + t .m * t .p) ≡ drawSize (request (inputOf t x y d l))

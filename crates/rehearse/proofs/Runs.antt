@@ -1,14 +1,16 @@
 -- What the calls of a run leave is the run of the definition: no call is refused, and each message is handed on as it was sent.
---   zeros-length, fits   an empty pool, and what the tests say
---   pool-taken, rooms-taken, bounds, rooms-few   how many words the run's slices have
---   run-made             from what dealing and the three steps leave
+--   fits                 what the tests say
+--   pool-taken, rooms-taken   how many words the run's slices have
+--   came-back, take-few, run-again, dealt-again   parts that were lent, taken again
+--   dealt-for            dealing into empty pools
+--   run-made             from what the three steps leave
 -- Assumes nothing.
 use mathlib.Core.Path.{_≡_, sym, ap, ap₂, _∙_}
 use mathlib.Core.List.{List, [], _++_, append-nil}
 use Prim.Native.Nat.{ℕ, _+_, _*_, _≤_, _<_}
 use native.Mathlib.Omega.{arith}
-use lib.ListN.{length, getD, take, drop, replicate, length-replicate, getD-replicate}
-use lib.Seq.{getD-take, length-take-le, drop-length, ext-getD}
+use lib.ListN.{length, getD, take, drop, replicate, length-take, length-replicate, getD-replicate}
+use lib.Seq.{getD-take, length-take-le, take-at, drop-length, ext-getD}
 use Rattle.algebra.specs.Matrix.{zeros}
 use Rattle.algebra.specs.Words.{over}
 use Rattle.algebra.specs.Product.{rightShare}
@@ -28,13 +30,12 @@ use Rattle.protocol.proofs.StepTests.{left-step, right-last}
 use Rattle.protocol.proofs.ProductRight.{ProductCalls, ProductRight, one, two, three}
 use Rattle.protocol.proofs.RehearsalRight.{RehearsalFits, rehearsal-tests, runCalls, rehearsal-dealt, rehearsal-steps, rehearsal-run}
 use Rattle.judging.specs.InOrder.{judged}
-use Rattle.tape.proofs.Sides.{Sides, sides}
 use Rattle.judging.specs.Leaves.{Leaves, leaves}
 use Rattle.dealer.specs.Dealt.{Pools, pools}
 use Rattle.protocol.specs.Message.{messageWith}
 use Rattle.rehearse_lines.specs.Prints.{runOf}
 use Rattle.rehearse.specs.Order.{inputOf}
-use Rattle.rehearse.specs.Rooms.{Rooms}
+use Rattle.rehearse.specs.Rooms.{Rooms, DealtFor}
 
 -- ---- slices that are written whole, and an empty pool of one slot
 
@@ -42,11 +43,11 @@ over-all : (ws l : List ℕ) → length ws ≡ length l → over ws l ≡ ws
 unfolding over
 over-all ws l e = ap (λ (n : ℕ). ws ++ drop n l) e ∙ (ap (λ (r : List ℕ). ws ++ r) (drop-length l) ∙ append-nil ws)
 
-pub zeros-length : (size : ℕ) → length (zeros size) ≡ size
+zeros-length : (size : ℕ) → length (zeros size) ≡ size
 unfolding zeros
 zeros-length size = length-tabulate size (λ e. 0)
 
-pub take-zeros : (n k : ℕ) → n ≤ k → take n (replicate {A = ℕ} k 0) ≡ zeros n
+take-zeros : (n k : ℕ) → n ≤ k → take n (replicate {A = ℕ} k 0) ≡ zeros n
 take-zeros n k h =
     let long : length (take n (replicate {A = ℕ} k 0)) ≡ n = length-take-le n (replicate {A = ℕ} k 0) (omega (arith, length-replicate {A = ℕ} k 0)) in
     ext-getD 0 (take n (replicate {A = ℕ} k 0)) (zeros n) (long ∙ sym (zeros-length n)) (λ e l. at e (omega arith))
@@ -62,7 +63,8 @@ zeros-taken n k h = length-take-le n (replicate {A = ℕ} k 0) (omega (arith, le
 pub pool-taken : (t : Terms) (n k : ℕ) → n ≤ k → n ≡ slotSize t → take n (replicate {A = ℕ} k 0) ≡ zeros (slotSize t)
 pool-taken t n k h e = take-zeros n k h ∙ ap zeros e
 
-pub rooms-taken : (t : Terms) (one two share : ℕ) → one ≤ 2048 → two ≤ 3072 → share ≤ 1024 → one ≡ t .k * t .p → two ≡ t .m * t .k + t .m * t .p → share ≡ t .m * t .p
+pub rooms-taken : (t : Terms) (one two share : ℕ) → one ≤ 2048 → two ≤ 3072 → share ≤ 1024
+    → one ≡ t .k * t .p → two ≡ t .m * t .k + t .m * t .p → share ≡ t .m * t .p
     → Rooms t (length (take one (replicate {A = ℕ} 2048 0))) (length (take two (replicate {A = ℕ} 3072 0)))
     (length (take share (replicate {A = ℕ} 1024 0))) (length (take share (replicate {A = ℕ} 1024 0)))
 unfolding messageSize messageLayout
@@ -72,6 +74,26 @@ rooms-taken t one two share a b c e f g = record {
   left-share = zeros-taken share 1024 c ∙ g;
   right-share = zeros-taken share 1024 c ∙ g;
 }
+
+-- parts that were lent, taken again
+part-again : (n : ℕ) (l r : List ℕ) → length l ≡ n → take n (l ++ r) ≡ l
+part-again n l r e = take-at l r n e
+
+-- as many words came back as were lent
+pub came-back : (n k long : ℕ) → n ≤ k → long ≡ length (take n (replicate {A = ℕ} k 0)) → long ≡ n
+came-back n k long h e = e ∙ zeros-taken n k h
+
+pub take-few : (n k : ℕ) (l : List ℕ) → n ≤ k → length (take n l) ≤ k
+take-few n k l h = omega (arith, length-take n l)
+
+pub run-again : (one two : Head) {a b c d : ℕ} {y x u v : List ℕ} (ry rx ru rv : List ℕ) → length y ≡ a → length x ≡ b → length u ≡ c → length v ≡ d
+    → runOf one (take a (y ++ ry)) two (take b (x ++ rx)) (take c (u ++ ru)) (take d (v ++ rv)) ≡ runOf one y two x u v
+run-again one two {a} {b} {c} {d} {y} {x} {u} {v} ry rx ru rv e f g h =
+    rw (part-again a y ry e, part-again b x rx f, part-again c u ru g, part-again d v rv h)
+
+pub dealt-again : {i : Input} {n : ℕ} {a b : List ℕ} (r s : List ℕ) → length a ≡ n → length b ≡ n → DealtFor i a b
+    → DealtFor i (take n (a ++ r)) (take n (b ++ s))
+dealt-again {i} {n} {a} {b} r s e f p = rw (part-again n a r e, part-again n b s f) p
 
 -- ---- the run
 
@@ -85,16 +107,6 @@ module _ (t : Terms) (x y d l : List ℕ) (ok : judged (rehearsalTests (inputOf 
 
   pub fits : RehearsalFits i
   fits = rehearsal-tests i .0 (record { all = passed (rehearsalTests i) ok .0 })
-
-  pub bounds : Sides (t .m) (t .k) (t .p)
-  bounds = sides (t .m) (t .k) (t .p) (fits .terms .sides)
-
-  pub rooms-few : (y1 x1r1 u v : ℕ) → Rooms t y1 x1r1 u v → (y1 ≤ 2048) × (x1r1 ≤ 3072) × (u ≤ 1024) × (v ≤ 1024)
-  unfolding messageSize messageLayout
-  rooms-few y1 x1r1 u v r =
-      let one : y1 ≡ t .k * t .p = r .one in
-      let two : x1r1 ≡ t .m * t .k + t .m * t .p = r .two in
-      (omega (arith, bounds .few-kp), omega (arith, bounds .few-mk, bounds .few-mp), omega (arith, r .left-share, bounds .few-mp), omega (arith, r .right-share, bounds .few-mp))
 
   abbrev size : ℕ
   size = slotSize t
@@ -129,18 +141,23 @@ module _ (t : Terms) (x y d l : List ℕ) (ok : judged (rehearsalTests (inputOf 
 
   -- ---- dealing
 
-  module _ (n : ℕ) (a0 b0 a1 b1 : List ℕ) (r0 : Reply ℕ) (en : n ≡ size) (ea : a0 ≡ zeros size) (eb : b0 ≡ zeros size)
-      (e0 : _≡_ {A = Pools} (record { answer = r0; first = a1; second = b1 })
-      (pools a0 b0 (deal a0 b0 n 0 (productRequest (t .tape) (t .q) (t .m) (t .k) (t .p) d)))) where
-    dealt-pools : pools a0 b0 (deal a0 b0 n 0 (productRequest (t .tape) (t .q) (t .m) (t .k) (t .p) d)) ≡ pools (zeros size) (zeros size) (done (dealtRun i))
-    unfolding request
-    dealt-pools = rw (ea, eb, en, rehearsal-dealt i fits)
+  pub dealt-for : (n : ℕ) (a0 b0 a1 b1 : List ℕ) (r0 : Reply ℕ) → n ≡ size → a0 ≡ zeros size → b0 ≡ zeros size → length a1 ≡ n
+      → _≡_ {A = Pools} (record { answer = r0; first = a1; second = b1 }) (pools a0 b0 (deal a0 b0 n 0 (productRequest (t .tape) (t .q) (t .m) (t .k) (t .p) d)))
+      → DealtFor i a1 b1
+  unfolding request
+  dealt-for n a0 b0 a1 b1 r0 en ea eb long e0 = record {
+    fits = ok;
+    long = long ∙ en;
+    first-is = ap (λ (p : Pools). p .first) (e0 ∙ left-0);
+    second-is = ap (λ (p : Pools). p .second) (e0 ∙ left-0);
+  }
+    where
+      left-0 : pools a0 b0 (deal a0 b0 n 0 (productRequest (t .tape) (t .q) (t .m) (t .k) (t .p) d)) ≡ pools (zeros size) (zeros size) (done (dealtRun i))
+      left-0 = rw (ea, eb, en, rehearsal-dealt i fits)
 
-    first-is : a1 ≡ dealtRun i .first
-    first-is = ap (λ (p : Pools). p .first) (e0 ∙ dealt-pools)
-
-    second-is : b1 ≡ dealtRun i .second
-    second-is = ap (λ (p : Pools). p .second) (e0 ∙ dealt-pools)
+  module _ (a1 b1 : List ℕ) (p : DealtFor i a1 b1) where
+    abbrev n : ℕ
+    n = length a1
 
     -- ---- step 1
 
@@ -148,18 +165,18 @@ module _ (t : Terms) (x y d l : List ℕ) (ok : judged (rehearsalTests (inputOf 
         (e1 : _≡_ {A = Leaves RightSession} (record { answer = r1; session = s1; head = h1; pool = b2; scratch = []; sent = y1; result = [] })
         (leaves noRight (slotAt b1 n 0) [] y0 [] (rightFirst t (slotAt b1 n 0) y (length y0)))) where
       left-1 : leaves noRight (slotAt b1 n 0) [] y0 [] (rightFirst t (slotAt b1 n 0) y (length y0)) ≡ leaves noRight b [] y0 [] (done (one t a b calls))
-      left-1 = rw (second-is, en, ey, held .step1)
+      left-1 = rw (p .second-is, p .long, ey, held .step1)
 
       sent-1 : messageWith h1 y1 ≡ one t a b calls .sent
       sent-1 =
-          ap₂ messageWith (ap (λ (p : Leaves RightSession). p .head) (e1 ∙ left-1))
-          (ap (λ (p : Leaves RightSession). p .sent) (e1 ∙ left-1) ∙ over-all (one t a b calls .sent .residues) y0 (size-one ∙ sym ey))
+          ap₂ messageWith (ap (λ (z : Leaves RightSession). z .head) (e1 ∙ left-1))
+          (ap (λ (z : Leaves RightSession). z .sent) (e1 ∙ left-1) ∙ over-all (one t a b calls .sent .residues) y0 (size-one ∙ sym ey))
 
       session-1 : s1 ≡ one t a b calls .session
-      session-1 = ap (λ (p : Leaves RightSession). p .session) (e1 ∙ left-1)
+      session-1 = ap (λ (z : Leaves RightSession). z .session) (e1 ∙ left-1)
 
       pool-1 : b2 ≡ poolWith b (one t a b calls .slot)
-      pool-1 = ap (λ (p : Leaves RightSession). p .pool) (e1 ∙ left-1)
+      pool-1 = ap (λ (z : Leaves RightSession). z .pool) (e1 ∙ left-1)
 
       -- ---- step 2
 
@@ -168,15 +185,15 @@ module _ (t : Terms) (x y d l : List ℕ) (ok : judged (rehearsalTests (inputOf 
           (leaves tt (slotAt a1 n 0) [] x0 u0 (leftStep t (slotAt a1 n 0) x l (record { head = h1; residues = y1 }) (length x0) (length u0)))) where
         left-2 : leaves tt (slotAt a1 n 0) [] x0 u0 (leftStep t (slotAt a1 n 0) x l (record { head = h1; residues = y1 }) (length x0) (length u0))
             ≡ leaves tt a [] x0 u0 (done (two t a b calls))
-        left-2 = rw (first-is, en, sent-1, ex, eu, held .step2)
+        left-2 = rw (p .long, p .first-is, sent-1, ex, eu, held .step2)
 
         sent-2 : messageWith h2 x1 ≡ two t a b calls .sent
         sent-2 =
-            ap₂ messageWith (ap (λ (p : Leaves Unit). p .head) (e2 ∙ left-2))
-            (ap (λ (p : Leaves Unit). p .sent) (e2 ∙ left-2) ∙ over-all (two t a b calls .sent .residues) x0 (size-two ∙ sym ex))
+            ap₂ messageWith (ap (λ (z : Leaves Unit). z .head) (e2 ∙ left-2))
+            (ap (λ (z : Leaves Unit). z .sent) (e2 ∙ left-2) ∙ over-all (two t a b calls .sent .residues) x0 (size-two ∙ sym ex))
 
         share-2 : u ≡ two t a b calls .result
-        share-2 = ap (λ (p : Leaves Unit). p .result) (e2 ∙ left-2) ∙ over-all (two t a b calls .result) u0 (size-left ∙ sym eu)
+        share-2 = ap (λ (z : Leaves Unit). z .result) (e2 ∙ left-2) ∙ over-all (two t a b calls .result) u0 (size-left ∙ sym eu)
 
         -- ---- step 3
 
@@ -185,10 +202,10 @@ module _ (t : Terms) (x y d l : List ℕ) (ok : judged (rehearsalTests (inputOf 
             (leaves s1 (slotAt b2 n 0) [] [] v0 (rightLast s1 (slotAt b2 n 0) (record { head = h2; residues = x1 }) (length v0)))) where
           left-3 : leaves s1 (slotAt b2 n 0) [] [] v0 (rightLast s1 (slotAt b2 n 0) (record { head = h2; residues = x1 }) (length v0))
               ≡ leaves (one t a b calls .session) (slotAt (poolWith b (one t a b calls .slot)) size 0) [] [] v0 (done (three t a b calls))
-          left-3 = rw (session-1, pool-1, en, sent-2, ev, held .step3)
+          left-3 = rw (session-1, pool-1, p .long, sent-2, ev, held .step3)
 
           share-3 : v ≡ three t a b calls .result
-          share-3 = ap (λ (p : Leaves RightSession). p .result) (e3 ∙ left-3) ∙ over-all (three t a b calls .result) v0 (size-right ∙ sym ev)
+          share-3 = ap (λ (z : Leaves RightSession). z .result) (e3 ∙ left-3) ∙ over-all (three t a b calls .result) v0 (size-right ∙ sym ev)
 
           pub run-made : runOf h1 y1 h2 x1 u v ≡ run i
           run-made = same-run sent-1 sent-2 share-2 share-3 ∙ sym (rehearsal-run i fits)

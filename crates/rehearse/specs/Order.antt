@@ -1,7 +1,8 @@
 -- The tests of a rehearsal, in the groups in which the code makes them, and what the code leaves. Assumes nothing.
 --   inputOf                              an input, by what it is made of
---   sizeTests, numberTests, wordTests    protocol's rehearsalTests in two groups
---   Prints                               what is printed stands at the start of the bytes that were lent
+--   sizeTests, numberTests               protocol's rehearsalTests on numbers
+--   residueTests, wordTests              and on words
+--   PrintsAll, Prints                    what is printed stands at the start of the bytes that were lent
 use mathlib.Core.Path.{_≡_}
 use mathlib.Core.List.{List, [], _∷_, _++_}
 use Prim.Native.Nat.{ℕ, _*_, _≤_}
@@ -38,11 +39,12 @@ unfoldable pub numberTests : Terms → (x y : ℕ) → List Test
 numberTests t x y = modulusTests product (t .q) ++ sizeTests t x y
 
 -- the residues, and enough raw words for both
+unfoldable pub residueTests : (q : ℕ) (x y : List ℕ) → List Test
+residueTests q x y = needs Residue (allBelow q x) ∷ needs Residue (allBelow q y) ∷ []
+
 unfoldable pub wordTests : Terms → (x y dealer left : List ℕ) → List Test
 wordTests t x y d l =
-    (needs Residue (allBelow (t .q) x) ∷ [])
-    ++ ((needs Residue (allBelow (t .q) y) ∷ [])
-    ++ (drawTests (t .q) (drawSize (request (inputOf t x y d l))) d ++ drawTests (t .q) (t .m * t .p) l))
+    residueTests (t .q) x y ++ (drawTests (t .q) (drawSize (request (inputOf t x y d l))) d ++ drawTests (t .q) (t .m * t .p) l)
 
 -- a check's refusal; one that passed has none
 abbrev pub refusalIn : Check → Refusal
@@ -50,7 +52,10 @@ refusalIn Passed = Form
 refusalIn (Refused r) = r
 
 -- n bytes over the start of what was there
-pub record Prints (j : Judged Run) (n : ℕ) (before after : List ℕ) : Type 0 where
-  pub place : n ≡ length (printed j)
+pub record PrintsAll (bytes : List ℕ) (n : ℕ) (before after : List ℕ) : Type 0 where
+  pub place : n ≡ length bytes
   pub few : n ≤ MOST
-  pub contents : after ≡ over (printed j) before
+  pub contents : after ≡ over bytes before
+
+abbrev pub Prints : Judged Run → (n : ℕ) (before after : List ℕ) → Type 0
+Prints j n before after = PrintsAll (printed j) n before after

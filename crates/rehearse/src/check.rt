@@ -13,7 +13,7 @@ use vectors::times;
 ghost use mathlib.Core.Path.{_≡_};
 ghost use Prim.Native.Nat.{_+_, _*_, _≤_, _<_};
 ghost use Rattle.judging.specs.InOrder.{checked, judged};
-ghost use Rattle.rehearse.specs.Order.{sizeTests, numberTests, wordTests};
+ghost use Rattle.rehearse.specs.Order.{sizeTests, numberTests, residueTests, wordTests};
 
 // The ids, the sides, and the counts of X and Y.
 fn check_sizes(t: Terms, x: usize, y: usize) -> Check
@@ -37,15 +37,28 @@ pub fn numbers(t: Terms, x: usize, y: usize) -> Check
     worst(modulus, sizes)
 }
 
+// How many residues the dealer draws.
+fn masks(t: Terms) -> usize
+    requires { ⌜ (t .m * t .k ≤ 2048) × (t .k * t .p ≤ 2048) × (t .m * t .p ≤ 1024) ⌝ }
+    ensures { λ r. ⌜ r ≡ t .m * t .k + (t .k * t .p + t .m * t .p) ⌝ }
+{
+    times(t.m, t.k) + (times(t.k, t.p) + times(t.m, t.p))
+}
+
+fn residues(q: u32, x: &[u32], y: &[u32]) -> Check
+    ensures { λ r. ⌜ checked r ≡ judged (residueTests q (now (x .entry)) (now (y .entry))) ⌝ }
+{
+    let in_x = need(Refusal::Residue, all_below(q, x));
+    let in_y = need(Refusal::Residue, all_below(q, y));
+    worst(in_x, in_y)
+}
+
 pub fn words(t: Terms, x: &[u32], y: &[u32], dealer: &[u32], left: &[u32]) -> Check
     requires { ⌜ (0 < t .q) × (t .m * t .k ≤ 2048) × (t .k * t .p ≤ 2048) × (t .m * t .p ≤ 1024) ⌝ }
     ensures { λ r. ⌜ checked r ≡ judged (wordTests t (now (x .entry)) (now (y .entry)) (now (dealer .entry)) (now (left .entry))) ⌝ }
 {
-    let mp = times(t.m, t.p);
-    let masks = times(t.m, t.k) + (times(t.k, t.p) + mp);
-    let in_x = need(Refusal::Residue, all_below(t.q, x));
-    let in_y = need(Refusal::Residue, all_below(t.q, y));
-    let dealt = check_coins(t.q, masks, dealer);
-    let coins = check_coins(t.q, mp, left);
-    worst(in_x, worst(in_y, worst(dealt, coins)))
+    let inputs = residues(t.q, x, y);
+    let dealt = check_coins(t.q, masks(t), dealer);
+    let coins = check_coins(t.q, times(t.m, t.p), left);
+    worst(inputs, worst(dealt, coins))
 }

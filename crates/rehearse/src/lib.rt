@@ -9,6 +9,7 @@ mod perform;
 use judging::Check;
 use protocol::Refusal;
 use protocol::Terms;
+use rehearse_lines::Counts;
 use rehearse_lines::Lines;
 use rehearse_lines::input;
 use rehearse_lines::print;
@@ -21,8 +22,8 @@ ghost use Rattle.protocol.specs.Judge.{judge, done};
 ghost use Rattle.protocol.specs.Rehearsal.{rehearsalTests, run, rehearse};
 ghost use Rattle.judging.specs.InOrder.{judged};
 ghost use Rattle.rehearse_lines.specs.Prints.{MOST};
-ghost use Rattle.rehearse_lines.specs.Says.{Holds};
-ghost use Rattle.rehearse.specs.Order.{inputOf, numberTests, refusalIn, Prints};
+ghost use Rattle.rehearse_lines.specs.Says.{Holds, Said};
+ghost use Rattle.rehearse.specs.Order.{inputOf, numberTests, refusalIn, PrintsAll, Prints};
 
 // The refusal of a check that did not pass.
 fn refusal_in(c: Check) -> Refusal
@@ -74,6 +75,26 @@ fn answer(
     judge_words(t, &x[..nx], &y[..ny], dealer, coins, out)
 }
 
+// What is printed of lines that were read.
+fn said(
+    c: Counts,
+    first: &[u32],
+    x: &[u32],
+    y: &[u32],
+    dealer: &[u32],
+    coins: &[u32],
+    out: &mut [u8],
+) -> usize
+    requires { ⌜ (6 ≤ length (now first)) × (length (now x) ≡ 2048) × (length (now y) ≡ 2048) × (c .dealer ≤ length (now dealer)) × (c .left ≤ length (now coins)) × (MOST ≤ length (now out)) ⌝ }
+    ensures { λ r. ⌜ ((s : List ℕ) → Said s (now (first .entry)) (now (x .entry)) (now (y .entry)) (now (dealer .entry)) (now (coins .entry)) c
+        → PrintsAll (rehearse s) r (now (out .entry)) (now (out .exit))) ⌝ }
+{
+    let t = input::terms_of(first);
+    let dealt = c.dealer;
+    let drawn = c.left;
+    answer(t, c.x, x, c.y, y, &dealer[..dealt], &coins[..drawn], out)
+}
+
 // The bytes that a rehearsal of these bytes prints stand at the start of `out`; the answer is how many.
 pub fn rehearse(bytes: &[u8], out: &mut [u8; 81920]) -> usize
     ensures place { λ r. ⌜ r ≡ length (rehearse (now (bytes .entry))) ⌝ }
@@ -89,8 +110,5 @@ pub fn rehearse(bytes: &[u8], out: &mut [u8; 81920]) -> usize
     let Lines::Read(c) = lines else {
         return print::refusal(Refusal::Form, out);
     };
-    let t = input::terms_of(&first);
-    let dealt = c.dealer;
-    let drawn = c.left;
-    answer(t, c.x, &x, c.y, &y, &dealer[..dealt], &coins[..drawn], out)
+    said(c, &first, &x, &y, &dealer, &coins, out)
 }

@@ -2,7 +2,8 @@
 --   few-bytes      the numbers of a slice take at most 11 bytes each
 --   text-turn      one byte more of a text
 --   named-bytes, named-stored   a text with a line of numbers behind it
---   four-stored    four runs make what is printed
+--   two-bytes, two-stored       one run behind another
+--   refusal-stored, result-stored   what is printed
 -- Assumes nothing.
 use Prim.Native.Nat.{ℕ, suc, _+_, _*_, _^_, _≤_, _<_}
 use mathlib.Core.Path.{_≡_, refl, sym, ap, _∙_}
@@ -24,7 +25,7 @@ use Rattle.decimal.specs.Writing.{lineBefore}
 use Rattle.decimal.proofs.Stores.{before-all, before-length, sets-then}
 use Rattle.decimal.proofs.Entry.{sets-over}
 use Rattle.protocol.specs.Message.{messageWith}
-use Rattle.rehearse_lines.specs.Prints.{runOf}
+use Rattle.rehearse_lines.specs.Prints.{sharesLines, runOf}
 
 words-all : (xs : List ℕ) → ((i : ℕ) → getD xs i 0 < 2 ^ 32) → Words xs
 words-all [] h = tt
@@ -50,22 +51,16 @@ module _ (name xs : List ℕ) where
   pub named-stored : (out : List ℕ) (at b : ℕ) → b ≡ at + length name → sets (sets out at name) b (lineBefore 0 xs) ≡ sets out at (name ++ line xs)
   named-stored out at b e = sets-then out at name (lineBefore 0 xs) b e ∙ ap (λ (l : List ℕ). sets out at (name ++ l)) (before-all xs)
 
+-- ---- one run behind another
+
+module _ (out a b : List ℕ) (at i n : ℕ) (ei : i ≡ at + length a) (en : n ≡ i + length b) where
+  pub two-bytes : n ≡ at + length (a ++ b)
+  two-bytes = simp length-append (omega arith)
+
+  pub two-stored : (o p : List ℕ) → o ≡ sets out at a → p ≡ sets o i b → p ≡ sets out at (a ++ b)
+  two-stored o p e f = f ∙ ap (λ (l : List ℕ). sets l i b) e ∙ sets-then out at a b i ei
+
 -- ---- all that is printed
-
-module _ (out a b c d : List ℕ) (i j k n : ℕ) (ei : i ≡ 0 + length a) (ej : j ≡ i + length b) (ek : k ≡ j + length c) (en : n ≡ k + length d) where
-  pub four-bytes : n ≡ length (a ++ (b ++ (c ++ d)))
-  four-bytes = simp length-append (omega arith)
-
-  pub four-stored : n ≤ length out → sets (sets (sets (sets out 0 a) i b) j c) k d ≡ over (a ++ (b ++ (c ++ d))) out
-  four-stored h =
-      sets-then (sets (sets out 0 a) i b) j c d k ek
-      ∙ sets-then (sets out 0 a) i b (c ++ d) j ej
-      ∙ sets-then out 0 a (b ++ (c ++ d)) i ei
-      ∙ sets-over (a ++ (b ++ (c ++ d))) out (omega (arith, four-bytes))
-
--- the last two runs are texts with lines behind them
-pub four-flat : (a b l s r t : List ℕ) → a ++ (b ++ ((l ++ s) ++ (r ++ t))) ≡ ((((a ++ b) ++ l) ++ s) ++ r) ++ t
-four-flat a b l s r t = simp append-assoc
 
 -- a refusal
 pub refusal-stored : (r : Refusal) (out : List ℕ) (n i : ℕ) (after : List ℕ) → n ≡ refusalNumber r → i ≡ 0 + length (ascii "refused," ++ line (n ∷ []))
@@ -77,28 +72,19 @@ refusal-stored r out n i after e h few s =
 
 -- a run
 module _ (one : Head) (y1 : List ℕ) (two : Head) (x1r1 left right out : List ℕ) where
-  abbrev a : List ℕ
-  a = messageLine (messageWith one y1)
+  abbrev messages : List ℕ
+  messages = messageLine (messageWith one y1) ++ messageLine (messageWith two x1r1)
 
-  abbrev b : List ℕ
-  b = messageLine (messageWith two x1r1)
+  flat : messages ++ sharesLines left right ≡ printed (done (runOf one y1 two x1r1 left right))
+  flat = simp append-assoc
 
-  abbrev c : List ℕ
-  c = ascii "left," ++ line left
-
-  abbrev d : List ℕ
-  d = ascii "right," ++ line right
-
-  flat : a ++ (b ++ (c ++ d)) ≡ printed (done (runOf one y1 two x1r1 left right))
-  flat = four-flat a b (ascii "left,") (line left) (ascii "right,") (line right)
-
-  pub result-stored : (i j k n : ℕ) (o1 o2 o3 o4 : List ℕ) → i ≡ 0 + length a → j ≡ i + length b → k ≡ j + length c → n ≡ k + length d → n ≤ length out
-      → o1 ≡ sets out 0 a → o2 ≡ sets o1 i b → o3 ≡ sets o2 j c → o4 ≡ sets o3 k d
-      → (n ≡ length (printed (done (runOf one y1 two x1r1 left right)))) × (o4 ≡ over (printed (done (runOf one y1 two x1r1 left right))) out)
-  result-stored i j k n o1 o2 o3 o4 ei ej ek en few e1 e2 e3 e4 = (
-    four-bytes out a b c d i j k n ei ej ek en ∙ ap length flat,
-    e4
-        ∙ ap (λ (l : List ℕ). sets l k d) (e3 ∙ ap (λ (l : List ℕ). sets l j c) (e2 ∙ ap (λ (l : List ℕ). sets l i b) e1))
-        ∙ four-stored out a b c d i j k n ei ej ek en few
-        ∙ ap (λ (l : List ℕ). over l out) flat,
-  )
+  pub result-stored : (i n : ℕ) (o p : List ℕ) → i ≡ length messages → n ≡ i + length (sharesLines left right) → n ≤ length out
+      → o ≡ sets out 0 messages → p ≡ sets o i (sharesLines left right)
+      → (n ≡ length (printed (done (runOf one y1 two x1r1 left right)))) × (p ≡ over (printed (done (runOf one y1 two x1r1 left right))) out)
+  result-stored i n o p ei en few e f =
+      let start : i ≡ 0 + length messages = omega arith in
+      let long : n ≡ length (messages ++ sharesLines left right) = omega (arith, two-bytes out messages (sharesLines left right) 0 i n start en) in (
+        long ∙ ap length flat,
+        two-stored out messages (sharesLines left right) 0 i n start en o p e f ∙ sets-over (messages ++ sharesLines left right) out (omega arith)
+            ∙ ap (λ (l : List ℕ). over l out) flat,
+      )

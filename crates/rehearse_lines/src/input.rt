@@ -13,6 +13,12 @@ ghost use Rattle.protocol.specs.Rehearsal.{firstLine, lineAt, termsFrom};
 ghost use Rattle.decimal.specs.Reading.{Tallied};
 ghost use Rattle.rehearse_lines.specs.Says.{countsOf, Loaded, Says};
 
+// What was read of two lines.
+struct Two {
+    one: Tally,
+    two: Tally,
+}
+
 // The position behind the line that begins at a position.
 fn line_end(s: &[u8], at: usize) -> usize
     requires { ⌜ at ≤ length (now s) ⌝ }
@@ -98,6 +104,18 @@ fn counts(first: Tally, x: Tally, y: Tally, dealer: Tally, left: Tally) -> Lines
     })
 }
 
+// Lines number n and n + 1, each read into its words.
+fn load_two(s: &[u8], n: usize, a: &mut [u32], b: &mut [u32]) -> Two
+    requires { ⌜ n ≤ 3 ⌝ }
+    ensures answered { λ r. ⌜ Tallied (numbersOf (lineAt n (now (s .entry)))) (now (a .entry)) (now (a .exit)) (r .one)
+        × Tallied (numbersOf (lineAt (n + 1) (now (s .entry)))) (now (b .entry)) (now (b .exit)) (r .two) ⌝ }
+    ensures contents { λ _. ⌜ Loaded (now (s .entry)) n (now (a .entry)) (now (a .exit)) × Loaded (now (s .entry)) (n + 1) (now (b .entry)) (now (b .exit)) ⌝ }
+{
+    let one = load_line(s, n, a);
+    let two = load_line(s, n + 1, b);
+    Two { one, two }
+}
+
 // The five lines, each read into its words.
 pub fn read(
     s: &[u8],
@@ -113,10 +131,12 @@ pub fn read(
         × Loaded (now (s .entry)) 1 (now (x .entry)) (now (x .exit)) × Loaded (now (s .entry)) 2 (now (y .entry)) (now (y .exit))
         × Loaded (now (s .entry)) 3 (now (dealer .entry)) (now (dealer .exit)) × Loaded (now (s .entry)) 4 (now (left .entry)) (now (left .exit)) ⌝ }
 {
-    let f = load_line(s, 0, first);
-    let a = load_line(s, 1, x);
-    let b = load_line(s, 2, y);
-    let d = load_line(s, 3, dealer);
-    let l = load_line(s, 4, left);
-    counts(f, a, b, d, l)
+    let terms = load_line(s, 0, first);
+    let inputs = load_two(s, 1, x, y);
+    let words = load_two(s, 3, dealer, left);
+    let in_x = inputs.one;
+    let in_y = inputs.two;
+    let dealt = words.one;
+    let drawn = words.two;
+    counts(terms, in_x, in_y, dealt, drawn)
 }

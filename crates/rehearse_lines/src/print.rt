@@ -14,7 +14,7 @@ ghost use Rattle.protocol.specs.Line.{line, messageLine, mostSent};
 ghost use Rattle.protocol.specs.Rehearsal.{printed};
 ghost use Rattle.decimal.specs.Writing.{lineBefore};
 ghost use Rattle.protocol.specs.Message.{messageWith};
-ghost use Rattle.rehearse_lines.specs.Prints.{MOST, runOf};
+ghost use Rattle.rehearse_lines.specs.Prints.{MOST, sharesLines, runOf};
 
 // The bytes of a text, and the position behind them.
 fn put_text(text: &[u8], out: &mut [u8], at: usize) -> usize
@@ -77,6 +77,28 @@ pub fn refusal(r: Refusal, out: &mut [u8]) -> usize
     put_named(b"refused,", &words, out, 0)
 }
 
+// Both messages, and the position behind them.
+fn put_messages(one: Head, y1: &[u32], two: Head, x1r1: &[u32], out: &mut [u8]) -> usize
+    requires { ⌜ (MOST ≤ length (now out)) × (length (now y1) ≤ 2048) × (length (now x1r1) ≤ 3072) ⌝ }
+    ensures place { λ n. ⌜ n ≡ length (messageLine (messageWith one (now (y1 .entry))) ++ messageLine (messageWith two (now (x1r1 .entry)))) ⌝ }
+    ensures few { λ n. ⌜ n ≤ 11 * (14 + length (now (y1 .entry)) + length (now (x1r1 .entry))) ⌝ }
+    ensures contents { λ _. ⌜ now (out .exit) ≡ sets (now (out .entry)) 0 (messageLine (messageWith one (now (y1 .entry))) ++ messageLine (messageWith two (now (x1r1 .entry)))) ⌝ }
+{
+    let behind = put_message(one, y1, out, 0);
+    put_message(two, x1r1, out, behind)
+}
+
+// Each share behind its end's name, and the position behind them.
+fn put_shares(left: &[u32], right: &[u32], out: &mut [u8], at: usize) -> usize
+    requires { ⌜ at + 11 + 11 * (length (now left) + length (now right)) ≤ length (now out) ⌝ }
+    ensures place { λ n. ⌜ n ≡ at + length (sharesLines (now (left .entry)) (now (right .entry))) ⌝ }
+    ensures few { λ n. ⌜ n ≤ at + 11 + 11 * (length (now (left .entry)) + length (now (right .entry))) ⌝ }
+    ensures contents { λ _. ⌜ now (out .exit) ≡ sets (now (out .entry)) at (sharesLines (now (left .entry)) (now (right .entry))) ⌝ }
+{
+    let behind = put_named(b"left,", left, out, at);
+    put_named(b"right,", right, out, behind)
+}
+
 // What is printed of a run (RULES 9.1): both messages, then each share behind its end's name.
 pub fn result(
     one: Head,
@@ -92,8 +114,6 @@ pub fn result(
     ensures few { λ n. ⌜ n ≤ MOST ⌝ }
     ensures contents { λ _. ⌜ now (out .exit) ≡ over (printed (done (runOf one (now (y1 .entry)) two (now (x1r1 .entry)) (now (left .entry)) (now (right .entry))))) (now (out .entry)) ⌝ }
 {
-    let a = put_message(one, y1, out, 0);
-    let b = put_message(two, x1r1, out, a);
-    let c = put_named(b"left,", left, out, b);
-    put_named(b"right,", right, out, c)
+    let behind = put_messages(one, y1, two, x1r1, out);
+    put_shares(left, right, out, behind)
 }

@@ -1,6 +1,6 @@
 -- The sizes of a half's matrices, past the first: the same for every end of one sort.
 --   second-size, later-sizes   the second matrix, and those behind it
---   half-bound                 no half passes 8,192 words behind its header
+--   half-bound, product-bound  no half passes 8,192 words behind its header, and none of a product 3,072
 --   matrix-length              how many words matrix j of a half has
 --   matrix-inside, matrix-is   it stands in the slot's words from where it begins to where the next one does
 -- Assumes nothing.
@@ -13,12 +13,12 @@ use native.Mathlib.Omega.{arith}
 use lib.ListN.{length, getD, take, drop, length-take, length-drop}
 use Rattle.algebra.specs.Count.{part}
 use Rattle.protocol.specs.declared.Terms.{Terms}
-use Rattle.protocol.specs.Bounds.{sidesFit}
+use Rattle.protocol.specs.Bounds.{product, sidesFit}
 use Rattle.protocol.specs.Tape.{headerSize, Role, left, right, blinder, solver, sortOf, layout, matrixAt, bodySize, tapeSize, Slot, slotWords, matrices}
 use Rattle.protocol.proofs.Slots.{slot-length}
 use Rattle.protocol.proofs.Matrices.{matrix-next, matrix-within, matrix-part}
 use Rattle.tape.specs.Placed.{Placed}
-use Rattle.tape.proofs.Sides.{sides-of}
+use Rattle.tape.proofs.Sides.{sides, sides-of}
 
 pub second-size : (role : Role) (t : Terms) → getD (layout role (t .m) (t .k) (t .p)) 1 0 ≡ t .m * t .p
 second-size left t = refl
@@ -42,6 +42,10 @@ half-bound left m k p e = let s = sides-of (sortOf left) m k p e in omega (arith
 half-bound right m k p e = let s = sides-of (sortOf right) m k p e in omega (arith, s .few-mk, s .few-kp, s .few-mp)
 half-bound blinder m k p e = let s = sides-of (sortOf blinder) m k p e in omega (arith, s .few-mk, s .few-kp, s .few-mp)
 half-bound solver m k p e = let s = sides-of (sortOf solver) m k p e in omega (arith, s .few-mk, s .few-kp, s .few-mp)
+
+pub product-bound : (m k p : ℕ) → sidesFit product m k p ≡ true → (tapeSize left m k p ≤ headerSize + 3072) × (tapeSize right m k p ≤ headerSize + 3072)
+unfolding tapeSize bodySize
+product-bound m k p e = let s = sides m k p e in (omega (arith, s .few-mk, s .few-mp), omega (arith, s .few-kp, s .few-mp))
 
 -- how many words a matrix has, in a half that has its place
 pub matrix-length : (role : Role) (t : Terms) (j : ℕ) (s : Slot) → Placed role t s

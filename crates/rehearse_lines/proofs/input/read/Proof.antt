@@ -1,9 +1,4 @@
 -- `rehearse_lines::input::read` meets its contract. Assumes nothing.
-use mathlib.Core.Path.{_≡_, refl, sym, ap, _∙_}
-use mathlib.Core.List.{List, _++_}
-use Prim.Native.Nat.{ℕ, _+_, _*_, _-_, _/_, _%_, _≤_, _<_}
-use native.Mathlib.Omega.{arith}
-use lib.ListN.{length, getD, set, take, drop}
 use borrow.Author.Needs.{needs}
 use Rattle.rehearse_lines.proofs.Split.{said}
 use Rattle.rehearse_lines.proofs.input.read.Statement.{statement}
@@ -12,17 +7,11 @@ use Rattle.rehearse_lines.proofs.input.read.Tie as tie
 load-line-requires : tie.Need-load-line-requires
 load-line-requires c κs = search needs
 
-load-line-requires-2 : tie.Need-load-line-requires-2
-load-line-requires-2 c κs = search needs
+load-two-requires : tie.Need-load-two-requires
+load-two-requires c κs = search needs
 
-load-line-requires-3 : tie.Need-load-line-requires-3
-load-line-requires-3 c κs = search needs
-
-load-line-requires-4 : tie.Need-load-line-requires-4
-load-line-requires-4 c κs = search needs
-
-load-line-requires-5 : tie.Need-load-line-requires-5
-load-line-requires-5 c κs = search needs
+load-two-requires-2 : tie.Need-load-two-requires-2
+load-two-requires-2 c κs = search needs
 
 counts-requires : tie.Need-counts-requires
 counts-requires c κs = search needs
@@ -44,15 +33,19 @@ same-length-5 c = search needs
 
 returns : tie.Need-returns
 returns c =
-    let load-line = c .before .before .before .before .before .before .before .before .before .before .before .before .before .before .before .before .before .before .before .load-line in
-    let load-line2 = c .before .before .before .before .before .before .before .before .before .before .before .before .before .before .before .load-line2 in
-    let load-line3 = c .before .before .before .before .before .before .before .before .before .before .before .load-line3 in
-    let load-line4 = c .before .before .before .before .before .before .before .load-line4 in
-    let a = c .before .before .before .before .before .before .before .before .before .before .before .before .before .before .before .before .before .before .before .before .before .before .before .before .before .before .before .args in
-    let load-line5 = c .before .before .before .load-line5 in (
+    let raw = c .before .before .before .before .before in
+    let inputs = raw .before .before .before .before .before .before .before in
+    let terms = inputs .before .before .before .before .before in
+    let whole = terms .before .before .before .before .before .before .before .before in
+    let a = whole .args in
+    let f = terms .load-line in
+    let i = inputs .load-two in
+    let w = raw .load-two2 in (
       rw (c .counts .ensures)
-          (said (a .s .now) (a .first .now) _ (a .x .now) _ (a .y .now) _ (a .dealer .now) _ (a .left .now) _ (load-line .result) (load-line2 .result) (load-line3 .result) (load-line4 .result) (load-line5 .result) (c .before .before .before .before .before .before .before .before .before .before .before .before .before .before .before .before .before .before .before .before .before .before .before .before .before .before .before .pre) (load-line .ensures .0) (load-line2 .ensures .0) (load-line3 .ensures .0) (load-line4 .ensures .0) (load-line5 .ensures .0)),
-      (load-line .ensures .1, load-line2 .ensures .1, load-line3 .ensures .1, load-line4 .ensures .1, load-line5 .ensures .1),
+          (said (a .s .now) (a .first .now) _ (a .x .now) _ (a .y .now) _ (a .dealer .now) _ (a .left .now) _
+          (f .result) (i .result .one) (i .result .two) (w .result .one) (w .result .two)
+          (whole .pre) (f .ensures .0) (i .ensures .0 .0) (i .ensures .0 .1) (w .ensures .0 .0) (w .ensures .0 .1)),
+      (f .ensures .1, i .ensures .1 .0, i .ensures .1 .1, w .ensures .1 .0, w .ensures .1 .1),
     )
 
 pub read-spec : {M : Type 1} → statement M
@@ -60,10 +53,8 @@ read-spec =
     tie.close
     (tie.spec
     load-line-requires
-    load-line-requires-2
-    load-line-requires-3
-    load-line-requires-4
-    load-line-requires-5
+    load-two-requires
+    load-two-requires-2
     counts-requires
     same-length
     same-length-2
