@@ -1,7 +1,7 @@
 -- A message's line: how many bytes it has, and two runs of stores from the start of a slice.
---   message-lines, line-stored
+--   two-runs, message-lines, line-stored
 -- Assumes nothing.
-use mathlib.Core.Path.{_≡_, ap₂, _∙_}
+use mathlib.Core.Path.{_≡_, sym, ap, ap₂, _∙_}
 use mathlib.Core.List.{List}
 use Prim.Native.Nat.{ℕ, _+_, _≤_}
 use lib.ListN.{length}
@@ -15,10 +15,17 @@ use Rattle.decimal.proofs.Stores.{before-length}
 use Rattle.decimal.proofs.Entry.{sets-over}
 use Rattle.decimal.proofs.Messages.{message-bytes, message-stored}
 
-module _ (h : Head) (rs : List ℕ) where
-  pub message-lines : length (messageLine (messageWith h rs)) ≡ length (line (headNumbers h)) + length (line rs)
-  message-lines = message-bytes h rs ∙ ap₂ (λ (a b : ℕ). a + b) (before-length (length rs) (headNumbers h)) (before-length 0 rs)
+-- ws: the numbers of the head
+module _ (h : Head) (rs : List ℕ) {ws : List ℕ} (e : ws ≡ headNumbers h) where
+  pub two-runs : length (messageLine (messageWith h rs)) ≡ length (lineBefore (length rs) ws) + length (lineBefore 0 rs)
+  two-runs = message-bytes h rs ∙ ap (λ (l : List ℕ). length (lineBefore (length rs) l) + length (lineBefore 0 rs)) (sym e)
 
-  pub line-stored : (out : List ℕ) (at : ℕ) → at ≡ 0 + length (lineBefore (length rs) (headNumbers h)) → length (messageLine (messageWith h rs)) ≤ length out
-      → sets (sets out 0 (lineBefore (length rs) (headNumbers h))) at (lineBefore 0 rs) ≡ over (messageLine (messageWith h rs)) out
-  line-stored out at e k = message-stored h rs out 0 at e ∙ sets-over (messageLine (messageWith h rs)) out k
+  pub message-lines : length (messageLine (messageWith h rs)) ≡ length (line ws) + length (line rs)
+  message-lines = two-runs ∙ ap₂ (λ (a b : ℕ). a + b) (before-length (length rs) ws) (before-length 0 rs)
+
+  pub line-stored : (out : List ℕ) {first : List ℕ} {at : ℕ} → at ≡ 0 + length (lineBefore (length rs) ws) → first ≡ sets out 0 (lineBefore (length rs) ws)
+      → length (messageLine (messageWith h rs)) ≤ length out → sets first at (lineBefore 0 rs) ≡ over (messageLine (messageWith h rs)) out
+  line-stored out {first} {at} p f k =
+      ap (λ (l : List ℕ). sets l at (lineBefore 0 rs)) (f ∙ ap (λ (l : List ℕ). sets out 0 (lineBefore (length rs) l)) e)
+      ∙ (message-stored h rs out 0 at (p ∙ ap (λ (l : List ℕ). 0 + length (lineBefore (length rs) l)) e)
+      ∙ sets-over (messageLine (messageWith h rs)) out k)

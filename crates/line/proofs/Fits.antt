@@ -37,7 +37,8 @@ size-few kind t s = go (eqb kind 1) (eqb kind 2) (eqb kind 3) (eqb kind 4)
 count-few : (h : Head) (n : ℕ) → sidesFit (kindSort (h .kind)) (h .terms .m) (h .terms .k) (h .terms .p) ≡ true
     → eqb n (messageSize (h .kind) (h .terms)) ≡ true → n ≤ 3072
 count-few h n fits count =
-    omega (arith, eqb-true n (messageSize (h .kind) (h .terms)) count, size-few (h .kind) (h .terms) (sides-of (kindSort (h .kind)) (h .terms .m) (h .terms .k) (h .terms .p) fits))
+    let t = h .terms in
+    omega (arith, eqb-true n (messageSize (h .kind) t) count, size-few (h .kind) t (sides-of (kindSort (h .kind)) (t .m) (t .k) (t .p) fits))
 
 pub head-few : (h : Head) (n : ℕ) → judged (messageNumbers h n) ≡ done tt → n ≤ 3072
 unfolding messageNumbers kindTests numberTests countTests

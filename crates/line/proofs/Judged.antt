@@ -120,11 +120,14 @@ module _ {s words : List ℕ} {h : Head} {n : ℕ} (l : Holds s h n words) (room
 
   pub parse-room : judged (parseTests room (l .values)) ≡ done tt → n ≤ room
   parse-room e =
-      omega (arith, l .count, has-room (needs Form (leb 7 (length (l .values))) ∷ needs Form (within 1 5 (getD (l .values) 0 0)) ∷ given (ltb room (length (drop 7 (l .values)))) (messageTests (messageFrom (l .values)))) (length (drop 7 (l .values))) room e .1)
+      let own = given (ltb room (length (drop 7 (l .values)))) (messageTests (messageFrom (l .values))) in
+      let form : List Test = needs Form (leb 7 (length (l .values))) ∷ needs Form (within 1 5 (getD (l .values) 0 0)) ∷ own in
+      omega (arith, l .count, has-room form (length (drop 7 (l .values))) room e .1)
 
   pub read-room : judged (readTests room (l .values)) ≡ done tt → n ≤ room
   read-room e =
-      omega (arith, l .count, has-room (needs Form (leb 7 (length (l .values))) ∷ messageTests (messageFrom (l .values))) (length (drop 7 (l .values))) room e .1)
+      let own : List Test = needs Form (leb 7 (length (l .values))) ∷ messageTests (messageFrom (l .values)) in
+      omega (arith, l .count, has-room own (length (drop 7 (l .values))) room e .1)
 
   -- ---- what the entries answer and leave
 

@@ -1,8 +1,6 @@
 -- What the answers tell determines them: `received-same`, `written-same`. Assumes nothing.
 use mathlib.Core.Path.{_≡_, ap, ap₂}
-use Prim.Native.Nat.{ℕ}
 use native.Mathlib.Omega.{arith}
-use Rattle.protocol.specs.declared.Head.{Head}
 use Rattle.protocol.specs.Judge.{Reply}
 use Rattle.protocol.proofs.Judge.{same-refusal, not-zero}
 use Rattle.line.specs.declared.Received.{Received}

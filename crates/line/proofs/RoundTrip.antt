@@ -5,7 +5,7 @@
 use Prim.Native.Nat.{ℕ, _≤_}
 use mathlib.Core.Path.{_≡_, refl, sym, ap, subst, _∙_}
 use mathlib.Core.Bool.{true}
-use mathlib.Core.List.{List, [], _∷_}
+use mathlib.Core.List.{List, _∷_}
 use mathlib.Core.Option.{Option, some, none}
 use native.Mathlib.Omega.{arith}
 use lib.ListN.{length, drop, length-append}
@@ -27,7 +27,8 @@ line-some x xs = omega (arith, length-append (decimal x) (endByte (length xs) �
 fits-line : (a : Message) → Words (messageNumbers a) → All (messageTests a) → within 1 65536 (length (line (messageNumbers a))) ≡ true
 unfolding within
 fits-line a w t =
-    and-both (le-leb 1 (length (line (messageNumbers a))) (line-some (a .head .kind) (drop 1 (messageNumbers a)))) (le-leb (length (line (messageNumbers a))) 65536 (omega (arith, line-short (messageNumbers a) w, message-few a t)))
+    and-both (le-leb 1 (length (line (messageNumbers a))) (line-some (a .head .kind) (drop 1 (messageNumbers a))))
+    (le-leb (length (line (messageNumbers a))) 65536 (omega (arith, line-short (messageNumbers a) w, message-few a t)))
 
 -- RULES 6.3: what is written reads back
 pub written-reads-back : (a : Message) (bytes words : ℕ) (l : List ℕ) → Words (messageNumbers a) → length (a .residues) ≤ words

@@ -82,7 +82,8 @@ module _ (s : List ℕ) {r : Tally} (e : r ≡ tallyOf (numbersOf s)) where
         seven = seven;
         head = g ∙ (ap (λ (w : List ℕ). messageFrom w .head) (t .stores) ∙ head-loaded before (t .values) seven (omega (arith, long)));
         count = count;
-        residues = λ few. ap₂ (λ (m : ℕ) (w : List ℕ). take m (drop 7 w)) (sym count) (t .stores) ∙ residues-loaded before (t .values) seven (omega (arith, t .count, long));
+        residues = λ few. ap₂ (λ (m : ℕ) (w : List ℕ). take m (drop 7 w)) (sym count) (t .stores)
+            ∙ residues-loaded before (t .values) seven (omega (arith, t .count, long));
       }
 
 -- ---- the residues copied into a lent slice

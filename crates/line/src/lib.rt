@@ -34,7 +34,7 @@ pub enum Received {
     Refused(Refusal),
 }
 
-// A message's head and how many residues a line has, or none: it has a fault or too few numbers.
+// A line that was loaded: a message's head and how many residues follow; wrong where it has a fault or fewer than seven numbers.
 enum Loaded {
     Message(Head, usize),
     Wrong,
@@ -94,7 +94,7 @@ fn put_residues(words: &[u32], count: usize, out: &mut [u32])
     }
 }
 
-// The residues of a line, stored; they stand in the words behind the head where there is room for so many, and else the line is read again.
+// The residues of a line, stored. The words behind the head have them where there is room for so many; else it is read again.
 fn store(s: &[u8], words: &[u32], count: usize, out: &mut [u32])
     requires { ⌜ (length (now words) ≡ 3079) × (count ≤ length (now out)) ⌝ }
     ensures { λ _. ⌜ ((h : Head) (l : Holds (now (s .entry)) h count (now (words .entry))) → now (out .exit) ≡ over (drop 7 (l .values)) (now (out .entry))) ⌝ }

@@ -18,7 +18,8 @@ worst-requires c κs = search needs
 
 returns : tie.Need-returns
 returns c =
-    λ s words l. also _ (_ ∷ []) (c .worst .ensures) (c .before .before .check-message .ensures) (c .before .need .ensures) ∙ form-short l _ (c .before .before .before .if1 .taken)
+    λ s words l. also _ (_ ∷ []) (c .worst .ensures) (c .before .before .check-message .ensures) (c .before .need .ensures)
+    ∙ form-short l _ (c .before .before .before .if1 .taken)
 
 kind-known-requires : tie.Need-kind-known-requires
 kind-known-requires c κs = search needs

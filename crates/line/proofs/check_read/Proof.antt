@@ -38,7 +38,8 @@ part-check-rest-start c = search needs
 
 part-check-rest-end : tie.Need-part-check-rest-end
 part-check-rest-end c =
-    omega (arith, head-few _ _ (sym (c .before .before .before .check-message .ensures) ∙ ap checked (c .before .enum-told .given .1)), c .before .before .before .before .before .pre)
+    let few = head-few _ _ (sym (c .before .before .before .check-message .ensures) ∙ ap checked (c .before .enum-told .given .1)) in
+    omega (arith, few, c .before .before .before .before .before .pre)
 
 check-rest-requires : tie.Need-check-rest-requires
 check-rest-requires c κs = search needs

@@ -21,7 +21,8 @@ worst-requires c κs = search needs
 returns : tie.Need-returns
 unfolding restTests
 returns c =
-    also (_ ∷ []) (_ ∷ []) (c .worst .ensures) (c .before .before .before .need .ensures) (rw (c .before .before .all-below .ensures) at (c .before .need2 .ensures))
+    also (_ ∷ []) (_ ∷ []) (c .worst .ensures) (c .before .before .before .need .ensures)
+    (rw (c .before .before .all-below .ensures) at (c .before .need2 .ensures))
 
 pub check-rest-spec : {M : Type 1} → statement M
 check-rest-spec =

@@ -34,7 +34,9 @@ same-length-3 c = search needs
 returns-3 : tie.Need-returns-3
 returns-3 c =
     let load = c .before .before .before .before .before .before .before .before .load in
-    message-loaded _ (load .ensures .0) _ _ (c .before .before .before .before .before .before .before .before .before .before .before .before .pre) (load .ensures .1) (c .before .before .before .before .loaded .given .1) (c .before .before .if1 .left) (c .head-of .ensures)
+    let long = c .before .before .before .before .before .before .before .before .before .before .before .before .pre in
+    message-loaded _ (load .ensures .0) _ _ long (load .ensures .1)
+    (c .before .before .before .before .loaded .given .1) (c .before .before .if1 .left) (c .head-of .ensures)
 
 pub load-spec : {M : Type 1} → statement M
 load-spec =

@@ -1,13 +1,9 @@
 -- `line::message_length` meets its contract: the head, then the residues. Assumes nothing.
-use mathlib.Core.Path.{_≡_, ap}
-use mathlib.Core.List.{List}
-use Prim.Native.Nat.{ℕ}
+use mathlib.Core.Path.{ap}
 use native.Mathlib.Omega.{arith}
 use lib.ListN.{length}
 use borrow.Author.Needs.{needs}
 use Rattle.line.proofs.Bytes.{message-lines}
-use Rattle.protocol.specs.Line.{line}
-use Rattle.decimal.specs.Writing.{headNumbers}
 use Rattle.line.proofs.message_length.Statement.{statement}
 use Rattle.line.proofs.message_length.Tie as tie
 
@@ -30,9 +26,7 @@ add-result c =
 returns : tie.Need-returns
 returns c =
     let a = c .before .before .before .before .before .args in
-    let e : length (line (c .before .before .before .head-words .result)) ≡ length (line (headNumbers (a .h))) = ap (λ (l : List ℕ). length (line l))
-    (c .before .before .before .head-words .ensures) in
-    omega (arith, c .before .line-length .ensures .0, c .line-length2 .ensures .0, e, message-lines (a .h) (a .residues .now))
+    omega (arith, c .before .line-length .ensures .0, c .line-length2 .ensures .0, message-lines (a .h) (a .residues .now) (c .before .before .before .head-words .ensures))
 
 pub message-length-spec : {M : Type 1} → statement M
 message-length-spec =

@@ -38,7 +38,8 @@ refused-requires c κs = search needs
 
 returns-2 : tie.Need-returns-2
 returns-2 c =
-    let l = holds _ _ (c .before .before .before .before .before .before .before .before .load .ensures) (c .before .before .before .before .before .loaded .given .1) in
+    let load = c .before .before .before .before .before .before .before .before .load .ensures in
+    let l = holds _ _ load (c .before .before .before .before .before .loaded .given .1) in
     let check = c .before .before .before .check-form in
     refuses l _ (parse-judged l _) _ (check .result) (check .ensures _ _ l) (c .before .enum-told3 .given .1) (c .refused .ensures)
 
@@ -47,7 +48,8 @@ slice-aggregate-store c = search needs
 
 store-requires : tie.Need-store-requires
 store-requires c κs =
-    let l = holds _ _ (c .before .before .before .before .before .before .before .before .before .load .ensures) (c .before .before .before .before .before .before .loaded .given .1) in
+    let load = c .before .before .before .before .before .before .before .before .before .load .ensures in
+    let l = holds _ _ load (c .before .before .before .before .before .before .loaded .given .1) in
     (search needs, parse-room l _ (sym (c .before .before .before .before .check-form .ensures _ _ l) ∙ ap checked (c .before .before .enum-told2 .given .1)))
 
 same-length : tie.Need-same-length
@@ -55,9 +57,11 @@ same-length c = search needs
 
 returns-3 : tie.Need-returns-3
 returns-3 c =
-    let l = holds _ _ (c .before .before .before .before .before .before .before .before .before .before .before .before .load .ensures) (c .before .before .before .before .before .before .before .before .before .loaded .given .1) in
+    let load = c .before .before .before .before .before .before .before .before .before .before .before .before .load .ensures in
+    let l = holds _ _ load (c .before .before .before .before .before .before .before .before .before .loaded .given .1) in
     let check = c .before .before .before .before .before .before .before .check-form in
-    takes l _ (parse-judged l _) _ (check .result) (check .ensures _ _ l) (c .before .before .before .before .before .enum-told2 .given .1) (c .before .before .store .ensures _ l)
+    takes l _ (parse-judged l _) _ (check .result) (check .ensures _ _ l)
+    (c .before .before .before .before .before .enum-told2 .given .1) (c .before .before .store .ensures _ l)
 
 pub parse-spec : {M : Type 1} → statement M
 parse-spec =

@@ -41,7 +41,8 @@ refused-requires c κs = search needs
 
 returns-2 : tie.Need-returns-2
 returns-2 c =
-    let l = holds _ _ (c .before .before .before .before .before .before .before .before .before .load .ensures) (c .before .before .before .before .before .before .loaded .given .1) in
+    let load = c .before .before .before .before .before .before .before .before .before .load .ensures in
+    let l = holds _ _ load (c .before .before .before .before .before .before .loaded .given .1) in
     let check = c .before .before .before .check-read in
     refuses l _ (read-judged l _) _ (check .result) (check .ensures _ l) (c .before .enum-told3 .given .1) (c .refused .ensures)
 
@@ -50,7 +51,8 @@ slice-aggregate-store c = search needs
 
 store-requires : tie.Need-store-requires
 store-requires c κs =
-    let l = holds _ _ (c .before .before .before .before .before .before .before .before .before .before .load .ensures) (c .before .before .before .before .before .before .before .loaded .given .1) in
+    let load = c .before .before .before .before .before .before .before .before .before .before .load .ensures in
+    let l = holds _ _ load (c .before .before .before .before .before .before .before .loaded .given .1) in
     (search needs, read-room l _ (sym (c .before .before .before .before .check-read .ensures _ l) ∙ ap checked (c .before .before .enum-told2 .given .1)))
 
 same-length : tie.Need-same-length
@@ -58,9 +60,11 @@ same-length c = search needs
 
 returns-3 : tie.Need-returns-3
 returns-3 c =
-    let l = holds _ _ (c .before .before .before .before .before .before .before .before .before .before .before .before .before .load .ensures) (c .before .before .before .before .before .before .before .before .before .before .loaded .given .1) in
+    let load = c .before .before .before .before .before .before .before .before .before .before .before .before .before .load .ensures in
+    let l = holds _ _ load (c .before .before .before .before .before .before .before .before .before .before .loaded .given .1) in
     let check = c .before .before .before .before .before .before .before .check-read in
-    takes l _ (read-judged l _) _ (check .result) (check .ensures _ l) (c .before .before .before .before .before .enum-told2 .given .1) (c .before .before .store .ensures _ l)
+    takes l _ (read-judged l _) _ (check .result) (check .ensures _ l)
+    (c .before .before .before .before .before .enum-told2 .given .1) (c .before .before .store .ensures _ l)
 
 pub read-spec : {M : Type 1} → statement M
 read-spec =

@@ -18,7 +18,9 @@ same-length : tie.Need-same-length
 same-length c = search needs
 
 returns : tie.Need-returns
-returns c = λ h l. c .before .before .put-residues .ensures ∙ ap (λ (r : List ℕ). over r (c .before .before .before .before .before .before .before .before .args .out .now)) (l .residues (c .before .before .before .before .if1 .taken))
+returns c =
+    let out = c .before .before .before .before .before .before .before .before .args .out .now in
+    λ h l. c .before .before .put-residues .ensures ∙ ap (λ (r : List ℕ). over r out) (l .residues (c .before .before .before .before .if1 .taken))
 
 load-behind-requires : tie.Need-load-behind-requires
 load-behind-requires c κs = search needs

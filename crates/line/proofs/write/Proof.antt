@@ -38,7 +38,8 @@ put-message-requires : tie.Need-put-message-requires
 put-message-requires c κs =
     let a = c .before .before .before .before .before .before .args in
     let m = messageWith (a .h) (a .residues .now) in
-    let o = has-room (messageTests m) (length (messageLine m)) (length (a .out .now)) (sym (c .before .before .before .check-write .ensures) ∙ ap checked (c .before .enum-told .given .1)) in
+    let e = sym (c .before .before .before .check-write .ensures) ∙ ap checked (c .before .enum-told .given .1) in
+    let o = has-room (messageTests m) (length (messageLine m)) (length (a .out .now)) e in
     (message-few m (o .0), o .1)
 
 same-length : tie.Need-same-length
@@ -50,7 +51,9 @@ returns-2 c =
     let a = c .before .before .before .before .before .before .before .before .before .args in
     let m = messageWith (a .h) (a .residues .now) in
     let put = c .before .before .put-message .ensures in
-    rw (accepted-by (writeTests (length (a .out .now)) m) (messageLine m) (sym (c .before .before .before .before .before .before .check-write .ensures) ∙ ap checked (c .before .before .before .before .enum-told .given .1)))
+    let check = c .before .before .before .before .before .before .check-write in
+    let e = sym (check .ensures) ∙ ap checked (c .before .before .before .before .enum-told .given .1) in
+    rw (accepted-by (writeTests (length (a .out .now)) m) (messageLine m) e)
     (ap (λ (n : ℕ). writtenReply (written.Bytes n)) (put .0), put .1)
 
 pub write-spec : {M : Type 1} → statement M
