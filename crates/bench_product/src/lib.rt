@@ -12,6 +12,7 @@ use protocol::RightSession;
 use protocol::SessionId;
 use protocol::TapeId;
 use protocol::Terms;
+use tape::Place;
 
 fn terms(q: u32, m: u32, k: u32, p: u32) -> Terms {
     Terms {
@@ -42,7 +43,17 @@ pub extern "C" fn bench_deal(
     p: u32,
     words: &[u32],
 ) -> bool {
-    accepted(dealer::deal_product(first, second, size, 0, TapeId(4), q, m, k, p, words))
+    accepted(dealer::deal_product(
+        first,
+        second,
+        Place { size, index: 0 },
+        TapeId(4),
+        q,
+        m,
+        k,
+        p,
+        words,
+    ))
 }
 
 #[no_mangle]
@@ -56,7 +67,7 @@ pub extern "C" fn bench_right_first(
     y: &[u32],
     out: &mut [u32],
 ) -> bool {
-    let done = right_first(pool, size, 0, terms(q, m, k, p), y, out);
+    let done = right_first(pool, Place { size, index: 0 }, terms(q, m, k, p), y, out);
     let answer = done.answer;
     accepted(answer)
 }
@@ -77,7 +88,17 @@ pub extern "C" fn bench_left(
 ) -> bool {
     let t = terms(q, m, k, p);
     let one = Head { kind: 1, terms: t };
-    let done = left_step(pool, size, 0, t, x, words, one, residues, out, share);
+    let done = left_step(
+        pool,
+        Place { size, index: 0 },
+        t,
+        x,
+        words,
+        one,
+        residues,
+        out,
+        share,
+    );
     let answer = done.answer;
     accepted(answer)
 }
@@ -96,7 +117,7 @@ pub extern "C" fn bench_right_last(
     let t = terms(q, m, k, p);
     let open = RightSession { terms: t, due: 2 };
     let two = Head { kind: 2, terms: t };
-    let done = right_last(pool, size, 0, open, two, residues, share);
+    let done = right_last(pool, Place { size, index: 0 }, open, two, residues, share);
     let answer = done.answer;
     accepted(answer)
 }

@@ -15,6 +15,7 @@ use protocol::Terms;
 use solver::solver_first;
 use solver::solver_last;
 use solver::solver_second;
+use tape::Place;
 use vectors::write_copy;
 ghost use mathlib.Core.Path.{_≡_};
 ghost use Prim.Native.Nat.{_≤_, _<_};
@@ -75,7 +76,7 @@ pub extern "C" fn bench_solver_first(
 ) -> bool
     requires { ⌜ n ≤ 16 ⌝ }
 {
-    let done = solver_first(pool, size, 0, terms(q, n), l, x, out);
+    let done = solver_first(pool, Place { size, index: 0 }, terms(q, n), l, x, out);
     let answer = done.answer;
     accepted(answer)
 }
@@ -97,7 +98,18 @@ pub extern "C" fn bench_blinder_first(
 {
     let t = terms(q, n);
     let a = Head { kind: 1, terms: t };
-    let done = blinder_first(pool, size, 0, scratch, t, mm, y, words, a, residues, out);
+    let done = blinder_first(
+        pool,
+        Place { size, index: 0 },
+        scratch,
+        t,
+        mm,
+        y,
+        words,
+        a,
+        residues,
+        out,
+    );
     let answer = done.answer;
     accepted(answer)
 }
@@ -122,7 +134,7 @@ pub extern "C" fn bench_solver_second(
         s: none,
     };
     let a = Head { kind: 2, terms: t };
-    let done = solver_second(pool, size, 0, before, a, residues, out);
+    let done = solver_second(pool, Place { size, index: 0 }, before, a, residues, out);
     let after = done.session;
     keep(after, kept);
     let answer = done.answer;
@@ -147,8 +159,7 @@ pub extern "C" fn bench_blinder_second(
     let a = Head { kind: 3, terms: t };
     let done = blinder_second(
         pool,
-        size,
-        0,
+        Place { size, index: 0 },
         scratch,
         session(t, 3, mm, y),
         a,
@@ -180,7 +191,7 @@ pub extern "C" fn bench_solver_last(
         s: s,
     };
     let a = Head { kind: 4, terms: t };
-    let done = solver_last(pool, size, 0, before, a, residues, out);
+    let done = solver_last(pool, Place { size, index: 0 }, before, a, residues, out);
     let answer = done.answer;
     accepted(answer)
 }
@@ -203,8 +214,7 @@ pub extern "C" fn bench_blinder_last(
     let a = Head { kind: 5, terms: t };
     let done = blinder_last(
         pool,
-        size,
-        0,
+        Place { size, index: 0 },
         scratch,
         session(t, 5, mm, y),
         a,

@@ -2,6 +2,7 @@
 // No function here is for hosts.
 use protocol::Answer;
 use protocol::TapeId;
+use tape::Place;
 
 fn read_in(answer: Answer) -> usize {
     match answer {
@@ -23,7 +24,17 @@ pub extern "C" fn bench_deal_product(
     p: u32,
     words: &[u32],
 ) -> usize {
-    read_in(dealer::deal_product(first, second, size, index, TapeId(tape), q, m, k, p, words))
+    read_in(dealer::deal_product(
+        first,
+        second,
+        Place { size, index },
+        TapeId(tape),
+        q,
+        m,
+        k,
+        p,
+        words,
+    ))
 }
 
 #[no_mangle]
@@ -37,5 +48,13 @@ pub extern "C" fn bench_deal_system(
     n: u32,
     words: &[u32],
 ) -> usize {
-    read_in(dealer::deal_system(first, second, size, index, TapeId(tape), q, n, words))
+    read_in(dealer::deal_system(
+        first,
+        second,
+        Place { size, index },
+        TapeId(tape),
+        q,
+        n,
+        words,
+    ))
 }

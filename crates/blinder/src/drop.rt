@@ -16,7 +16,7 @@ ghost use mathlib.Core.List.{[], _++_};
 ghost use lib.ListN.{length};
 ghost use Rattle.protocol.specs.Judge.{given};
 ghost use Rattle.protocol.specs.Bounds.{roomTests};
-ghost use Rattle.protocol.specs.Tape.{blinder, slotAt};
+ghost use Rattle.protocol.specs.Tape.{blinder};
 ghost use Rattle.protocol.specs.Message.{noMessage};
 ghost use Rattle.protocol.specs.Drop.{dropBlinder};
 ghost use Rattle.protocol.specs.Step.{isOpen, openTests, answerReply};
@@ -43,15 +43,13 @@ fn check(pool: &[u32], at: Place, room: usize, s: BlinderSession) -> Check
 
 pub fn blinder_drop(
     pool: &mut [u32],
-    size: usize,
-    index: usize,
+    at: Place,
     scratch: &mut [u32],
     s: BlinderSession,
 ) -> BlinderDropped
     ensures { λ r. ⌜ leaving (r .answer) (r .session) (noMessage .head) (now (pool .exit)) (now (scratch .exit)) [] []
-        ≡ leaves s (slotAt (now (pool .entry)) size index) (now (scratch .entry)) [] [] (dropBlinder s (slotAt (now (pool .entry)) size index) (now (scratch .entry))) ⌝ }
+        ≡ leaves s (slotIn (now (pool .entry)) at) (now (scratch .entry)) [] [] (dropBlinder s (slotIn (now (pool .entry)) at) (now (scratch .entry))) ⌝ }
 {
-    let at = Place { size, index };
     let t = s.terms;
     let checked = check(pool, at, scratch.len(), s);
     let Check::Passed = checked else {

@@ -39,7 +39,6 @@ ghost use Rattle.algebra.specs.Words.{over};
 ghost use Rattle.protocol.specs.declared.BlinderSession.{BlinderSession};
 ghost use Rattle.protocol.specs.Judge.{done};
 ghost use Rattle.protocol.specs.Drawing.{residuesOf, drawTests};
-ghost use Rattle.protocol.specs.Tape.{slotAt};
 ghost use Rattle.protocol.specs.Message.{messageWith};
 ghost use Rattle.protocol.specs.System.{noBlinder, scratchSize, blinderFirstEffect, blinderFirstTests, blinderFirst};
 ghost use Rattle.tape.specs.Placed.{slotIn};
@@ -157,8 +156,7 @@ fn compute(
 // Step 2 (RULES 5.4): X1 = P + X0 and R1 = P × Y1 − U0 − A0.
 pub fn blinder_first(
     pool: &mut [u32],
-    size: usize,
-    index: usize,
+    at: Place,
     scratch: &mut [u32],
     t: Terms,
     mm: &[u32],
@@ -169,11 +167,10 @@ pub fn blinder_first(
     out: &mut [u32],
 ) -> BlinderAnswer
     ensures { λ r. ⌜ leaving (r .answer) (r .session) (r .head) (now (pool .exit)) (now (scratch .exit)) (now (out .exit)) []
-        ≡ leaves noBlinder (slotAt (now (pool .entry)) size index) (now (scratch .entry)) (now (out .entry)) []
-        (blinderFirst t (slotAt (now (pool .entry)) size index) (length (now (scratch .entry))) (now (mm .entry)) (now (y .entry)) (now (words .entry))
+        ≡ leaves noBlinder (slotIn (now (pool .entry)) at) (now (scratch .entry)) (now (out .entry)) []
+        (blinderFirst t (slotIn (now (pool .entry)) at) (length (now (scratch .entry))) (now (mm .entry)) (now (y .entry)) (now (words .entry))
         (record { head = a; residues = now (residues .entry) }) (length (now (out .entry)))) ⌝ }
 {
-    let at = Place { size, index };
     let room = out.len();
     let lent = scratch.len();
     let checked = check(pool, at, lent, t, mm, y, words, a, residues, room);

@@ -21,7 +21,6 @@ ghost use mathlib.Core.Path.{_≡_};
 ghost use mathlib.Core.List.{[]};
 ghost use lib.ListN.{length};
 ghost use Rattle.protocol.specs.Judge.{done};
-ghost use Rattle.protocol.specs.Tape.{slotAt};
 ghost use Rattle.protocol.specs.Message.{messageWith};
 ghost use Rattle.protocol.specs.System.{blinderLastEffect, blinderLastTests, blinderLast};
 ghost use Rattle.tape.specs.Placed.{slotIn};
@@ -74,8 +73,7 @@ fn compute(
 // Step 6 (RULES 5.8): z = Q × t.
 pub fn blinder_last(
     pool: &mut [u32],
-    size: usize,
-    index: usize,
+    at: Place,
     scratch: &mut [u32],
     s: BlinderSession,
     a: Head,
@@ -83,10 +81,9 @@ pub fn blinder_last(
     out: &mut [u32],
 ) -> BlinderAnswer
     ensures { λ r. ⌜ leaving (r .answer) (r .session) (r .head) (now (pool .exit)) (now (scratch .exit)) [] (now (out .exit))
-        ≡ leaves s (slotAt (now (pool .entry)) size index) (now (scratch .entry)) [] (now (out .entry))
-        (blinderLast s (slotAt (now (pool .entry)) size index) (now (scratch .entry)) (record { head = a; residues = now (residues .entry) }) (length (now (out .entry)))) ⌝ }
+        ≡ leaves s (slotIn (now (pool .entry)) at) (now (scratch .entry)) [] (now (out .entry))
+        (blinderLast s (slotIn (now (pool .entry)) at) (now (scratch .entry)) (record { head = a; residues = now (residues .entry) }) (length (now (out .entry)))) ⌝ }
 {
-    let at = Place { size, index };
     let checked = check(pool, at, scratch, s, a, residues, out.len());
     let Check::Passed = checked else {
         return refused(checked, s);

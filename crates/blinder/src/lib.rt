@@ -62,33 +62,15 @@ fn refused(c: Check, s: BlinderSession) -> BlinderAnswer
     }
 }
 
-// M at the start of its array.
-fn keep_matrix(mm: &[u32]) -> [u32; 256]
-    requires { ⌜ length (now mm) ≤ 256 ⌝ }
-    ensures { λ r. ⌜ r ≡ padded 256 (now (mm .entry)) ⌝ }
-{
-    let mut kept = [0u32; 256];
-    write_copy(mm.len(), mm, &mut kept);
-    kept
-}
-
-// y at the start of its array.
-fn keep_vector(y: &[u32]) -> [u32; 16]
-    requires { ⌜ length (now y) ≤ 16 ⌝ }
-    ensures { λ r. ⌜ r ≡ padded 16 (now (y .entry)) ⌝ }
-{
-    let mut kept = [0u32; 16];
-    write_copy(y.len(), y, &mut kept);
-    kept
-}
-
-// The session after the first step.
+// The session after the first step: it keeps M and y, each at the start of its array.
 pub fn opened(t: Terms, mm: &[u32], y: &[u32]) -> BlinderSession
     requires { ⌜ (length (now mm) ≤ 256) × (length (now y) ≤ 16) ⌝ }
     ensures { λ r. ⌜ r ≡ record { terms = t; due = 3; mm = padded 256 (now (mm .entry)); y = padded 16 (now (y .entry)) } ⌝ }
 {
-    let matrix = keep_matrix(mm);
-    let vector = keep_vector(y);
+    let mut matrix = [0u32; 256];
+    let mut vector = [0u32; 16];
+    write_copy(mm.len(), mm, &mut matrix);
+    write_copy(y.len(), y, &mut vector);
     BlinderSession {
         terms: t,
         due: 3,

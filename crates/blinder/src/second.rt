@@ -25,7 +25,6 @@ ghost use mathlib.Core.List.{[]};
 ghost use lib.ListN.{length};
 ghost use Rattle.algebra.specs.Words.{over};
 ghost use Rattle.protocol.specs.Judge.{done};
-ghost use Rattle.protocol.specs.Tape.{slotAt};
 ghost use Rattle.protocol.specs.Message.{messageWith};
 ghost use Rattle.protocol.specs.System.{blinderSecondEffect, blinderSecondTests, blinderSecond};
 ghost use Rattle.tape.specs.Placed.{slotIn};
@@ -111,8 +110,7 @@ fn compute(
 // Step 4 (RULES 5.6): W = (U' − F) × Q + P × M × Q − G and c = u + P × y. The pool and the scratch stay as they are.
 pub fn blinder_second(
     pool: &[u32],
-    size: usize,
-    index: usize,
+    at: Place,
     scratch: &[u32],
     s: BlinderSession,
     a: Head,
@@ -120,10 +118,9 @@ pub fn blinder_second(
     out: &mut [u32],
 ) -> BlinderAnswer
     ensures { λ r. ⌜ leaving (r .answer) (r .session) (r .head) (now (pool .entry)) (now (scratch .entry)) (now (out .exit)) []
-        ≡ leaves s (slotAt (now (pool .entry)) size index) (now (scratch .entry)) (now (out .entry)) []
-        (blinderSecond s (slotAt (now (pool .entry)) size index) (now (scratch .entry)) (record { head = a; residues = now (residues .entry) }) (length (now (out .entry)))) ⌝ }
+        ≡ leaves s (slotIn (now (pool .entry)) at) (now (scratch .entry)) (now (out .entry)) []
+        (blinderSecond s (slotIn (now (pool .entry)) at) (now (scratch .entry)) (record { head = a; residues = now (residues .entry) }) (length (now (out .entry)))) ⌝ }
 {
-    let at = Place { size, index };
     let checked = check(pool, at, scratch, s, a, residues, out.len());
     let Check::Passed = checked else {
         return refused(checked, s);

@@ -66,8 +66,7 @@ fn deal(
 pub fn deal_product(
     first: &mut [u32],
     second: &mut [u32],
-    size: usize,
-    index: usize,
+    at: Place,
     tape: TapeId,
     q: u32,
     m: u32,
@@ -76,9 +75,8 @@ pub fn deal_product(
     words: &[u32],
 ) -> Answer
     ensures { λ r. ⌜ _≡_ {A = Pools} (record { answer = answerReply r; first = now (first .exit); second = now (second .exit) })
-        (pools (now (first .entry)) (now (second .entry)) (deal (now (first .entry)) (now (second .entry)) size index (productRequest tape q m k p (now (words .entry))))) ⌝ }
+        (pools (now (first .entry)) (now (second .entry)) (deal (now (first .entry)) (now (second .entry)) (at .size) (at .index) (productRequest tape q m k p (now (words .entry))))) ⌝ }
 {
-    let at = Place { size, index };
     let session = SessionId(1);
     let t = Terms {
         session,
@@ -95,30 +93,29 @@ pub fn deal_product(
 pub fn deal_system(
     first: &mut [u32],
     second: &mut [u32],
-    size: usize,
-    index: usize,
+    at: Place,
     tape: TapeId,
     q: u32,
     n: u32,
     words: &[u32],
 ) -> Answer
     ensures { λ r. ⌜ _≡_ {A = Pools} (record { answer = answerReply r; first = now (first .exit); second = now (second .exit) })
-        (pools (now (first .entry)) (now (second .entry)) (deal (now (first .entry)) (now (second .entry)) size index (systemRequest tape q n (now (words .entry))))) ⌝ }
+        (pools (now (first .entry)) (now (second .entry)) (deal (now (first .entry)) (now (second .entry)) (at .size) (at .index) (systemRequest tape q n (now (words .entry))))) ⌝ }
 {
-    let at = Place { size, index };
     // n + 1 may not be a number of 32 bits
     if !Matrix::unknowns_fit(n) {
         let modulus = check_modulus(End::Blinder, q);
         return answer_of(worst(modulus, Check::Refused(Refusal::Size)));
     }
     let session = SessionId(1);
+    let p = n + 1;
     let t = Terms {
         session,
         tape,
         q,
         m: n,
         k: n,
-        p: n + 1,
+        p,
     };
     deal(Sort::System, t, first, second, at, words)
 }

@@ -9,9 +9,9 @@ use tape::Place;
 use tape::change::spend_at;
 ghost use mathlib.Core.Path.{_≡_};
 ghost use mathlib.Core.List.{[]};
-ghost use Rattle.protocol.specs.Tape.{slotAt};
 ghost use Rattle.protocol.specs.Message.{noMessage};
 ghost use Rattle.protocol.specs.Drop.{dropRight};
+ghost use Rattle.tape.specs.Placed.{slotIn};
 ghost use Rattle.judging.specs.Leaves.{leaves, leaving};
 
 // What a drop answers, and the session as it then is.
@@ -20,11 +20,10 @@ pub struct RightDropped {
     pub session: RightSession,
 }
 
-pub fn right_drop(pool: &mut [u32], size: usize, index: usize, s: RightSession) -> RightDropped
+pub fn right_drop(pool: &mut [u32], at: Place, s: RightSession) -> RightDropped
     ensures { λ r. ⌜ leaving (r .answer) (r .session) (noMessage .head) (now (pool .exit)) [] [] []
-        ≡ leaves s (slotAt (now (pool .entry)) size index) [] [] [] (dropRight s (slotAt (now (pool .entry)) size index)) ⌝ }
+        ≡ leaves s (slotIn (now (pool .entry)) at) [] [] [] (dropRight s (slotIn (now (pool .entry)) at)) ⌝ }
 {
-    let at = Place { size, index };
     let t = s.terms;
     let checked = check_open(End::Right, s.due, t, pool, at);
     let Check::Passed = checked else {

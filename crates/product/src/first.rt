@@ -24,7 +24,6 @@ ghost use Prim.Native.Nat.{_*_};
 ghost use lib.ListN.{length};
 ghost use Rattle.protocol.specs.Judge.{done};
 ghost use Rattle.protocol.specs.Bounds.{inputTests, roomTests};
-ghost use Rattle.protocol.specs.Tape.{slotAt};
 ghost use Rattle.protocol.specs.Message.{messageSize};
 ghost use Rattle.protocol.specs.Product.{noRight, rightFirstEffect, rightFirstTests, rightFirst};
 ghost use Rattle.tape.specs.Placed.{slotIn};
@@ -63,19 +62,11 @@ fn compute(pool: &[u32], at: Place, t: Terms, y: &[u32], out: &mut [u32]) -> Rig
 }
 
 // Step 1 (RULES 4.2): Y1 = Y − Y0.
-pub fn right_first(
-    pool: &mut [u32],
-    size: usize,
-    index: usize,
-    t: Terms,
-    y: &[u32],
-    out: &mut [u32],
-) -> RightAnswer
+pub fn right_first(pool: &mut [u32], at: Place, t: Terms, y: &[u32], out: &mut [u32]) -> RightAnswer
     ensures { λ r. ⌜ leaving (r .answer) (r .session) (r .head) (now (pool .exit)) [] (now (out .exit)) []
-        ≡ leaves noRight (slotAt (now (pool .entry)) size index) [] (now (out .entry)) []
-        (rightFirst t (slotAt (now (pool .entry)) size index) (now (y .entry)) (length (now (out .entry)))) ⌝ }
+        ≡ leaves noRight (slotIn (now (pool .entry)) at) [] (now (out .entry)) []
+        (rightFirst t (slotIn (now (pool .entry)) at) (now (y .entry)) (length (now (out .entry)))) ⌝ }
 {
-    let at = Place { size, index };
     let checked = check(pool, at, t, y, out.len());
     let Check::Passed = checked else {
         return refused(checked);

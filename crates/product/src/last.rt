@@ -23,7 +23,6 @@ ghost use lib.ListN.{length, take, drop};
 ghost use Rattle.algebra.specs.Words.{over};
 ghost use Rattle.algebra.specs.Product.{rightShare};
 ghost use Rattle.protocol.specs.Judge.{done};
-ghost use Rattle.protocol.specs.Tape.{slotAt};
 ghost use Rattle.protocol.specs.Product.{rightLastEffect, rightLastTests, rightLast};
 ghost use Rattle.tape.specs.Placed.{slotIn};
 ghost use Rattle.judging.specs.InOrder.{checked, judged};
@@ -82,18 +81,16 @@ fn compute(
 // Step 3 (RULES 4.4): the share is X1 × Y0 + R1 − B0.
 pub fn right_last(
     pool: &mut [u32],
-    size: usize,
-    index: usize,
+    at: Place,
     s: RightSession,
     a: Head,
     residues: &[u32],
     share: &mut [u32],
 ) -> RightAnswer
     ensures { λ r. ⌜ leaving (r .answer) (r .session) (r .head) (now (pool .exit)) [] [] (now (share .exit))
-        ≡ leaves s (slotAt (now (pool .entry)) size index) [] [] (now (share .entry))
-        (rightLast s (slotAt (now (pool .entry)) size index) (record { head = a; residues = now (residues .entry) }) (length (now (share .entry)))) ⌝ }
+        ≡ leaves s (slotIn (now (pool .entry)) at) [] [] (now (share .entry))
+        (rightLast s (slotIn (now (pool .entry)) at) (record { head = a; residues = now (residues .entry) }) (length (now (share .entry)))) ⌝ }
 {
-    let at = Place { size, index };
     let checked = check(pool, at, s, a, residues, share.len());
     let Check::Passed = checked else {
         return RightAnswer {

@@ -29,7 +29,6 @@ ghost use Rattle.algebra.specs.Words.{over};
 ghost use Rattle.algebra.specs.Product.{sendX, sendR};
 ghost use Rattle.protocol.specs.Judge.{done};
 ghost use Rattle.protocol.specs.Bounds.{inputTests, roomTests};
-ghost use Rattle.protocol.specs.Tape.{slotAt};
 ghost use Rattle.protocol.specs.Message.{messageSize};
 ghost use Rattle.protocol.specs.Product.{leftEffect, leftTests, leftStep};
 ghost use Rattle.tape.specs.Placed.{slotIn};
@@ -129,8 +128,7 @@ fn compute(
 // Step 2 (RULES 4.3): U is drawn, X1 = X + X0 and R1 = X × Y1 − U − A0; the share is U.
 pub fn left_step(
     pool: &mut [u32],
-    size: usize,
-    index: usize,
+    at: Place,
     t: Terms,
     x: &[u32],
     words: &[u32],
@@ -140,11 +138,10 @@ pub fn left_step(
     share: &mut [u32],
 ) -> LeftAnswer
     ensures { λ r. ⌜ leaving (r .answer) tt (r .head) (now (pool .exit)) [] (now (out .exit)) (now (share .exit))
-        ≡ leaves tt (slotAt (now (pool .entry)) size index) [] (now (out .entry)) (now (share .entry))
-        (leftStep t (slotAt (now (pool .entry)) size index) (now (x .entry)) (now (words .entry)) (record { head = a; residues = now (residues .entry) })
+        ≡ leaves tt (slotIn (now (pool .entry)) at) [] (now (out .entry)) (now (share .entry))
+        (leftStep t (slotIn (now (pool .entry)) at) (now (x .entry)) (now (words .entry)) (record { head = a; residues = now (residues .entry) })
         (length (now (out .entry))) (length (now (share .entry)))) ⌝ }
 {
-    let at = Place { size, index };
     let room = out.len();
     let given = share.len();
     let checked = check(pool, at, t, x, words, a, residues, room, given);

@@ -10,6 +10,7 @@ use protocol::Head;
 use protocol::Terms;
 use rehearse_lines::print;
 use tape::End;
+use tape::Place;
 use tape::half::half_size;
 use vectors::times;
 ghost use mathlib.Core.Path.{_≡_};
@@ -49,13 +50,16 @@ fn steps(
         → Rooms t (length (now (y1 .entry))) (length (now (x1r1 .entry))) (length (now (u .entry))) (length (now (v .entry)))
         → runOf (r .one) (now (y1 .exit)) (r .two) (now (x1r1 .exit)) (now (u .exit)) (now (v .exit)) ≡ run (inputOf t (now (x .entry)) (now (y .entry)) d (now (coins .entry)))) ⌝ }
 {
-    let size = first.len();
-    let sent = right_first(second, size, 0, t, y, y1);
+    let at = Place {
+        size: first.len(),
+        index: 0,
+    };
+    let sent = right_first(second, at, t, y, y1);
     let one = sent.head;
     let open = sent.session;
-    let replied = left_step(first, size, 0, t, x, coins, one, y1, x1r1, u);
+    let replied = left_step(first, at, t, x, coins, one, y1, x1r1, u);
     let two = replied.head;
-    right_last(second, size, 0, open, two, x1r1, v);
+    right_last(second, at, open, two, x1r1, v);
     Heads { one, two }
 }
 
@@ -129,8 +133,7 @@ pub fn perform(
     deal_product(
         &mut first[..size],
         &mut second[..size],
-        size,
-        0,
+        Place { size, index: 0 },
         id,
         t.q,
         t.m,

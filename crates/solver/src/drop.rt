@@ -11,16 +11,15 @@ use tape::Place;
 use tape::change::spend_at;
 ghost use mathlib.Core.Path.{_≡_};
 ghost use mathlib.Core.List.{[]};
-ghost use Rattle.protocol.specs.Tape.{slotAt};
 ghost use Rattle.protocol.specs.Message.{noMessage};
 ghost use Rattle.protocol.specs.Drop.{dropSolver};
+ghost use Rattle.tape.specs.Placed.{slotIn};
 ghost use Rattle.judging.specs.Leaves.{leaves, leaving};
 
-pub fn solver_drop(pool: &mut [u32], size: usize, index: usize, s: SolverSession) -> SolverDropped
+pub fn solver_drop(pool: &mut [u32], at: Place, s: SolverSession) -> SolverDropped
     ensures { λ r. ⌜ leaving (r .answer) (r .session) (noMessage .head) (now (pool .exit)) [] [] []
-        ≡ leaves s (slotAt (now (pool .entry)) size index) [] [] [] (dropSolver s (slotAt (now (pool .entry)) size index)) ⌝ }
+        ≡ leaves s (slotIn (now (pool .entry)) at) [] [] [] (dropSolver s (slotIn (now (pool .entry)) at)) ⌝ }
 {
-    let at = Place { size, index };
     let t = s.terms;
     let checked = check_open(End::Solver, s.due, t, pool, at);
     let Check::Passed = checked else {

@@ -36,7 +36,7 @@ ghost use Rattle.algebra.specs.Words.{over};
 ghost use Rattle.algebra.specs.Product.{sendY};
 ghost use Rattle.protocol.specs.Judge.{done};
 ghost use Rattle.protocol.specs.Bounds.{sidesFit, system, columns, inputTests, roomTests};
-ghost use Rattle.protocol.specs.Tape.{solver, slotAt};
+ghost use Rattle.protocol.specs.Tape.{solver};
 ghost use Rattle.protocol.specs.Message.{messageSize};
 ghost use Rattle.protocol.specs.Step.{firstTests};
 ghost use Rattle.protocol.specs.System.{noSolver, sideSize, solverFirstEffect, solverFirstTests, solverFirst};
@@ -94,18 +94,16 @@ fn compute(pool: &[u32], at: Place, t: Terms, l: &[u32], x: &[u32], out: &mut [u
 // Step 1 (RULES 5.3): Y1 = [L, x] − Y0.
 pub fn solver_first(
     pool: &mut [u32],
-    size: usize,
-    index: usize,
+    at: Place,
     t: Terms,
     l: &[u32],
     x: &[u32],
     out: &mut [u32],
 ) -> SolverAnswer
     ensures { λ r. ⌜ leaving (r .answer) (r .session) (r .head) (now (pool .exit)) [] (now (out .exit)) []
-        ≡ leaves noSolver (slotAt (now (pool .entry)) size index) [] (now (out .entry)) []
-        (solverFirst t (slotAt (now (pool .entry)) size index) (now (l .entry)) (now (x .entry)) (length (now (out .entry)))) ⌝ }
+        ≡ leaves noSolver (slotIn (now (pool .entry)) at) [] (now (out .entry)) []
+        (solverFirst t (slotIn (now (pool .entry)) at) (now (l .entry)) (now (x .entry)) (length (now (out .entry)))) ⌝ }
 {
-    let at = Place { size, index };
     let checked = check(pool, at, t, l, x, out.len());
     let Check::Passed = checked else {
         return refused(checked, no_session());

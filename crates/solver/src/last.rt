@@ -32,7 +32,6 @@ ghost use Rattle.algebra.specs.Prime.{isPrime};
 ghost use Rattle.algebra.specs.Words.{over};
 ghost use Rattle.protocol.specs.Judge.{done};
 ghost use Rattle.protocol.specs.Bounds.{sidesFit, system};
-ghost use Rattle.protocol.specs.Tape.{slotAt};
 ghost use Rattle.protocol.specs.Message.{messageWith};
 ghost use Rattle.protocol.specs.System.{sideSize, solverLastEffect, solverLastTests, solverLast};
 ghost use Rattle.tape.specs.Placed.{slotIn};
@@ -115,18 +114,16 @@ fn compute(
 // Step 5 (RULES 5.7): the t with (W + V) t = c + s.
 pub fn solver_last(
     pool: &mut [u32],
-    size: usize,
-    index: usize,
+    at: Place,
     s: SolverSession,
     a: Head,
     residues: &[u32],
     out: &mut [u32],
 ) -> SolverAnswer
     ensures { λ r. ⌜ leaving (r .answer) (r .session) (r .head) (now (pool .exit)) [] (now (out .exit)) []
-        ≡ leaves s (slotAt (now (pool .entry)) size index) [] (now (out .entry)) []
-        (solverLast s (slotAt (now (pool .entry)) size index) (record { head = a; residues = now (residues .entry) }) (length (now (out .entry)))) ⌝ }
+        ≡ leaves s (slotIn (now (pool .entry)) at) [] (now (out .entry)) []
+        (solverLast s (slotIn (now (pool .entry)) at) (record { head = a; residues = now (residues .entry) }) (length (now (out .entry)))) ⌝ }
 {
-    let at = Place { size, index };
     let checked = check(pool, at, 4, 5, s, a, residues, out.len());
     let Check::Passed = checked else {
         return refused(checked, s);

@@ -26,7 +26,6 @@ ghost use Rattle.algebra.specs.Words.{over};
 ghost use Rattle.protocol.specs.declared.Answer.the-variants.{Accepted};
 ghost use Rattle.protocol.specs.Judge.{done};
 ghost use Rattle.protocol.specs.Bounds.{columns, sidesFit, system};
-ghost use Rattle.protocol.specs.Tape.{slotAt};
 ghost use Rattle.protocol.specs.Message.{messageWith};
 ghost use Rattle.protocol.specs.System.{padded, solverSecondEffect, solverSecondTests, solverSecond};
 ghost use Rattle.tape.specs.Placed.{slotIn};
@@ -124,18 +123,16 @@ fn compute(
 // Step 3 (RULES 5.5): S = X1 × Y0 + R1 − B0, its last column s is kept, and F = R − S' is sent. The pool stays as it is.
 pub fn solver_second(
     pool: &[u32],
-    size: usize,
-    index: usize,
+    at: Place,
     s: SolverSession,
     a: Head,
     residues: &[u32],
     out: &mut [u32],
 ) -> SolverAnswer
     ensures { λ r. ⌜ leaving (r .answer) (r .session) (r .head) (now (pool .entry)) [] (now (out .exit)) []
-        ≡ leaves s (slotAt (now (pool .entry)) size index) [] (now (out .entry)) []
-        (solverSecond s (slotAt (now (pool .entry)) size index) (record { head = a; residues = now (residues .entry) }) (length (now (out .entry)))) ⌝ }
+        ≡ leaves s (slotIn (now (pool .entry)) at) [] (now (out .entry)) []
+        (solverSecond s (slotIn (now (pool .entry)) at) (record { head = a; residues = now (residues .entry) }) (length (now (out .entry)))) ⌝ }
 {
-    let at = Place { size, index };
     let checked = check(pool, at, 2, 3, s, a, residues, out.len());
     let Check::Passed = checked else {
         return refused(checked, s);

@@ -5,21 +5,14 @@ use dealer::deal_system;
 use judging::message::no_head;
 use protocol::Answer;
 use protocol::Terms;
+use tape::Place;
 
-fn deal(
-    c: u32,
-    first: &mut [u32],
-    second: &mut [u32],
-    size: usize,
-    index: usize,
-    t: Terms,
-    raw: &[u32],
-) -> Answer {
+fn deal(c: u32, first: &mut [u32], second: &mut [u32], at: Place, t: Terms, raw: &[u32]) -> Answer {
     let id = t.tape;
     if c == 10 {
-        return deal_product(first, second, size, index, id, t.q, t.m, t.k, t.p, raw);
+        return deal_product(first, second, at, id, t.q, t.m, t.k, t.p, raw);
     }
-    deal_system(first, second, size, index, id, t.q, t.m, raw)
+    deal_system(first, second, at, id, t.q, t.m, raw)
 }
 
 // 10 deal_product, 11 deal_system.
@@ -37,6 +30,13 @@ pub extern "C" fn call_deal(
     if words::is_short(c, terms.len(), 0, 0, report.len()) {
         return 99;
     }
-    let a = deal(c, first, second, size, index, words::terms_of(terms), raw);
+    let a = deal(
+        c,
+        first,
+        second,
+        Place { size, index },
+        words::terms_of(terms),
+        raw,
+    );
     words::report_of(a, no_head(), report)
 }

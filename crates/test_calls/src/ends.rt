@@ -15,12 +15,12 @@ use solver::solver_drop;
 use solver::solver_first;
 use solver::solver_last;
 use solver::solver_second;
+use tape::Place;
 
 // What a call is asked: its number, its slot, its terms, and the head of the message that it takes.
 pub struct Asked {
     pub call: u32,
-    pub size: usize,
-    pub index: usize,
+    pub at: Place,
     pub terms: Terms,
     pub head: Head,
 }
@@ -37,7 +37,7 @@ fn left(
 ) -> Done {
     let t = q.terms;
     let a = q.head;
-    words::left_done(left_step(pool, q.size, q.index, t, x, raw, a, residues, out, share))
+    words::left_done(left_step(pool, q.at, t, x, raw, a, residues, out, share))
 }
 
 // 12 right_first, 14 right_last, 21 right_drop.
@@ -53,13 +53,13 @@ fn right(
     let t = q.terms;
     let a = q.head;
     if q.call == 12 {
-        return words::right_done(right_first(pool, q.size, q.index, t, y, out));
+        return words::right_done(right_first(pool, q.at, t, y, out));
     }
     let s = words::right_of(session);
     if q.call == 14 {
-        return words::right_done(right_last(pool, q.size, q.index, s, a, residues, share));
+        return words::right_done(right_last(pool, q.at, s, a, residues, share));
     }
-    words::right_dropped(right_drop(pool, q.size, q.index, s))
+    words::right_dropped(right_drop(pool, q.at, s))
 }
 
 // 15 solver_first, 16 solver_second, 17 solver_last, 22 solver_drop.
@@ -75,16 +75,16 @@ fn solver(
     let t = q.terms;
     let a = q.head;
     if q.call == 15 {
-        return words::solver_done(solver_first(pool, q.size, q.index, t, l, x, out));
+        return words::solver_done(solver_first(pool, q.at, t, l, x, out));
     }
     let s = words::solver_of(session);
     if q.call == 16 {
-        return words::solver_done(solver_second(pool, q.size, q.index, s, a, residues, out));
+        return words::solver_done(solver_second(pool, q.at, s, a, residues, out));
     }
     if q.call == 17 {
-        return words::solver_done(solver_last(pool, q.size, q.index, s, a, residues, out));
+        return words::solver_done(solver_last(pool, q.at, s, a, residues, out));
     }
-    words::solver_dropped(solver_drop(pool, q.size, q.index, s))
+    words::solver_dropped(solver_drop(pool, q.at, s))
 }
 
 // 18 blinder_first, 19 blinder_second, 20 blinder_last, 23 blinder_drop.
@@ -105,8 +105,7 @@ fn blinder(
     if q.call == 18 {
         return words::blinder_done(blinder_first(
             pool,
-            q.size,
-            q.index,
+            q.at,
             scratch,
             t,
             mm,
@@ -119,30 +118,12 @@ fn blinder(
     }
     let s = words::blinder_of(session);
     if q.call == 19 {
-        return words::blinder_done(blinder_second(
-            pool,
-            q.size,
-            q.index,
-            scratch,
-            s,
-            a,
-            residues,
-            out,
-        ));
+        return words::blinder_done(blinder_second(pool, q.at, scratch, s, a, residues, out));
     }
     if q.call == 20 {
-        return words::blinder_done(blinder_last(
-            pool,
-            q.size,
-            q.index,
-            scratch,
-            s,
-            a,
-            residues,
-            share,
-        ));
+        return words::blinder_done(blinder_last(pool, q.at, scratch, s, a, residues, share));
     }
-    words::blinder_dropped(blinder_drop(pool, q.size, q.index, scratch, s))
+    words::blinder_dropped(blinder_drop(pool, q.at, scratch, s))
 }
 
 pub fn step(

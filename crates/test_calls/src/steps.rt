@@ -2,6 +2,7 @@
 use crate::ends;
 use crate::ends::Asked;
 use crate::words;
+use tape::Place;
 ghost use mathlib.Core.Path.{_≡_};
 ghost use mathlib.Core.Logic.{_⊎_, _≢_};
 
@@ -33,8 +34,7 @@ pub extern "C" fn call_step(
     let a = words::head_of(head);
     let q = Asked {
         call: c,
-        size,
-        index,
+        at: Place { size, index },
         terms: t,
         head: a,
     };

@@ -34,12 +34,12 @@ returns c =
     let apart = wide (a .n) (fails (c .before .before .before .before .unknowns-fit .ensures) (c .before .before .before .if1 .taken)) in
     let found = judged (modulusTests system (a .q)) in
     let told = rw (c .before .before .check-modulus .ensures) at (worst .ensures) in
-    let all = unfit (slotAt (a .first .now) (a .size) (a .index)) (slotAt (a .second .now) (a .size) (a .index)) r apart in
-    rw (c .answer-of .ensures) (deal-checked (a .first .now) (a .second .now) (a .size) (a .index) r (worst .result) found Size told all)
+    let all = unfit (slotAt (a .first .now) (a .at .size) (a .at .index)) (slotAt (a .second .now) (a .at .size) (a .at .index)) r apart in
+    rw (c .answer-of .ensures) (deal-checked (a .first .now) (a .second .now) (a .at .size) (a .at .index) r (worst .result) found Size told all)
 
-add-t19 : tie.Need-add-t19
+add-p : tie.Need-add-p
 unfolding within
-add-t19 c =
+add-p c =
     let a = c .before .before .before .before .before .args in
     let few = leb-true (a .n) 16 (and-right _ _ (holds (c .before .unknowns-fit .ensures) (c .if1 .left))) in
     search needs
@@ -65,7 +65,7 @@ deal-system-spec =
     worst-requires
     answer-of-requires
     returns
-    add-t19
+    add-p
     deal-requires
     same-length
     same-length-2

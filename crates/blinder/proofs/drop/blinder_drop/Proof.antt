@@ -32,7 +32,7 @@ unfolding dropBlinder
 returns c =
     let told = c .before .before .before .before .before .before .before .before in
     let a = told .args in
-    let s = slotAt (a .pool .now) (a .size) (a .index) in
+    let s = slotAt (a .pool .now) (a .at .size) (a .at .index) in
     let e = c .before .enum-told2 .given .1 in
     rw (c .answer-of .ensures, e) (sym (refused-leaves (a .s) s (a .scratch .now) [] [] _ _ (sym (c .before .before .before .check .ensures) ∙ ap checked e)))
 
@@ -40,7 +40,7 @@ forget-requires : tie.Need-forget-requires
 forget-requires c κs =
     let told = c .before .before .before .before .before .before .before .before in
     let a = told .args in
-    let s = slotAt (a .pool .now) (a .size) (a .index) in
+    let s = slotAt (a .pool .now) (a .at .size) (a .at .index) in
     let f = drop-known (a .s) s (a .scratch .now) (sym (c .before .before .before .check .ensures) ∙ ap checked (c .before .enum-told .given .1)) in
     (f .session-open .terms .sides, f .scratch-room)
 
@@ -48,7 +48,7 @@ spend-at-requires : tie.Need-spend-at-requires
 spend-at-requires c κs =
     let told = c .before .before .before .before .before in
     let a = told .before .before .before .before .before .before .before .args in
-    let s = slotAt (a .pool .now) (a .size) (a .index) in
+    let s = slotAt (a .pool .now) (a .at .size) (a .at .index) in
     let f = drop-known (a .s) s (a .scratch .now) (sym (told .before .before .check .ensures) ∙ ap checked (told .enum-told .given .1)) in
     open-placed blinder (a .s .terms) s (f .session-open)
 
@@ -63,7 +63,7 @@ unfolding dropBlinder over
 returns-2 c =
     let told = c .before .before .before .before .before .before in
     let a = told .before .before .before .before .before .before .before .before .before .args in
-    let s = slotAt (a .pool .now) (a .size) (a .index) in
+    let s = slotAt (a .pool .now) (a .at .size) (a .at .index) in
     rw (told .forget .ensures .0, told .forget .ensures .1)
     (step-leaves (a .s) s (a .scratch .now) [] [] _ _
     (sym (told .before .before .before .before .check .ensures) ∙ ap checked (told .before .before .enum-told .given .1)) refl

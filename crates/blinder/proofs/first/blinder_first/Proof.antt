@@ -36,7 +36,7 @@ unfolding blinderFirst
 returns c =
     let told = c .before .before .before .before in
     let a = told .before .before .before .before .before .before .before .before .before .args in
-    let s = slotAt (a .pool .now) (a .size) (a .index) in
+    let s = slotAt (a .pool .now) (a .at .size) (a .at .index) in
     let m = messageWith (a .a) (a .residues .now) in
     let e = c .before .before .enum-told2 .given .1 in
     rw (c .refused .ensures, c .before .no-session .ensures, e)
@@ -50,7 +50,7 @@ take-up-at-requires : tie.Need-take-up-at-requires
 take-up-at-requires c κs =
     let told = c .before .before .before .before .before .before .before .before .before in
     let a = told .before .before .before .before .before .before .before .before .before .before .before .args in
-    let s = slotAt (a .pool .now) (a .size) (a .index) in
+    let s = slotAt (a .pool .now) (a .at .size) (a .at .index) in
     let m = messageWith (a .a) (a .residues .now) in
     let f = first-known (a .t) s (length (a .scratch .now)) (a .mm .now) (a .y .now) m (length (a .out .now)) (a .words .now)
     (sym (told .before .before .check .ensures) ∙ ap checked (told .enum-told .given .1)) in
@@ -70,7 +70,7 @@ unfolding blinderFirst blinderFirstEffect
 returns-2 c =
     let told = c .before .before .before .before .before .before .before .before .before .before in
     let a = told .before .before .before .before .before .before .before .before .before .before .before .before .before .args in
-    let s = slotAt (a .pool .now) (a .size) (a .index) in
+    let s = slotAt (a .pool .now) (a .at .size) (a .at .index) in
     let m = messageWith (a .a) (a .residues .now) in
     step-leaves noBlinder s (a .scratch .now) (a .out .now) [] _ (blinderFirstEffect (a .t) s (a .mm .now) (a .y .now) (a .words .now) m)
     (sym (told .before .before .before .before .check .ensures) ∙ ap checked (told .before .before .enum-told .given .1))

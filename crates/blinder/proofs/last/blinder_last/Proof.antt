@@ -36,7 +36,7 @@ unfolding blinderLast
 returns c =
     let told = c .before .before .before .before .before .before .before .before .before .before in
     let a = told .args in
-    let s = slotAt (a .pool .now) (a .size) (a .index) in
+    let s = slotAt (a .pool .now) (a .at .size) (a .at .index) in
     let m = messageWith (a .a) (a .residues .now) in
     let e = c .before .enum-told2 .given .1 in
     rw (c .refused .ensures, e)
@@ -50,7 +50,7 @@ spend-at-requires : tie.Need-spend-at-requires
 spend-at-requires c κs =
     let told = c .before .before .before .before .before .before .before .before .before in
     let a = told .before .before .before .before .before .before .before .before .before .args in
-    let s = slotAt (a .pool .now) (a .size) (a .index) in
+    let s = slotAt (a .pool .now) (a .at .size) (a .at .index) in
     let m = messageWith (a .a) (a .residues .now) in
     open-placed blinder (a .s .terms) s
     (last-known (a .s) s m (a .scratch .now) (length (a .out .now))
@@ -70,7 +70,7 @@ unfolding blinderLast blinderLastEffect
 returns-2 c =
     let told = c .before .before .before .before .before .before .before .before in
     let a = told .before .before .before .before .before .before .before .before .before .before .before .before .before .args in
-    let s = slotAt (a .pool .now) (a .size) (a .index) in
+    let s = slotAt (a .pool .now) (a .at .size) (a .at .index) in
     let m = messageWith (a .a) (a .residues .now) in
     step-leaves (a .s) s (a .scratch .now) [] (a .out .now) _ (blinderLastEffect (a .s) s (a .scratch .now) m)
     (sym (told .before .before .before .before .before .before .check .ensures) ∙ ap checked (told .before .before .before .before .enum-told .given .1))

@@ -30,7 +30,7 @@ unfolding blinderSecond
 returns c =
     let told = c .before .before .before .before .before .before .before .before in
     let a = told .args in
-    let s = slotAt (a .pool .now) (a .size) (a .index) in
+    let s = slotAt (a .pool .now) (a .at .size) (a .at .index) in
     let m = messageWith (a .a) (a .residues .now) in
     let e = c .before .enum-told2 .given .1 in
     rw (c .refused .ensures, e)
@@ -48,7 +48,7 @@ unfolding blinderSecond blinderSecondEffect
 returns-2 c =
     let told = c .before .before .before .before in
     let a = told .before .before .before .before .before .before .before .args in
-    let s = slotAt (a .pool .now) (a .size) (a .index) in
+    let s = slotAt (a .pool .now) (a .at .size) (a .at .index) in
     let m = messageWith (a .a) (a .residues .now) in
     let f = second-known (a .s) s m (a .scratch .now) (length (a .out .now))
     (sym (told .before .before .check .ensures) ∙ ap checked (told .enum-told .given .1)) in

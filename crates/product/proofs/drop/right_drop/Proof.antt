@@ -33,7 +33,7 @@ unfolding dropRight
 returns c =
     let told = c .before in
     let a = told .before .before .before .before .before .before .args in
-    let s = slotAt (a .pool .now) (a .size) (a .index) in
+    let s = slotAt (a .pool .now) (a .at .size) (a .at .index) in
     let e = told .enum-told2 .given .1 in
     rw (c .answer-of .ensures, e)
     (sym (refused-leaves (a .s) s [] [] [] _ (dropped (closedRight (a .s)) (wordsSpent right (a .s .terms) (slotWords s)) []) (sym (told .before .before .check-open .ensures) ∙ ap checked e)))
@@ -42,7 +42,7 @@ spend-at-requires : tie.Need-spend-at-requires
 spend-at-requires c κs =
     let told = c .before in
     let a = told .before .before .before .before .before .before .args in
-    let s = slotAt (a .pool .now) (a .size) (a .index) in
+    let s = slotAt (a .pool .now) (a .at .size) (a .at .index) in
     open-placed right (a .s .terms) s (drop-known _ _ s (sym (told .before .before .check-open .ensures) ∙ ap checked (told .enum-told .given .1)))
 
 same-length-2 : tie.Need-same-length-2
@@ -53,7 +53,7 @@ unfolding dropRight over
 returns-2 c =
     let told = c .before .before .before .before in
     let a = told .before .before .before .before .before .before .args in
-    let s = slotAt (a .pool .now) (a .size) (a .index) in
+    let s = slotAt (a .pool .now) (a .at .size) (a .at .index) in
     rw (c .before .before .spend-at .ensures)
     (sym (accepted-leaves (a .s) s [] [] [] _ (dropped (closedRight (a .s)) (wordsSpent right (a .s .terms) (slotWords s)) [])
     (sym (told .before .before .check-open .ensures) ∙ ap checked (told .enum-told .given .1))))

@@ -31,7 +31,7 @@ returns : tie.Need-returns
 unfolding rightFirst
 returns c =
     let a = c .before .before .before .before .before .before .before .before .args in
-    let s = slotAt (a .pool .now) (a .size) (a .index) in
+    let s = slotAt (a .pool .now) (a .at .size) (a .at .index) in
     let e = c .before .enum-told2 .given .1 in
     rw (c .refused .ensures, e)
     (sym (refused-leaves noRight s [] (a .out .now) [] _ (rightFirstEffect (a .t) s (a .y .now)) (sym (c .before .before .before .check .ensures) ∙ ap checked e)))
@@ -44,7 +44,7 @@ take-up-at-requires c κs =
     let told = c .before .before .before .before .before .before in
     let start = told .before .before .before .before .before .before .before in
     let a = start .args in
-    let s = slotAt (a .pool .now) (a .size) (a .index) in
+    let s = slotAt (a .pool .now) (a .at .size) (a .at .index) in
     placed right (a .t) s (first-known (a .t) s (a .y .now) (length (a .out .now)) (sym (told .before .before .check .ensures) ∙ ap checked (told .enum-told .given .1)) .first)
 
 same-length-2 : tie.Need-same-length-2
@@ -58,7 +58,7 @@ unfolding rightFirst rightFirstEffect
 returns-2 c =
     let told = c .before .before .before .before .before .before .before .before .before in
     let a = told .before .before .before .before .before .before .before .args in
-    let s = slotAt (a .pool .now) (a .size) (a .index) in
+    let s = slotAt (a .pool .now) (a .at .size) (a .at .index) in
     step-leaves noRight s [] (a .out .now) [] _ (rightFirstEffect (a .t) s (a .y .now)) (sym (told .before .before .check .ensures) ∙ ap checked (told .enum-told .given .1))
     (c .before .before .before .before .before .before .compute .ensures) (c .before .before .take-up-at .ensures)
 

@@ -34,7 +34,7 @@ unfolding rightLast
 returns c =
     let told = c .before .before in
     let a = told .before .before .before .before .before .before .before .args in
-    let s = slotAt (a .pool .now) (a .size) (a .index) in
+    let s = slotAt (a .pool .now) (a .at .size) (a .at .index) in
     let e = told .enum-told2 .given .1 in
     rw (c .no-head .ensures, c .before .answer-of .ensures, e)
     (sym (refused-leaves (a .s) s [] [] (a .share .now) _ (rightLastEffect (a .s) s _) (sym (told .before .before .check .ensures) ∙ ap checked e)))
@@ -46,7 +46,7 @@ spend-at-requires : tie.Need-spend-at-requires
 spend-at-requires c κs =
     let told = c .before .before .before .before .before .before in
     let a = told .before .before .before .before .before .before .before .args in
-    let s = slotAt (a .pool .now) (a .size) (a .index) in
+    let s = slotAt (a .pool .now) (a .at .size) (a .at .index) in
     let known = last-known (a .s) s _ _ (sym (told .before .before .check .ensures) ∙ ap checked (told .enum-told .given .1)) in
     open-placed right (a .s .terms) s (known .later .session-open)
 
@@ -61,7 +61,7 @@ unfolding rightLast rightLastEffect
 returns-2 c =
     let told = c .before .before .before .before .before .before .before .before .before in
     let a = told .before .before .before .before .before .before .before .args in
-    let s = slotAt (a .pool .now) (a .size) (a .index) in
+    let s = slotAt (a .pool .now) (a .at .size) (a .at .index) in
     step-leaves (a .s) s [] [] (a .share .now) _ (rightLastEffect (a .s) s _) (sym (told .before .before .check .ensures) ∙ ap checked (told .enum-told .given .1))
     (c .before .before .before .before .before .before .compute .ensures) (c .before .before .spend-at .ensures)
 

@@ -34,7 +34,7 @@ unfolding leftStep
 returns c =
     let told = c .before .before in
     let a = told .before .before .before .before .before .before .before .before .before .before .args in
-    let s = slotAt (a .pool .now) (a .size) (a .index) in
+    let s = slotAt (a .pool .now) (a .at .size) (a .at .index) in
     let e = told .enum-told2 .given .1 in
     rw (c .no-head .ensures, c .before .answer-of .ensures, e)
     (sym (refused-leaves tt s [] (a .out .now) (a .share .now) _ (leftEffect (a .t) s (a .x .now) (a .words .now) _) (sym (told .before .before .check .ensures) ∙ ap checked e)))
@@ -46,7 +46,7 @@ spend-at-requires : tie.Need-spend-at-requires
 spend-at-requires c κs =
     let told = c .before .before .before .before .before .before .before .before .before in
     let a = told .before .before .before .before .before .before .before .before .before .before .args in
-    let s = slotAt (a .pool .now) (a .size) (a .index) in
+    let s = slotAt (a .pool .now) (a .at .size) (a .at .index) in
     first-placed left (a .t) s (left-known (a .t) s (a .x .now) (a .words .now) _ _ _ (sym (told .before .before .check .ensures) ∙ ap checked (told .enum-told .given .1)) .first)
 
 same-length-2 : tie.Need-same-length-2
@@ -63,7 +63,7 @@ unfolding leftStep leftEffect
 returns-2 c =
     let told = c .before .before .before .before .before .before .before .before .before .before .before .before in
     let a = told .before .before .before .before .before .before .before .before .before .before .args in
-    let s = slotAt (a .pool .now) (a .size) (a .index) in
+    let s = slotAt (a .pool .now) (a .at .size) (a .at .index) in
     step-leaves tt s [] (a .out .now) (a .share .now) _ (leftEffect (a .t) s (a .x .now) (a .words .now) _)
     (sym (told .before .before .check .ensures) ∙ ap checked (told .enum-told .given .1)) (c .before .before .before .before .before .before .before .before .compute .ensures) (c .before .before .spend-at .ensures)
 

@@ -34,7 +34,7 @@ unfolding dropSolver over
 returns c =
     let check-open = c .before .before .before .check-open in
     let a = c .before .before .before .before .before .before .before .args in
-    let s = slotAt (a .pool .now) (a .size) (a .index) in
+    let s = slotAt (a .pool .now) (a .at .size) (a .at .index) in
     let e = c .before .enum-told2 .given .1 in
     let effect = dropped (closedSolver (a .s)) (wordsSpent solver (a .s .terms) (slotWords s)) [] in
     rw (c .answer-of .ensures, e) (sym (refused-leaves (a .s) s [] [] [] _ effect (sym (check-open .ensures) ∙ ap checked e)))
@@ -42,7 +42,7 @@ returns c =
 spend-at-requires : tie.Need-spend-at-requires
 spend-at-requires c κs =
     let a = c .before .before .before .before .before .before .before .args in
-    let s = slotAt (a .pool .now) (a .size) (a .index) in
+    let s = slotAt (a .pool .now) (a .at .size) (a .at .index) in
     let e = sym (c .before .before .before .check-open .ensures) ∙ ap checked (c .before .enum-told .given .1) in
     open-placed solver (a .s .terms) s (open-tests solver (a .s .due) (a .s .terms) s .0 (record { all = passed _ e .0 }))
 
@@ -58,7 +58,7 @@ returns-2 c =
     let check-open = c .before .before .before .before .before .before .before .check-open in
     let enum-told = c .before .before .before .before .before .enum-told in
     let a = c .before .before .before .before .before .before .before .before .before .before .before .args in
-    let s = slotAt (a .pool .now) (a .size) (a .index) in
+    let s = slotAt (a .pool .now) (a .at .size) (a .at .index) in
     let e = sym (check-open .ensures) ∙ ap checked (enum-told .given .1) in
     let effect = dropped (closedSolver (a .s)) (wordsSpent solver (a .s .terms) (slotWords s)) [] in
     rw (c .session-of .ensures) (step-leaves (a .s) s [] [] [] _ effect e refl (c .before .before .before .spend-at .ensures))

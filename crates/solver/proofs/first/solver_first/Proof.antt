@@ -35,7 +35,7 @@ unfolding solverFirst
 returns c =
     let check = c .before .before .before .before .check in
     let a = c .before .before .before .before .before .before .before .before .before .before .args in
-    let s = slotAt (a .pool .now) (a .size) (a .index) in
+    let s = slotAt (a .pool .now) (a .at .size) (a .at .index) in
     let e = c .before .before .enum-told2 .given .1 in
     rw (c .refused .ensures, c .before .no-session .ensures, e)
     (sym (refused-leaves noSolver s [] (a .out .now) [] _ (solverFirstEffect (a .t) s (a .l .now) (a .x .now)) (sym (check .ensures) ∙ ap checked e)))
@@ -49,7 +49,7 @@ take-up-at-requires c κs =
     let check = c .before .before .before .before .before .before .before .before .check in
     let enum-told = c .before .before .before .before .before .before .enum-told in
     let a = far .before .before .before .before .args in
-    let s = slotAt (a .pool .now) (a .size) (a .index) in
+    let s = slotAt (a .pool .now) (a .at .size) (a .at .index) in
     let passed = sym (check .ensures) ∙ ap checked (enum-told .given .1) in
     placed solver (a .t) s (first-known (a .t) s (a .l .now) (a .x .now) (length (a .out .now)) passed .first)
 
@@ -68,7 +68,7 @@ returns-2 c =
     let compute = c .before .before .before .before .before .before .compute in
     let take-up-at = c .before .before .take-up-at in
     let a = far .before .before .before .before .before .before .before .args in
-    let s = slotAt (a .pool .now) (a .size) (a .index) in
+    let s = slotAt (a .pool .now) (a .at .size) (a .at .index) in
     let passed = sym (check .ensures) ∙ ap checked (enum-told .given .1) in
     step-leaves noSolver s [] (a .out .now) [] _ (solverFirstEffect (a .t) s (a .l .now) (a .x .now)) passed (compute .ensures) (take-up-at .ensures)
 

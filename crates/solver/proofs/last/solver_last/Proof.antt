@@ -34,7 +34,7 @@ unfolding solverLast solverLastTests receiving
 returns c =
     let check = c .before .before .before .check in
     let a = c .before .before .before .before .before .before .before .before .args in
-    let s = slotAt (a .pool .now) (a .size) (a .index) in
+    let s = slotAt (a .pool .now) (a .at .size) (a .at .index) in
     let e = c .before .enum-told2 .given .1 in
     let effect = solverLastEffect (a .s) s (messageWith (a .a) (a .residues .now)) in
     rw (c .refused .ensures, e) (sym (refused-leaves (a .s) s [] (a .out .now) [] _ effect (sym (check .ensures) ∙ ap checked e)))
@@ -49,7 +49,7 @@ spend-at-requires c κs =
     let check = c .before .before .before .before .before .before .before .before .check in
     let enum-told = c .before .before .before .before .before .before .enum-told in
     let a = c .before .before .before .before .before .before .before .before .before .before .before .before .before .args in
-    let s = slotAt (a .pool .now) (a .size) (a .index) in
+    let s = slotAt (a .pool .now) (a .at .size) (a .at .index) in
     let passed = sym (check .ensures) ∙ ap checked (enum-told .given .1) in
     let k = last-known (a .s) s (messageWith (a .a) (a .residues .now)) (length (a .out .now)) passed in
     placed solver (a .s .terms) s (k .later .session-open)
@@ -69,7 +69,7 @@ returns-2 c =
     let compute = c .before .before .before .before .before .before .compute in
     let spend-at = c .before .before .spend-at in
     let a = far .before .before .before .before .before .before .args in
-    let s = slotAt (a .pool .now) (a .size) (a .index) in
+    let s = slotAt (a .pool .now) (a .at .size) (a .at .index) in
     let passed = sym (check .ensures) ∙ ap checked (enum-told .given .1) in
     let effect = solverLastEffect (a .s) s (messageWith (a .a) (a .residues .now)) in
     step-leaves (a .s) s [] (a .out .now) [] _ effect passed (compute .ensures) (spend-at .ensures)

@@ -31,7 +31,7 @@ unfolding solverSecond solverSecondTests receiving
 returns c =
     let check = c .before .before .before .check in
     let a = c .before .before .before .before .before .before .before .args in
-    let s = slotAt (a .pool .now) (a .size) (a .index) in
+    let s = slotAt (a .pool .now) (a .at .size) (a .at .index) in
     let e = c .before .enum-told2 .given .1 in
     let effect = solverSecondEffect (a .s) s (messageWith (a .a) (a .residues .now)) in
     rw (c .refused .ensures, e) (sym (refused-leaves (a .s) s [] (a .out .now) [] _ effect (sym (check .ensures) ∙ ap checked e)))
@@ -49,7 +49,7 @@ returns-2 c =
     let check = c .before .before .before .before .before .before .check in
     let enum-told = c .before .before .before .before .enum-told in
     let a = c .before .before .before .before .before .before .before .before .before .before .args in
-    let s = slotAt (a .pool .now) (a .size) (a .index) in
+    let s = slotAt (a .pool .now) (a .at .size) (a .at .index) in
     let passed = sym (check .ensures) ∙ ap checked (enum-told .given .1) in
     let k = second-known (a .s) s (messageWith (a .a) (a .residues .now)) (length (a .out .now)) passed in
     let effect = solverSecondEffect (a .s) s (messageWith (a .a) (a .residues .now)) in
