@@ -1,5 +1,4 @@
 // Step 6: the blinder's answer is z = Q × t. Its half is spent, P and U0 are zeroed, and its session is closed.
-//   check         all tests, as those of a later step
 //   compute       z, and what is kept no longer
 //   blinder_last  the step
 use crate::BlinderAnswer;
@@ -26,22 +25,6 @@ ghost use Rattle.protocol.specs.System.{blinderLastEffect, blinderLastTests, bl
 ghost use Rattle.tape.specs.Placed.{slotIn};
 ghost use Rattle.judging.specs.InOrder.{checked, judged};
 ghost use Rattle.judging.specs.Leaves.{leaves, leaving, computed, computing};
-
-fn check(
-    pool: &[u32],
-    at: Place,
-    scratch: &[u32],
-    s: BlinderSession,
-    a: Head,
-    residues: &[u32],
-    room: usize,
-) -> Check
-    ensures { λ r. ⌜ checked r ≡ judged (blinderLastTests s (slotIn (now (pool .entry)) at) (now (scratch .entry))
-        (messageWith a (now (residues .entry))) room) ⌝ }
-{
-    let fits = side_size(s.terms) <= room;
-    later::check(5, fits, pool, at, scratch, s, a, residues)
-}
 
 // z goes into `out`.
 fn compute(
@@ -84,7 +67,8 @@ pub fn blinder_last(
         ≡ leaves s (slotIn (now (pool .entry)) at) (now (scratch .entry)) [] (now (out .entry))
         (blinderLast s (slotIn (now (pool .entry)) at) (now (scratch .entry)) (record { head = a; residues = now (residues .entry) }) (length (now (out .entry)))) ⌝ }
 {
-    let checked = check(pool, at, scratch, s, a, residues, out.len());
+    let fits = side_size(s.terms) <= out.len();
+    let checked = later::check(5, fits, pool, at, scratch, s, a, residues);
     let Check::Passed = checked else {
         return refused(checked, s);
     };

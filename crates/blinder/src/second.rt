@@ -1,5 +1,4 @@
 // Step 4: the blinder sends W and c. Neither its half nor its scratch changes; its session waits for message 5.
-//   check           all tests, as those of a later step
 //   compute         the message, by send
 //   blinder_second  the step
 use crate::BlinderAnswer;
@@ -31,22 +30,6 @@ ghost use Rattle.tape.specs.Placed.{slotIn};
 ghost use Rattle.judging.specs.InOrder.{checked, judged};
 ghost use Rattle.judging.specs.Leaves.{leaves, leaving, computed, computing};
 ghost use Rattle.blinder.specs.Second.{Sending, secondSent};
-
-fn check(
-    pool: &[u32],
-    at: Place,
-    scratch: &[u32],
-    s: BlinderSession,
-    a: Head,
-    residues: &[u32],
-    room: usize,
-) -> Check
-    ensures { λ r. ⌜ checked r ≡ judged (blinderSecondTests s (slotIn (now (pool .entry)) at) (now (scratch .entry))
-        (messageWith a (now (residues .entry))) room) ⌝ }
-{
-    let fits = has_room(4, s.terms, room);
-    later::check(3, fits, pool, at, scratch, s, a, residues)
-}
 
 // W and then c; Q and G are the half's, F is the message, and the scratch has P and U0.
 fn send(
@@ -121,7 +104,8 @@ pub fn blinder_second(
         ≡ leaves s (slotIn (now (pool .entry)) at) (now (scratch .entry)) (now (out .entry)) []
         (blinderSecond s (slotIn (now (pool .entry)) at) (now (scratch .entry)) (record { head = a; residues = now (residues .entry) }) (length (now (out .entry)))) ⌝ }
 {
-    let checked = check(pool, at, scratch, s, a, residues, out.len());
+    let fits = has_room(4, s.terms, out.len());
+    let checked = later::check(3, fits, pool, at, scratch, s, a, residues);
     let Check::Passed = checked else {
         return refused(checked, s);
     };
