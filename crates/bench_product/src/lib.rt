@@ -14,6 +14,11 @@ use protocol::TapeId;
 use protocol::Terms;
 use tape::Place;
 
+// The first slot of a pool.
+fn first_slot(size: usize) -> Place {
+    Place { size, index: 0 }
+}
+
 fn terms(q: u32, m: u32, k: u32, p: u32) -> Terms {
     Terms {
         session: SessionId(9),
@@ -46,7 +51,7 @@ pub extern "C" fn bench_deal(
     accepted(dealer::deal_product(
         first,
         second,
-        Place { size, index: 0 },
+        first_slot(size),
         TapeId(4),
         q,
         m,
@@ -67,7 +72,7 @@ pub extern "C" fn bench_right_first(
     y: &[u32],
     out: &mut [u32],
 ) -> bool {
-    let done = right_first(pool, Place { size, index: 0 }, terms(q, m, k, p), y, out);
+    let done = right_first(pool, first_slot(size), terms(q, m, k, p), y, out);
     let answer = done.answer;
     accepted(answer)
 }
@@ -90,7 +95,7 @@ pub extern "C" fn bench_left(
     let one = Head { kind: 1, terms: t };
     let done = left_step(
         pool,
-        Place { size, index: 0 },
+        first_slot(size),
         t,
         x,
         words,
@@ -117,7 +122,7 @@ pub extern "C" fn bench_right_last(
     let t = terms(q, m, k, p);
     let open = RightSession { terms: t, due: 2 };
     let two = Head { kind: 2, terms: t };
-    let done = right_last(pool, Place { size, index: 0 }, open, two, residues, share);
+    let done = right_last(pool, first_slot(size), open, two, residues, share);
     let answer = done.answer;
     accepted(answer)
 }

@@ -28,6 +28,11 @@ fn accepted(answer: Answer) -> bool {
     }
 }
 
+// The first slot of a pool.
+fn first_slot(size: usize) -> Place {
+    Place { size, index: 0 }
+}
+
 fn terms(q: u32, n: u32) -> Terms
     requires { ⌜ n ≤ 16 ⌝ }
 {
@@ -76,7 +81,7 @@ pub extern "C" fn bench_solver_first(
 ) -> bool
     requires { ⌜ n ≤ 16 ⌝ }
 {
-    let done = solver_first(pool, Place { size, index: 0 }, terms(q, n), l, x, out);
+    let done = solver_first(pool, first_slot(size), terms(q, n), l, x, out);
     let answer = done.answer;
     accepted(answer)
 }
@@ -100,7 +105,7 @@ pub extern "C" fn bench_blinder_first(
     let a = Head { kind: 1, terms: t };
     let done = blinder_first(
         pool,
-        Place { size, index: 0 },
+        first_slot(size),
         scratch,
         t,
         mm,
@@ -134,7 +139,7 @@ pub extern "C" fn bench_solver_second(
         s: none,
     };
     let a = Head { kind: 2, terms: t };
-    let done = solver_second(pool, Place { size, index: 0 }, before, a, residues, out);
+    let done = solver_second(pool, first_slot(size), before, a, residues, out);
     let after = done.session;
     keep(after, kept);
     let answer = done.answer;
@@ -159,7 +164,7 @@ pub extern "C" fn bench_blinder_second(
     let a = Head { kind: 3, terms: t };
     let done = blinder_second(
         pool,
-        Place { size, index: 0 },
+        first_slot(size),
         scratch,
         session(t, 3, mm, y),
         a,
@@ -191,7 +196,7 @@ pub extern "C" fn bench_solver_last(
         s: s,
     };
     let a = Head { kind: 4, terms: t };
-    let done = solver_last(pool, Place { size, index: 0 }, before, a, residues, out);
+    let done = solver_last(pool, first_slot(size), before, a, residues, out);
     let answer = done.answer;
     accepted(answer)
 }
@@ -214,7 +219,7 @@ pub extern "C" fn bench_blinder_last(
     let a = Head { kind: 5, terms: t };
     let done = blinder_last(
         pool,
-        Place { size, index: 0 },
+        first_slot(size),
         scratch,
         session(t, 5, mm, y),
         a,

@@ -30,13 +30,7 @@ pub extern "C" fn call_deal(
     if words::is_short(c, terms.len(), 0, 0, report.len()) {
         return 99;
     }
-    let a = deal(
-        c,
-        first,
-        second,
-        Place { size, index },
-        words::terms_of(terms),
-        raw,
-    );
+    let at = Place { size, index };
+    let a = deal(c, first, second, at, words::terms_of(terms), raw);
     words::report_of(a, no_head(), report)
 }
