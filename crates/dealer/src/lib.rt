@@ -50,15 +50,9 @@ fn deal(
     let Check::Passed = checked else {
         return answer_of(checked);
     };
-    let start = at.index * at.size;
-    let stop = start + at.size;
-    let read = write_halves(
-        s,
-        t,
-        words,
-        &mut first[start..stop],
-        &mut second[start..stop],
-    );
+    let from = at.index * at.size;
+    let stop = from + at.size;
+    let read = write_halves(s, t, words, &mut first[from..stop], &mut second[from..stop]);
     Answer::Accepted(read)
 }
 

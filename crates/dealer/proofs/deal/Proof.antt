@@ -39,8 +39,8 @@ returns c =
     rw (c .answer-of .ensures, enum-told2 .given .1)
     (deal-refused (a .first .now) (a .second .now) (a .at .size) (a .at .index) r (sym (check .ensures) ∙ ap checked (enum-told2 .given .1)))
 
-mul-start : tie.Need-mul-start
-mul-start c =
+mul-from : tie.Need-mul-from
+mul-from c =
     let a = c .before .before .before .before .before .before .before .before .before .args in
     let k = deal-known _ (a .t) _ _ _ _ _ (c .before .before .before .check .ensures) (c .before .enum-told .given .1) in
     let i = k .first-inside in
@@ -148,7 +148,7 @@ deal-spec =
     same-length
     same-length-2
     returns
-    mul-start
+    mul-from
     add-stop
     mul-write-halves
     sub-write-halves
