@@ -43,7 +43,7 @@ ghost use Rattle.protocol.specs.Message.{messageWith};
 ghost use Rattle.protocol.specs.System.{noBlinder, scratchSize, blinderFirstEffect, blinderFirstTests, blinderFirst};
 ghost use Rattle.tape.specs.Placed.{slotIn};
 ghost use Rattle.judging.specs.InOrder.{checked, judged, after};
-ghost use Rattle.judging.specs.Leaves.{leaves, leaving, computed, computing};
+ghost use Rattle.judging.specs.Leaves.{leaves, leaving, computed, computing, taken};
 ghost use Rattle.blinder.specs.First.{Eliminable, Masking, firstInputs, firstRegular, firstSent};
 
 // M and y, and room for the scratch and for the message.
@@ -132,15 +132,14 @@ fn compute(
     mm: &[u32],
     y: &[u32],
     words: &[u32],
-    a: Head,
     residues: &[u32],
     out: &mut [u32],
 ) -> BlinderAnswer
     requires { ⌜ judged (blinderFirstTests t (slotIn (now pool) at) (length (now scratch)) (now mm) (now y) (now words)
-        (messageWith a (now residues)) (length (now out))) ≡ done tt ⌝ }
+        (taken 1 t (now residues)) (length (now out))) ≡ done tt ⌝ }
     ensures { λ r. ⌜ computing (r .answer) (r .session) (r .head) (now (scratch .exit)) (now (out .exit)) []
         ≡ computed (now (scratch .entry)) (now (out .entry)) []
-        (blinderFirstEffect t (slotIn (now (pool .entry)) at) (now (mm .entry)) (now (y .entry)) (now (words .entry)) (messageWith a (now (residues .entry)))) ⌝ }
+        (blinderFirstEffect t (slotIn (now (pool .entry)) at) (now (mm .entry)) (now (y .entry)) (now (words .entry)) (taken 1 t (now (residues .entry)))) ⌝ }
 {
     let count = draw(t.q, scratch_size(t), words, scratch);
     let x0 = matrix(End::Blinder, t, 0, pool, at);
@@ -177,7 +176,7 @@ pub fn blinder_first(
     let Check::Passed = checked else {
         return refused(checked, no_session());
     };
-    let done = compute(pool, at, scratch, t, mm, y, words, a, residues, out);
+    let done = compute(pool, at, scratch, t, mm, y, words, residues, out);
     take_up_at(End::Blinder, t, pool, at);
     done
 }

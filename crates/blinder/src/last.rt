@@ -20,11 +20,10 @@ ghost use mathlib.Core.Path.{_≡_};
 ghost use mathlib.Core.List.{[]};
 ghost use lib.ListN.{length};
 ghost use Rattle.protocol.specs.Judge.{done};
-ghost use Rattle.protocol.specs.Message.{messageWith};
 ghost use Rattle.protocol.specs.System.{blinderLastEffect, blinderLastTests, blinderLast};
 ghost use Rattle.tape.specs.Placed.{slotIn};
 ghost use Rattle.judging.specs.InOrder.{checked, judged};
-ghost use Rattle.judging.specs.Leaves.{leaves, leaving, computed, computing};
+ghost use Rattle.judging.specs.Leaves.{leaves, leaving, computed, computing, taken};
 
 // z goes into `out`.
 fn compute(
@@ -32,14 +31,13 @@ fn compute(
     at: Place,
     scratch: &mut [u32],
     s: BlinderSession,
-    a: Head,
     residues: &[u32],
     out: &mut [u32],
 ) -> BlinderAnswer
-    requires { ⌜ judged (blinderLastTests s (slotIn (now pool) at) (now scratch) (messageWith a (now residues)) (length (now out))) ≡ done tt ⌝ }
+    requires { ⌜ judged (blinderLastTests s (slotIn (now pool) at) (now scratch) (taken 5 (s .terms) (now residues)) (length (now out))) ≡ done tt ⌝ }
     ensures { λ r. ⌜ computing (r .answer) (r .session) (r .head) (now (scratch .exit)) [] (now (out .exit))
         ≡ computed (now (scratch .entry)) [] (now (out .entry))
-        (blinderLastEffect s (slotIn (now (pool .entry)) at) (now (scratch .entry)) (messageWith a (now (residues .entry)))) ⌝ }
+        (blinderLastEffect s (slotIn (now (pool .entry)) at) (now (scratch .entry)) (taken 5 (s .terms) (now (residues .entry)))) ⌝ }
 {
     let t = s.terms;
     let n = t.m as usize;
@@ -72,7 +70,7 @@ pub fn blinder_last(
     let Check::Passed = checked else {
         return refused(checked, s);
     };
-    let done = compute(pool, at, scratch, s, a, residues, out);
+    let done = compute(pool, at, scratch, s, residues, out);
     spend_at(End::Blinder, s.terms, pool, at);
     done
 }

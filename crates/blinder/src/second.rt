@@ -24,11 +24,10 @@ ghost use mathlib.Core.List.{[]};
 ghost use lib.ListN.{length};
 ghost use Rattle.algebra.specs.Words.{over};
 ghost use Rattle.protocol.specs.Judge.{done};
-ghost use Rattle.protocol.specs.Message.{messageWith};
 ghost use Rattle.protocol.specs.System.{blinderSecondEffect, blinderSecondTests, blinderSecond};
 ghost use Rattle.tape.specs.Placed.{slotIn};
 ghost use Rattle.judging.specs.InOrder.{checked, judged};
-ghost use Rattle.judging.specs.Leaves.{leaves, leaving, computed, computing};
+ghost use Rattle.judging.specs.Leaves.{leaves, leaving, computed, computing, taken};
 ghost use Rattle.blinder.specs.Second.{Sending, secondSent};
 
 // W and then c; Q and G are the half's, F is the message, and the scratch has P and U0.
@@ -61,14 +60,13 @@ fn compute(
     at: Place,
     scratch: &[u32],
     s: BlinderSession,
-    a: Head,
     residues: &[u32],
     out: &mut [u32],
 ) -> BlinderAnswer
-    requires { ⌜ judged (blinderSecondTests s (slotIn (now pool) at) (now scratch) (messageWith a (now residues)) (length (now out))) ≡ done tt ⌝ }
+    requires { ⌜ judged (blinderSecondTests s (slotIn (now pool) at) (now scratch) (taken 3 (s .terms) (now residues)) (length (now out))) ≡ done tt ⌝ }
     ensures { λ r. ⌜ computing (r .answer) (r .session) (r .head) (now (scratch .entry)) (now (out .exit)) []
         ≡ computed (now (scratch .entry)) (now (out .entry)) []
-        (blinderSecondEffect s (slotIn (now (pool .entry)) at) (now (scratch .entry)) (messageWith a (now (residues .entry)))) ⌝ }
+        (blinderSecondEffect s (slotIn (now (pool .entry)) at) (now (scratch .entry)) (taken 3 (s .terms) (now (residues .entry)))) ⌝ }
 {
     let t = s.terms;
     let mm = s.mm;
@@ -109,5 +107,5 @@ pub fn blinder_second(
     let Check::Passed = checked else {
         return refused(checked, s);
     };
-    compute(pool, at, scratch, s, a, residues, out)
+    compute(pool, at, scratch, s, residues, out)
 }

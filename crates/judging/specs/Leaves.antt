@@ -1,14 +1,17 @@
 -- Everything that a step's code leaves, as one term of the definition's outcome: a step's contract is one equation with it.
 --   Leaves       all that a step leaves: `leaving` by the code, `leaves` by the definition
 --   Computed     the same without the pool, what it computes where its tests passed, before the tape changes: `computing` and `computed`
+--   taken        the message that a step takes where its tests passed
 -- Assumes nothing.
 use mathlib.Core.List.{List}
 use Prim.Native.Nat.{ℕ}
 use Rattle.algebra.specs.Words.{over}
 use Rattle.protocol.specs.declared.Head.{Head}
+use Rattle.protocol.specs.declared.Terms.{Terms}
 use Rattle.protocol.specs.declared.Answer.{Answer}
 use Rattle.protocol.specs.Judge.{Reply}
 use Rattle.protocol.specs.Tape.{Slot}
+use Rattle.protocol.specs.Message.{Message}
 use Rattle.protocol.specs.Step.{answerReply, Effect, Outcome, answerAfter, sessionAfter, poolAfter, scratchAfter, sentAfter, resultAfter}
 
 pub record Leaves (S : Type 0) : Type 0 where
@@ -62,3 +65,7 @@ computed scratch sent result e = record {
   sent = over (e .sent .residues) sent;
   result = over (e .result) result;
 }
+
+-- its tests passed, so its head is the one due: a computation is handed the residues alone
+abbrev pub taken : (kind : ℕ) → Terms → (residues : List ℕ) → Message
+taken kind t residues = record { head = record { kind = kind; terms = t }; residues = residues }

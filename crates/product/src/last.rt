@@ -26,7 +26,7 @@ ghost use Rattle.protocol.specs.Judge.{done};
 ghost use Rattle.protocol.specs.Product.{rightLastEffect, rightLastTests, rightLast};
 ghost use Rattle.tape.specs.Placed.{slotIn};
 ghost use Rattle.judging.specs.InOrder.{checked, judged};
-ghost use Rattle.judging.specs.Leaves.{leaves, leaving, computed, computing};
+ghost use Rattle.judging.specs.Leaves.{leaves, leaving, computed, computing, taken};
 ghost use Rattle.product.specs.Shape.{Sharing};
 
 fn check(pool: &[u32], at: Place, s: RightSession, a: Head, residues: &[u32], share: usize) -> Check
@@ -63,13 +63,12 @@ fn compute(
     pool: &[u32],
     at: Place,
     s: RightSession,
-    a: Head,
     residues: &[u32],
     share: &mut [u32],
 ) -> RightAnswer
-    requires { ⌜ judged (rightLastTests s (slotIn (now pool) at) (record { head = a; residues = now residues }) (length (now share))) ≡ done tt ⌝ }
+    requires { ⌜ judged (rightLastTests s (slotIn (now pool) at) (taken 2 (s .terms) (now residues)) (length (now share))) ≡ done tt ⌝ }
     ensures { λ r. ⌜ computing (r .answer) (r .session) (r .head) [] [] (now (share .exit))
-        ≡ computed [] [] (now (share .entry)) (rightLastEffect s (slotIn (now (pool .entry)) at) (record { head = a; residues = now (residues .entry) })) ⌝ }
+        ≡ computed [] [] (now (share .entry)) (rightLastEffect s (slotIn (now (pool .entry)) at) (taken 2 (s .terms) (now (residues .entry)))) ⌝ }
 {
     let t = s.terms;
     let y0 = matrix(End::Right, t, 0, pool, at);
@@ -99,7 +98,7 @@ pub fn right_last(
             head: no_head(),
         };
     };
-    let done = compute(pool, at, s, a, residues, share);
+    let done = compute(pool, at, s, residues, share);
     spend_at(End::Right, s.terms, pool, at);
     done
 }

@@ -33,7 +33,7 @@ ghost use Rattle.protocol.specs.Message.{messageSize};
 ghost use Rattle.protocol.specs.Product.{leftEffect, leftTests, leftStep};
 ghost use Rattle.tape.specs.Placed.{slotIn};
 ghost use Rattle.judging.specs.InOrder.{checked, judged};
-ghost use Rattle.judging.specs.Leaves.{leaves, leaving, computed, computing};
+ghost use Rattle.judging.specs.Leaves.{leaves, leaving, computed, computing, taken};
 ghost use Rattle.product.specs.Shape.{Answering};
 
 // X, and room for the message and the share.
@@ -104,15 +104,14 @@ fn compute(
     t: Terms,
     x: &[u32],
     words: &[u32],
-    a: Head,
     residues: &[u32],
     out: &mut [u32],
     share: &mut [u32],
 ) -> LeftAnswer
-    requires { ⌜ judged (leftTests t (slotIn (now pool) at) (now x) (now words) (record { head = a; residues = now residues }) (length (now out)) (length (now share))) ≡ done tt ⌝ }
+    requires { ⌜ judged (leftTests t (slotIn (now pool) at) (now x) (now words) (taken 1 t (now residues)) (length (now out)) (length (now share))) ≡ done tt ⌝ }
     ensures { λ r. ⌜ computing (r .answer) tt (r .head) [] (now (out .exit)) (now (share .exit))
         ≡ computed [] (now (out .entry)) (now (share .entry))
-        (leftEffect t (slotIn (now (pool .entry)) at) (now (x .entry)) (now (words .entry)) (record { head = a; residues = now (residues .entry) })) ⌝ }
+        (leftEffect t (slotIn (now (pool .entry)) at) (now (x .entry)) (now (words .entry)) (taken 1 t (now (residues .entry)))) ⌝ }
 {
     let x0 = matrix(End::Left, t, 0, pool, at);
     let a0 = matrix(End::Left, t, 1, pool, at);
@@ -151,7 +150,7 @@ pub fn left_step(
             head: no_head(),
         };
     };
-    let done = compute(pool, at, t, x, words, a, residues, out, share);
+    let done = compute(pool, at, t, x, words, residues, out, share);
     spend_at(End::Left, t, pool, at);
     done
 }

@@ -32,11 +32,10 @@ ghost use Rattle.algebra.specs.Prime.{isPrime};
 ghost use Rattle.algebra.specs.Words.{over};
 ghost use Rattle.protocol.specs.Judge.{done};
 ghost use Rattle.protocol.specs.Bounds.{sidesFit, system};
-ghost use Rattle.protocol.specs.Message.{messageWith};
 ghost use Rattle.protocol.specs.System.{sideSize, solverLastEffect, solverLastTests, solverLast};
 ghost use Rattle.tape.specs.Placed.{slotIn};
 ghost use Rattle.judging.specs.InOrder.{judged};
-ghost use Rattle.judging.specs.Leaves.{leaves, leaving, computed, computing};
+ghost use Rattle.judging.specs.Leaves.{leaves, leaving, computed, computing, taken};
 ghost use Rattle.solver.specs.Formulas.{sumOf, sideOf, lastAnswer, lastHead, closedTerms};
 
 // W + V, by the message's residues.
@@ -93,13 +92,12 @@ fn compute(
     pool: &[u32],
     at: Place,
     s: SolverSession,
-    a: Head,
     residues: &[u32],
     out: &mut [u32],
 ) -> SolverAnswer
-    requires { ⌜ judged (solverLastTests s (slotIn (now pool) at) (messageWith a (now residues)) (length (now out))) ≡ done tt ⌝ }
+    requires { ⌜ judged (solverLastTests s (slotIn (now pool) at) (taken 4 (s .terms) (now residues)) (length (now out))) ≡ done tt ⌝ }
     ensures { λ r. ⌜ computing (r .answer) (r .session) (r .head) [] (now (out .exit)) []
-        ≡ computed [] (now (out .entry)) [] (solverLastEffect s (slotIn (now (pool .entry)) at) (messageWith a (now (residues .entry)))) ⌝ }
+        ≡ computed [] (now (out .entry)) [] (solverLastEffect s (slotIn (now (pool .entry)) at) (taken 4 (s .terms) (now (residues .entry)))) ⌝ }
 {
     let t = s.terms;
     let n = times(t.m, t.m);
@@ -128,7 +126,7 @@ pub fn solver_last(
     let Check::Passed = checked else {
         return refused(checked, s);
     };
-    let done = compute(pool, at, s, a, residues, out);
+    let done = compute(pool, at, s, residues, out);
     spend_at(End::Solver, s.terms, pool, at);
     done
 }

@@ -26,11 +26,10 @@ ghost use Rattle.algebra.specs.Words.{over};
 ghost use Rattle.protocol.specs.declared.Answer.the-variants.{Accepted};
 ghost use Rattle.protocol.specs.Judge.{done};
 ghost use Rattle.protocol.specs.Bounds.{columns, sidesFit, system};
-ghost use Rattle.protocol.specs.Message.{messageWith};
 ghost use Rattle.protocol.specs.System.{padded, solverSecondEffect, solverSecondTests, solverSecond};
 ghost use Rattle.tape.specs.Placed.{slotIn};
 ghost use Rattle.judging.specs.InOrder.{judged};
-ghost use Rattle.judging.specs.Leaves.{leaves, leaving, computed, computing};
+ghost use Rattle.judging.specs.Leaves.{leaves, leaving, computed, computing, taken};
 ghost use Rattle.solver.specs.Formulas.{shareOf};
 
 // S, by the message's residues, Y0 and B0.
@@ -102,13 +101,12 @@ fn compute(
     pool: &[u32],
     at: Place,
     s: SolverSession,
-    a: Head,
     residues: &[u32],
     out: &mut [u32],
 ) -> SolverAnswer
-    requires { ⌜ judged (solverSecondTests s (slotIn (now pool) at) (messageWith a (now residues)) (length (now out))) ≡ done tt ⌝ }
+    requires { ⌜ judged (solverSecondTests s (slotIn (now pool) at) (taken 2 (s .terms) (now residues)) (length (now out))) ≡ done tt ⌝ }
     ensures { λ r. ⌜ computing (r .answer) (r .session) (r .head) [] (now (out .exit)) []
-        ≡ computed [] (now (out .entry)) [] (solverSecondEffect s (slotIn (now (pool .entry)) at) (messageWith a (now (residues .entry)))) ⌝ }
+        ≡ computed [] (now (out .entry)) [] (solverSecondEffect s (slotIn (now (pool .entry)) at) (taken 2 (s .terms) (now (residues .entry)))) ⌝ }
 {
     let t = s.terms;
     let n = times(t.m, t.p);
@@ -137,5 +135,5 @@ pub fn solver_second(
     let Check::Passed = checked else {
         return refused(checked, s);
     };
-    compute(pool, at, s, a, residues, out)
+    compute(pool, at, s, residues, out)
 }

@@ -3,11 +3,11 @@ use mathlib.Core.Path.{sym, ap, _∙_}
 use mathlib.Core.List.{[]}
 use lib.ListN.{length}
 use Rattle.protocol.specs.Tape.{slotAt, blinder}
-use Rattle.protocol.specs.Message.{messageWith}
-use Rattle.protocol.specs.System.{noBlinder, blinderFirstEffect, blinderFirst}
+use Rattle.protocol.specs.Message.{Message, messageWith, messageParts}
+use Rattle.protocol.specs.System.{noBlinder, blinderFirstEffect, blinderFirstTests, blinderFirst}
 use Rattle.judging.specs.InOrder.{checked}
 use Rattle.judging.proofs.Fits.{first-placed}
-use Rattle.judging.proofs.Leaving.{refused-leaves, step-leaves}
+use Rattle.judging.proofs.Leaving.{refused-leaves, step-leaves, as-taken}
 use Rattle.blinder.proofs.Known.{first-known}
 use borrow.Author.Needs.{needs}
 use Rattle.blinder.proofs.first.blinder_first.Statement.{statement}
@@ -44,7 +44,15 @@ returns c =
     (sym (told .check .ensures) ∙ ap checked e)))
 
 compute-requires : tie.Need-compute-requires
-compute-requires c κs = sym (c .before .before .before .before .before .check .ensures) ∙ ap checked (c .before .before .before .enum-told .given .1)
+compute-requires c κs =
+    let told = c .before .before .before in
+    let a = told .before .before .before .before .before .before .before .before .before .before .before .args in
+    let s = slotAt (a .pool .now) (a .at .size) (a .at .index) in
+    let passed = sym (told .before .before .check .ensures) ∙ ap checked (told .enum-told .given .1) in
+    let f = first-known (a .t) s (length (a .scratch .now)) (a .mm .now) (a .y .now) (messageWith (a .a) (a .residues .now)) (length (a .out .now))
+    (a .words .now) passed in
+    as-taken (λ (m : Message). blinderFirstTests (a .t) s (length (a .scratch .now)) (a .mm .now) (a .y .now) (a .words .now) m (length (a .out .now)))
+    (f .message) passed
 
 take-up-at-requires : tie.Need-take-up-at-requires
 take-up-at-requires c κs =
@@ -66,7 +74,7 @@ same-length-4 : tie.Need-same-length-4
 same-length-4 c = search needs
 
 returns-2 : tie.Need-returns-2
-unfolding blinderFirst blinderFirstEffect
+unfolding blinderFirst blinderFirstEffect messageParts
 returns-2 c =
     let told = c .before .before .before .before .before .before .before .before .before .before in
     let a = told .before .before .before .before .before .before .before .before .before .before .before .before .before .args in

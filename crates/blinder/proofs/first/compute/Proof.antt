@@ -2,8 +2,8 @@
 use native.Mathlib.Omega.{arith}
 use lib.ListN.{length}
 use Rattle.protocol.specs.Tape.{slotAt, blinder}
-use Rattle.protocol.specs.Message.{messageWith}
 use Rattle.protocol.proofs.StepTests.{BlinderFirstFits}
+use Rattle.judging.specs.Leaves.{taken}
 use Rattle.judging.proofs.Fits.{first-placed}
 use Rattle.blinder.proofs.Kept.{square-bound, side-bound}
 use Rattle.blinder.proofs.Known.{first-known, masking-known, first-computed}
@@ -15,10 +15,10 @@ abbrev start : tie.After-draw → tie.Start
 start c = c .before .before .before .before .before .before .before .before .before .before
 
 known : (c : tie.Start) → BlinderFirstFits (c .args .t) (slotAt (c .args .pool .now) (c .args .at .size) (c .args .at .index)) (length (c .args .scratch .now))
-    (c .args .mm .now) (c .args .y .now) (c .args .words .now) (messageWith (c .args .a) (c .args .residues .now)) (length (c .args .out .now))
+    (c .args .mm .now) (c .args .y .now) (c .args .words .now) (taken 1 (c .args .t) (c .args .residues .now)) (length (c .args .out .now))
 known c =
     first-known (c .args .t) (slotAt (c .args .pool .now) (c .args .at .size) (c .args .at .index)) (length (c .args .scratch .now)) (c .args .mm .now)
-    (c .args .y .now) (messageWith (c .args .a) (c .args .residues .now)) (length (c .args .out .now)) (c .args .words .now) (c .pre)
+    (c .args .y .now) (taken 1 (c .args .t) (c .args .residues .now)) (length (c .args .out .now)) (c .args .words .now) (c .pre)
 
 scratch-size-requires : tie.Need-scratch-size-requires
 scratch-size-requires c κs = known (c .before .before .before .before .before .before .before) .first .terms .sides
@@ -61,7 +61,7 @@ returns c =
     let told = c .before .before .before .before .before .before .before .before .before .before in
     let a = (start told) .args in
     first-computed (a .t) (slotAt (a .pool .now) (a .at .size) (a .at .index)) (a .scratch .now) (a .mm .now) (a .y .now) (a .words .now)
-    (messageWith (a .a) (a .residues .now)) _ (known (start told)) (c .before .before .before .before .before .before .before .matrix .ensures)
+    (taken 1 (a .t) (a .residues .now)) _ (known (start told)) (c .before .before .before .before .before .before .before .matrix .ensures)
     (c .before .before .before .before .before .before .matrix2 .ensures) (told .before .before .scratch-size .ensures) (told .draw .ensures .1)
     (a .out .now) (told .draw .ensures .0) (c .opened .ensures) (c .before .before .before .send .ensures)
 

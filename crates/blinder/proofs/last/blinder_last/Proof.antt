@@ -3,11 +3,11 @@ use mathlib.Core.Path.{_≡_, sym, ap, _∙_}
 use mathlib.Core.List.{[]}
 use lib.ListN.{length}
 use Rattle.protocol.specs.Tape.{slotAt, blinder}
-use Rattle.protocol.specs.Message.{messageWith}
+use Rattle.protocol.specs.Message.{Message, messageWith, messageParts}
 use Rattle.protocol.specs.System.{blinderLastEffect, blinderLastTests, blinderLast}
 use Rattle.judging.specs.InOrder.{checked, judged}
 use Rattle.judging.proofs.Fits.{open-placed}
-use Rattle.judging.proofs.Leaving.{refused-leaves, step-leaves}
+use Rattle.judging.proofs.Leaving.{refused-leaves, step-leaves, as-taken}
 use Rattle.blinder.proofs.Known.{last-known}
 use Rattle.blinder.proofs.Order.{last-tests}
 use borrow.Author.Needs.{needs}
@@ -56,7 +56,13 @@ returns c =
     (sym (refused-leaves (a .s) s (a .scratch .now) [] (a .out .now) _ (blinderLastEffect (a .s) s (a .scratch .now) m) (sym (tests told) ∙ ap checked e)))
 
 compute-requires : tie.Need-compute-requires
-compute-requires c κs = sym (tests (c .before .before .before .before .before)) ∙ ap checked (c .before .before .before .enum-told .given .1)
+compute-requires c κs =
+    let told = c .before .before .before in
+    let a = told .before .before .before .before .before .before .before .before .before .before .args in
+    let s = slotAt (a .pool .now) (a .at .size) (a .at .index) in
+    let passed = sym (tests (told .before .before)) ∙ ap checked (told .enum-told .given .1) in
+    let f = last-known (a .s) s (messageWith (a .a) (a .residues .now)) (a .scratch .now) (length (a .out .now)) passed in
+    as-taken (λ (m : Message). blinderLastTests (a .s) s (a .scratch .now) m (length (a .out .now))) (f .message) passed
 
 spend-at-requires : tie.Need-spend-at-requires
 spend-at-requires c κs =
@@ -77,7 +83,7 @@ same-length-5 : tie.Need-same-length-5
 same-length-5 c = search needs
 
 returns-2 : tie.Need-returns-2
-unfolding blinderLast blinderLastEffect
+unfolding blinderLast blinderLastEffect messageParts
 returns-2 c =
     let told = c .before .before .before .before .before .before .before .before .before .before .before .before in
     let a = told .before .before .before .before .before .before .before .before .before .before .args in

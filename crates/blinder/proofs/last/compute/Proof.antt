@@ -5,11 +5,11 @@ use lib.ListN.{length}
 use Rattle.algebra.specs.Words.{over}
 use Rattle.protocol.specs.Bounds.{columns}
 use Rattle.protocol.specs.Tape.{slotAt, blinder}
-use Rattle.protocol.specs.Message.{messageWith}
 use Rattle.protocol.specs.System.{sideSize, blinderLastEffect}
 use Rattle.protocol.proofs.CompletionLaws.{third-of}
 use Rattle.protocol.proofs.StepTests.{BlinderFits}
 use Rattle.tape.proofs.Sides.{unknowns}
+use Rattle.judging.specs.Leaves.{taken}
 use Rattle.judging.proofs.Fits.{open-placed}
 use Rattle.blinder.proofs.Kept.{side-is, side-bound, square-is, wide-enough}
 use Rattle.blinder.proofs.Known.{last-known}
@@ -22,9 +22,9 @@ abbrev start : tie.After-struct-known2 → tie.Start
 start c = c .before .before .before .before .before .before .before
 
 known : (c : tie.Start) → BlinderFits 5 (c .args .s) (slotAt (c .args .pool .now) (c .args .at .size) (c .args .at .index)) (c .args .scratch .now)
-    (messageWith (c .args .a) (c .args .residues .now)) (sideSize (c .args .s .terms)) (length (c .args .out .now))
+    (taken 5 (c .args .s .terms) (c .args .residues .now)) (sideSize (c .args .s .terms)) (length (c .args .out .now))
 known c =
-    last-known (c .args .s) (slotAt (c .args .pool .now) (c .args .at .size) (c .args .at .index)) (messageWith (c .args .a) (c .args .residues .now))
+    last-known (c .args .s) (slotAt (c .args .pool .now) (c .args .at .size) (c .args .at .index)) (taken 5 (c .args .s .terms) (c .args .residues .now))
     (c .args .scratch .now) (length (c .args .out .now)) (c .pre)
 
 cast-n : tie.Need-cast-n
@@ -53,7 +53,7 @@ write-product-requires c κs =
       few-k = omega (arith, u .few);
       few-y = omega (arith, side, side-bound t (o .sides));
       full-x = omega (arith, ap length (c .before .matrix .ensures) ∙ third-of (f .later .matrices-fit) .size, square-is t (o .sides));
-      full-y = omega (arith, side, found-size t (messageWith (told .args .a) (told .args .residues .now)) (f .message));
+      full-y = omega (arith, side, found-size t (taken 5 (told .args .s .terms) (told .args .residues .now)) (f .message));
       room = omega (arith, side, f .write-room);
     }
 
@@ -76,7 +76,7 @@ unfolding blinderLastEffect columns over
 returns c =
     let told = c .before .before .before .before .before .before .before in
     let a = (start (told .before .before .before)) .args in
-    let m = messageWith (a .a) (a .residues .now) in
+    let m = taken 5 (a .s .terms) (a .residues .now) in
     let t = a .s .terms in
     rw (
       c .before .before .before .forget .ensures .0,

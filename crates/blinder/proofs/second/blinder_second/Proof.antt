@@ -3,11 +3,11 @@ use mathlib.Core.Path.{_≡_, sym, ap, _∙_}
 use mathlib.Core.List.{[]}
 use lib.ListN.{length}
 use Rattle.protocol.specs.Tape.{slotAt}
-use Rattle.protocol.specs.Message.{messageWith}
+use Rattle.protocol.specs.Message.{Message, messageWith, messageParts}
 use Rattle.protocol.specs.System.{blinderSecondEffect, blinderSecondTests, blinderSecond}
 use Rattle.tape.proofs.Slots.{same-pool}
 use Rattle.judging.specs.InOrder.{checked, judged}
-use Rattle.judging.proofs.Leaving.{refused-leaves, step-leaves}
+use Rattle.judging.proofs.Leaving.{refused-leaves, step-leaves, as-taken}
 use Rattle.blinder.proofs.Known.{second-known}
 use Rattle.blinder.proofs.Order.{second-tests}
 use borrow.Author.Needs.{needs}
@@ -50,13 +50,19 @@ returns c =
     (sym (refused-leaves (a .s) s (a .scratch .now) (a .out .now) [] _ (blinderSecondEffect (a .s) s (a .scratch .now) m) (sym (tests told) ∙ ap checked e)))
 
 compute-requires : tie.Need-compute-requires
-compute-requires c κs = sym (tests (c .before .before .before)) ∙ ap checked (c .before .enum-told .given .1)
+compute-requires c κs =
+    let told = c .before .before .before in
+    let a = told .before .before .before .before .before .before .args in
+    let s = slotAt (a .pool .now) (a .at .size) (a .at .index) in
+    let passed = sym (tests told) ∙ ap checked (c .before .enum-told .given .1) in
+    let f = second-known (a .s) s (messageWith (a .a) (a .residues .now)) (a .scratch .now) (length (a .out .now)) passed in
+    as-taken (λ (m : Message). blinderSecondTests (a .s) s (a .scratch .now) m (length (a .out .now))) (f .message) passed
 
 same-length : tie.Need-same-length
 same-length c = search needs
 
 returns-2 : tie.Need-returns-2
-unfolding blinderSecond blinderSecondEffect
+unfolding blinderSecond blinderSecondEffect messageParts
 returns-2 c =
     let told = c .before .before .before .before .before .before in
     let a = told .before .before .before .before .before .before .args in

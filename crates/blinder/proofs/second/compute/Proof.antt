@@ -5,8 +5,9 @@ use lib.ListN.{length, length-map}
 use lib.Seq.{length-take-le}
 use Prim.Native.Nat.{_≤_}
 use Rattle.protocol.specs.Tape.{slotAt, blinder}
-use Rattle.protocol.specs.Message.{messageWith, messageSize}
+use Rattle.protocol.specs.Message.{messageSize}
 use Rattle.protocol.proofs.StepTests.{BlinderFits}
+use Rattle.judging.specs.Leaves.{taken}
 use Rattle.judging.proofs.Fits.{open-placed}
 use Rattle.blinder.proofs.Kept.{side-bound, square-bound}
 use Rattle.blinder.proofs.Known.{second-known, sending-known, second-computed}
@@ -18,9 +19,9 @@ abbrev start : tie.After-side-size → tie.Start
 start c = c .before .before .before .before .before .before .before .before .before
 
 known : (c : tie.Start) → BlinderFits 3 (c .args .s) (slotAt (c .args .pool .now) (c .args .at .size) (c .args .at .index)) (c .args .scratch .now)
-    (messageWith (c .args .a) (c .args .residues .now)) (messageSize 4 (c .args .s .terms)) (length (c .args .out .now))
+    (taken 3 (c .args .s .terms) (c .args .residues .now)) (messageSize 4 (c .args .s .terms)) (length (c .args .out .now))
 known c =
-    second-known (c .args .s) (slotAt (c .args .pool .now) (c .args .at .size) (c .args .at .index)) (messageWith (c .args .a) (c .args .residues .now))
+    second-known (c .args .s) (slotAt (c .args .pool .now) (c .args .at .size) (c .args .at .index)) (taken 3 (c .args .s .terms) (c .args .residues .now))
     (c .args .scratch .now) (length (c .args .out .now)) (c .pre)
 
 m-fits : (c : tie.After-side-size) → c .before .times .result ≤ length ((start c) .args .s .mm)
@@ -73,7 +74,7 @@ returns : tie.Need-returns
 returns c =
     let told = c .before .before .before .before .before .before .before .before in
     let a = (start told) .args in
-    second-computed (a .s) (slotAt (a .pool .now) (a .at .size) (a .at .index)) (messageWith (a .a) (a .residues .now)) (known (start told))
+    second-computed (a .s) (slotAt (a .pool .now) (a .at .size) (a .at .index)) (taken 3 (a .s .terms) (a .residues .now)) (known (start told))
     (c .before .before .before .before .before .before .before .matrix .ensures) (c .before .before .before .before .before .before .matrix2 .ensures) (a .out .now) (told .before .times .ensures) (told .side-size .ensures)
     (c .before .before .send .ensures)
 

@@ -1,10 +1,12 @@
 -- `product::last::right_last` meets its contract. Assumes nothing.
 use mathlib.Core.Path.{sym, ap, _∙_}
 use mathlib.Core.List.{[]}
+use lib.ListN.{length}
 use Rattle.protocol.specs.Tape.{right, slotAt}
-use Rattle.protocol.specs.Product.{rightLastEffect, rightLast}
+use Rattle.protocol.specs.Message.{Message, messageWith, messageParts}
+use Rattle.protocol.specs.Product.{rightLastEffect, rightLastTests, rightLast}
 use Rattle.judging.specs.InOrder.{checked}
-use Rattle.judging.proofs.Leaving.{refused-leaves, step-leaves}
+use Rattle.judging.proofs.Leaving.{refused-leaves, step-leaves, as-taken}
 use Rattle.judging.proofs.Fits.{open-placed}
 use Rattle.product.proofs.Known.{last-known}
 use borrow.Author.Needs.{needs}
@@ -40,7 +42,13 @@ returns c =
     (sym (refused-leaves (a .s) s [] [] (a .share .now) _ (rightLastEffect (a .s) s _) (sym (told .before .before .check .ensures) ∙ ap checked e)))
 
 compute-requires : tie.Need-compute-requires
-compute-requires c κs = sym (c .before .before .before .before .check .ensures) ∙ ap checked (c .before .before .enum-told .given .1)
+compute-requires c κs =
+    let told = c .before .before in
+    let a = told .before .before .before .before .before .before .before .args in
+    let s = slotAt (a .pool .now) (a .at .size) (a .at .index) in
+    let passed = sym (told .before .before .check .ensures) ∙ ap checked (told .enum-told .given .1) in
+    let known = last-known (a .s) s (messageWith (a .a) (a .residues .now)) (length (a .share .now)) passed in
+    as-taken (λ (m : Message). rightLastTests (a .s) s m (length (a .share .now))) (known .message) passed
 
 spend-at-requires : tie.Need-spend-at-requires
 spend-at-requires c κs =
@@ -57,12 +65,12 @@ same-length-3 : tie.Need-same-length-3
 same-length-3 c = search needs
 
 returns-2 : tie.Need-returns-2
-unfolding rightLast rightLastEffect
+unfolding rightLast rightLastEffect messageParts
 returns-2 c =
     let told = c .before .before .before .before .before .before .before .before .before in
     let a = told .before .before .before .before .before .before .before .args in
     let s = slotAt (a .pool .now) (a .at .size) (a .at .index) in
-    step-leaves (a .s) s [] [] (a .share .now) _ (rightLastEffect (a .s) s _) (sym (told .before .before .check .ensures) ∙ ap checked (told .enum-told .given .1))
+    step-leaves (a .s) s [] [] (a .share .now) _ (rightLastEffect (a .s) s (messageWith (a .a) (a .residues .now))) (sym (told .before .before .check .ensures) ∙ ap checked (told .enum-told .given .1))
     (c .before .before .before .before .before .before .compute .ensures) (c .before .before .spend-at .ensures)
 
 pub right-last-spec : {M : Type 1} → statement M

@@ -8,9 +8,9 @@ use Rattle.algebra.specs.Count.{join}
 use Rattle.algebra.specs.Words.{over}
 use Rattle.protocol.specs.Drawing.{residuesOf}
 use Rattle.protocol.specs.Tape.{left, slotAt}
-use Rattle.protocol.specs.Message.{messageWith}
 use Rattle.protocol.specs.Product.{leftEffect}
 use Rattle.drawing.proofs.Then.{drawn-count, coins-part}
+use Rattle.judging.specs.Leaves.{taken}
 use Rattle.judging.proofs.Fits.{first-placed}
 use Rattle.judging.proofs.KindLaws.{size-1, whole-message}
 use Rattle.product.proofs.Known.{left-known, answering}
@@ -23,7 +23,7 @@ matrix-requires c κs =
     let start = c .before .before .before .before .before .before in
     let a = start .args in
     let s = slotAt (a .pool .now) (a .at .size) (a .at .index) in
-    let f = left-known (a .t) s (a .x .now) (a .words .now) (messageWith (a .a) (a .residues .now)) (length (a .out .now)) (length (a .share .now)) (start .pre) in
+    let f = left-known (a .t) s (a .x .now) (a .words .now) (taken 1 (a .t) (a .residues .now)) (length (a .out .now)) (length (a .share .now)) (start .pre) in
     (first-placed left (a .t) s (f .first), omega arith)
 
 matrix-requires-2 : tie.Need-matrix-requires-2
@@ -31,7 +31,7 @@ matrix-requires-2 c κs =
     let start = c .before .before .before .before .before .before .before in
     let a = start .args in
     let s = slotAt (a .pool .now) (a .at .size) (a .at .index) in
-    let f = left-known (a .t) s (a .x .now) (a .words .now) (messageWith (a .a) (a .residues .now)) (length (a .out .now)) (length (a .share .now)) (start .pre) in
+    let f = left-known (a .t) s (a .x .now) (a .words .now) (taken 1 (a .t) (a .residues .now)) (length (a .out .now)) (length (a .share .now)) (start .pre) in
     (first-placed left (a .t) s (f .first), omega arith)
 
 times-requires : tie.Need-times-requires
@@ -42,7 +42,7 @@ draw-requires c κs =
     let start = c .before .before .before .before .before .before .before .before .before .before in
     let a = start .args in
     let s = slotAt (a .pool .now) (a .at .size) (a .at .index) in
-    let f = left-known (a .t) s (a .x .now) (a .words .now) (messageWith (a .a) (a .residues .now)) (length (a .out .now)) (length (a .share .now)) (start .pre) in
+    let f = left-known (a .t) s (a .x .now) (a .words .now) (taken 1 (a .t) (a .residues .now)) (length (a .out .now)) (length (a .share .now)) (start .pre) in
     let enough = f .enough in
     let n = c .before .times .ensures in
     (omega (arith, f .first .terms .big), omega (arith, enough, n), omega (arith, f .share-room, n))
@@ -53,7 +53,7 @@ slice-reshare-prefix-write-message c =
     let start = at .before .before .before .before .before .before .before .before .before in
     let a = start .args in
     let s = slotAt (a .pool .now) (a .at .size) (a .at .index) in
-    let f = left-known (a .t) s (a .x .now) (a .words .now) (messageWith (a .a) (a .residues .now)) (length (a .out .now)) (length (a .share .now)) (start .pre) in
+    let f = left-known (a .t) s (a .x .now) (a .words .now) (taken 1 (a .t) (a .residues .now)) (length (a .out .now)) (length (a .share .now)) (start .pre) in
     let enough = f .enough in
     let n = at .times .ensures in
     search needs
@@ -64,7 +64,7 @@ slice-aggregate-write-message c =
     let start = at .before .before .before .before .before .before .before .before .before in
     let a = start .args in
     let s = slotAt (a .pool .now) (a .at .size) (a .at .index) in
-    let f = left-known (a .t) s (a .x .now) (a .words .now) (messageWith (a .a) (a .residues .now)) (length (a .out .now)) (length (a .share .now)) (start .pre) in
+    let f = left-known (a .t) s (a .x .now) (a .words .now) (taken 1 (a .t) (a .residues .now)) (length (a .out .now)) (length (a .share .now)) (start .pre) in
     let enough = f .enough in
     let few : at .times .result ≤ length (residuesOf (a .t .q) (a .words .now)) = omega (arith, at .times .ensures, enough) in
     let u = coins-part _ _ (a .words .now) _ _ few (c .before .before .before .draw .ensures .1) in
@@ -76,7 +76,7 @@ write-message-requires c κs =
     let start = at .before .before .before .before .before .before .before .before .before in
     let a = start .args in
     let s = slotAt (a .pool .now) (a .at .size) (a .at .index) in
-    let m = messageWith (a .a) (a .residues .now) in
+    let m = taken 1 (a .t) (a .residues .now) in
     let f = left-known (a .t) s (a .x .now) (a .words .now) m (length (a .out .now)) (length (a .share .now)) (start .pre) in
     let enough = f .enough in
     let few : at .times .result ≤ length (residuesOf (a .t .q) (a .words .now)) = omega (arith, at .times .ensures, enough) in
@@ -97,7 +97,7 @@ returns c =
     let start = at .before .before .before .before .before .before .before .before .before in
     let a = start .args in
     let s = slotAt (a .pool .now) (a .at .size) (a .at .index) in
-    let m = messageWith (a .a) (a .residues .now) in
+    let m = taken 1 (a .t) (a .residues .now) in
     let f = left-known (a .t) s (a .x .now) (a .words .now) m (length (a .out .now)) (length (a .share .now)) (start .pre) in
     let enough = f .enough in
     let few : at .times .result ≤ length (residuesOf (a .t .q) (a .words .now)) = omega (arith, at .times .ensures, enough) in

@@ -1,10 +1,12 @@
 -- `product::left::left_step` meets its contract. Assumes nothing.
 use mathlib.Core.Path.{sym, ap, _∙_}
 use mathlib.Core.List.{[]}
+use lib.ListN.{length}
 use Rattle.protocol.specs.Tape.{left, slotAt}
-use Rattle.protocol.specs.Product.{leftEffect, leftStep}
+use Rattle.protocol.specs.Message.{Message, messageWith, messageParts}
+use Rattle.protocol.specs.Product.{leftEffect, leftTests, leftStep}
 use Rattle.judging.specs.InOrder.{checked}
-use Rattle.judging.proofs.Leaving.{refused-leaves, step-leaves}
+use Rattle.judging.proofs.Leaving.{refused-leaves, step-leaves, as-taken}
 use Rattle.judging.proofs.Fits.{first-placed}
 use Rattle.product.proofs.Known.{left-known}
 use borrow.Author.Needs.{needs}
@@ -40,7 +42,13 @@ returns c =
     (sym (refused-leaves tt s [] (a .out .now) (a .share .now) _ (leftEffect (a .t) s (a .x .now) (a .words .now) _) (sym (told .before .before .check .ensures) ∙ ap checked e)))
 
 compute-requires : tie.Need-compute-requires
-compute-requires c κs = sym (c .before .before .before .before .before .check .ensures) ∙ ap checked (c .before .before .before .enum-told .given .1)
+compute-requires c κs =
+    let told = c .before .before .before in
+    let a = told .before .before .before .before .before .before .before .before .before .before .args in
+    let s = slotAt (a .pool .now) (a .at .size) (a .at .index) in
+    let passed = sym (told .before .before .check .ensures) ∙ ap checked (told .enum-told .given .1) in
+    let known = left-known (a .t) s (a .x .now) (a .words .now) (messageWith (a .a) (a .residues .now)) (length (a .out .now)) (length (a .share .now)) passed in
+    as-taken (λ (m : Message). leftTests (a .t) s (a .x .now) (a .words .now) m (length (a .out .now)) (length (a .share .now))) (known .message) passed
 
 spend-at-requires : tie.Need-spend-at-requires
 spend-at-requires c κs =
@@ -59,12 +67,12 @@ same-length-4 : tie.Need-same-length-4
 same-length-4 c = search needs
 
 returns-2 : tie.Need-returns-2
-unfolding leftStep leftEffect
+unfolding leftStep leftEffect messageParts
 returns-2 c =
     let told = c .before .before .before .before .before .before .before .before .before .before .before .before in
     let a = told .before .before .before .before .before .before .before .before .before .before .args in
     let s = slotAt (a .pool .now) (a .at .size) (a .at .index) in
-    step-leaves tt s [] (a .out .now) (a .share .now) _ (leftEffect (a .t) s (a .x .now) (a .words .now) _)
+    step-leaves tt s [] (a .out .now) (a .share .now) _ (leftEffect (a .t) s (a .x .now) (a .words .now) (messageWith (a .a) (a .residues .now)))
     (sym (told .before .before .check .ensures) ∙ ap checked (told .enum-told .given .1)) (c .before .before .before .before .before .before .before .before .compute .ensures) (c .before .before .spend-at .ensures)
 
 pub left-step-spec : {M : Type 1} → statement M

@@ -5,10 +5,11 @@ use lib.ListN.{length}
 use lib.Seq.{length-take-le}
 use Rattle.protocol.specs.Bounds.{fieldFits}
 use Rattle.protocol.specs.Tape.{solver, slotAt}
-use Rattle.protocol.specs.Message.{messageWith, messageSize}
+use Rattle.protocol.specs.Message.{messageSize}
 use Rattle.protocol.proofs.StepTests.{SolverFits}
 use Rattle.vectors.proofs.Written.{after-over, over-part}
 use Rattle.tape.specs.Placed.{Placed}
+use Rattle.judging.specs.Leaves.{taken}
 use Rattle.judging.proofs.Fits.{open-placed}
 use Rattle.solver.specs.Formulas.{sumOf}
 use Rattle.solver.proofs.Known.{few, one-side, last-known, last-counts, kept-length}
@@ -20,10 +21,10 @@ use Rattle.solver.proofs.last.compute.Tie as tie
 known : (c : tie.Start) →
     let a = c .args in
     let s = slotAt (a .pool .now) (a .at .size) (a .at .index) in
-    SolverFits 4 (a .s) s (messageWith (a .a) (a .residues .now)) (messageSize 5 (a .s .terms)) (length (a .out .now))
+    SolverFits 4 (a .s) s (taken 4 (a .s .terms) (a .residues .now)) (messageSize 5 (a .s .terms)) (length (a .out .now))
 known c =
     let a = c .args in
-    last-known (a .s) (slotAt (a .pool .now) (a .at .size) (a .at .index)) (messageWith (a .a) (a .residues .now)) (length (a .out .now)) (c .pre)
+    last-known (a .s) (slotAt (a .pool .now) (a .at .size) (a .at .index)) (taken 4 (a .s .terms) (a .residues .now)) (length (a .out .now)) (c .pre)
 
 place : (c : tie.Start) → Placed solver (c .args .s .terms) (slotAt (c .args .pool .now) (c .args .at .size) (c .args .at .index))
 place c = open-placed solver (c .args .s .terms) (slotAt (c .args .pool .now) (c .args .at .size) (c .args .at .index)) (known c .later .session-open)
@@ -45,7 +46,7 @@ write-joint-requires c κs =
     let s = slotAt (a .pool .now) (a .at .size) (a .at .index) in
     let k = known start in
     let o = k .later .session-open in
-    let n = last-counts (a .s) s (messageWith (a .a) (a .residues .now)) (length (a .out .now)) k in
+    let n = last-counts (a .s) s (taken 4 (a .s .terms) (a .residues .now)) (length (a .out .now)) k in
     let f = few t (o .terms .sides) in (
       omega (arith, o .terms .big),
       o .terms .sides,
@@ -91,7 +92,7 @@ find-t-requires c κs =
     let s = slotAt (a .pool .now) (a .at .size) (a .at .index) in
     let k = known start in
     let o = k .later .session-open in
-    let n = last-counts (a .s) s (messageWith (a .a) (a .residues .now)) (length (a .out .now)) k in
+    let n = last-counts (a .s) s (taken 4 (a .s .terms) (a .residues .now)) (length (a .out .now)) k in
     let r = sum-residues t _ (a .residues .now) (omega (arith, o .terms .big)) in
     let e = over-part (at .times .result) (sumOf t _ (a .residues .now)) _ (c .before .before .before .before .before .write-joint .ensures) (r .size ∙ sym (at .times .ensures)) in (
       o .terms .field,
@@ -122,7 +123,7 @@ returns c =
     let e = over-part (times .result) (sumOf t _ (a .residues .now)) _ (far .write-joint .ensures) (r .size ∙ sym (times .ensures)) in
     let found = c .before .before .before .find-t in
     rw (c .answer .ensures)
-    (last-left (a .s) s (messageWith (a .a) (a .residues .now)) (a .out .now) (found .result) (far .before .before .matrix .ensures)
+    (last-left (a .s) s (taken 4 (a .s .terms) (a .residues .now)) (a .out .now) (found .result) (far .before .before .matrix .ensures)
     (rw e at (found .ensures .0)) (rw e at (found .ensures .1)))
 
 pub compute-spec : {M : Type 1} → statement M

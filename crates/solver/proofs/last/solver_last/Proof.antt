@@ -3,10 +3,10 @@ use mathlib.Core.Path.{sym, ap, _∙_}
 use mathlib.Core.List.{[]}
 use lib.ListN.{length}
 use Rattle.protocol.specs.Tape.{solver, slotAt}
-use Rattle.protocol.specs.Message.{messageWith}
-use Rattle.protocol.specs.System.{solverLastEffect, solverLastTests, solverLast}
+use Rattle.protocol.specs.Message.{Message, messageWith, messageParts}
+use Rattle.protocol.specs.System.{jointSum, solverLastEffect, solverLastTests, solverLast}
 use Rattle.judging.specs.InOrder.{checked}
-use Rattle.judging.proofs.Leaving.{refused-leaves, step-leaves}
+use Rattle.judging.proofs.Leaving.{refused-leaves, step-leaves, as-taken}
 use Rattle.judging.proofs.Fits.{open-placed as placed}
 use Rattle.solver.specs.Groups.{receiving}
 use Rattle.solver.proofs.Known.{last-known}
@@ -41,7 +41,13 @@ returns c =
 
 compute-requires : tie.Need-compute-requires
 unfolding solverLastTests receiving
-compute-requires c κs = sym (c .before .before .before .before .check .ensures) ∙ ap checked (c .before .before .enum-told .given .1)
+compute-requires c κs =
+    let check = c .before .before .before .before .check in
+    let a = c .before .before .before .before .before .before .before .before .before .args in
+    let s = slotAt (a .pool .now) (a .at .size) (a .at .index) in
+    let passed = sym (check .ensures) ∙ ap checked (c .before .before .enum-told .given .1) in
+    let k = last-known (a .s) s (messageWith (a .a) (a .residues .now)) (length (a .out .now)) passed in
+    as-taken (λ (m : Message). solverLastTests (a .s) s m (length (a .out .now))) (k .message) passed
 
 spend-at-requires : tie.Need-spend-at-requires
 unfolding solverLastTests receiving
@@ -61,7 +67,7 @@ same-length-3 : tie.Need-same-length-3
 same-length-3 c = search needs
 
 returns-2 : tie.Need-returns-2
-unfolding solverLast solverLastTests solverLastEffect receiving
+unfolding solverLast solverLastTests solverLastEffect receiving messageParts jointSum
 returns-2 c =
     let far = c .before .before .before .before .before .before .before .before .before .before in
     let check = far .before .check in

@@ -7,11 +7,12 @@ use lib.Seq.{length-take-le}
 use Rattle.algebra.specs.Count.{join}
 use Rattle.algebra.specs.Words.{over}
 use Rattle.protocol.specs.Tape.{solver, slotAt}
-use Rattle.protocol.specs.Message.{messageWith, messageParts, messageSize}
+use Rattle.protocol.specs.Message.{messageParts, messageSize}
 use Rattle.protocol.specs.System.{solverSecondEffect}
 use Rattle.protocol.proofs.StepTests.{SolverFits}
 use Rattle.vectors.proofs.Written.{after-over, over-part}
 use Rattle.tape.specs.Placed.{Placed}
+use Rattle.judging.specs.Leaves.{taken}
 use Rattle.judging.proofs.Fits.{open-placed}
 use Rattle.solver.specs.Formulas.{sentPart, shareOf}
 use Rattle.solver.proofs.Known.{few, second-known, second-counts}
@@ -23,10 +24,10 @@ use Rattle.solver.proofs.second.compute.Tie as tie
 known : (c : tie.Start) →
     let a = c .args in
     let s = slotAt (a .pool .now) (a .at .size) (a .at .index) in
-    SolverFits 2 (a .s) s (messageWith (a .a) (a .residues .now)) (messageSize 3 (a .s .terms)) (length (a .out .now))
+    SolverFits 2 (a .s) s (taken 2 (a .s .terms) (a .residues .now)) (messageSize 3 (a .s .terms)) (length (a .out .now))
 known c =
     let a = c .args in
-    second-known (a .s) (slotAt (a .pool .now) (a .at .size) (a .at .index)) (messageWith (a .a) (a .residues .now)) (length (a .out .now)) (c .pre)
+    second-known (a .s) (slotAt (a .pool .now) (a .at .size) (a .at .index)) (taken 2 (a .s .terms) (a .residues .now)) (length (a .out .now)) (c .pre)
 
 place : (c : tie.Start) → Placed solver (c .args .s .terms) (slotAt (c .args .pool .now) (c .args .at .size) (c .args .at .index))
 place c = open-placed solver (c .args .s .terms) (slotAt (c .args .pool .now) (c .args .at .size) (c .args .at .index)) (known c .later .session-open)
@@ -54,7 +55,7 @@ find-share-requires c κs =
     let s = slotAt (a .pool .now) (a .at .size) (a .at .index) in
     let k = known start in
     let o = k .later .session-open in
-    let n = second-counts (a .s) s (messageWith (a .a) (a .residues .now)) (length (a .out .now)) k in (
+    let n = second-counts (a .s) s (taken 2 (a .s .terms) (a .residues .now)) (length (a .out .now)) k in (
       omega (arith, o .terms .big),
       omega (arith, o .terms .small),
       o .terms .sides,
@@ -97,7 +98,7 @@ finish-requires c κs =
     let o = k .later .session-open in
     let l = share-length t _ _ (a .residues .now) (few t (o .terms .sides) .whole) in
     let e = over-part (at .times .result) (shareOf t _ _ (a .residues .now)) _ (c .before .before .before .find-share .ensures) (l ∙ sym (at .times .ensures)) in
-    let n = second-counts (a .s) s (messageWith (a .a) (a .residues .now)) (length (a .out .now)) k in
+    let n = second-counts (a .s) s (taken 2 (a .s .terms) (a .residues .now)) (length (a .out .now)) k in
     let r = ap length (c .before .before .before .before .before .matrix3 .ensures) ∙ r-size t s (place start) in
     (omega (arith, o .terms .big), o .terms .sides, r, ap length e ∙ l, n .1)
 

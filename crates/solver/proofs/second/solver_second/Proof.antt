@@ -3,11 +3,11 @@ use mathlib.Core.Path.{sym, ap, _∙_}
 use mathlib.Core.List.{[]}
 use lib.ListN.{length}
 use Rattle.protocol.specs.Tape.{slotAt}
-use Rattle.protocol.specs.Message.{messageWith}
+use Rattle.protocol.specs.Message.{Message, messageWith, messageParts}
 use Rattle.protocol.specs.System.{solverSecondEffect, solverSecondTests, solverSecond}
 use Rattle.tape.proofs.Slots.{same-pool}
 use Rattle.judging.specs.InOrder.{checked}
-use Rattle.judging.proofs.Leaving.{refused-leaves, step-leaves}
+use Rattle.judging.proofs.Leaving.{refused-leaves, step-leaves, as-taken}
 use Rattle.solver.specs.Groups.{receiving}
 use Rattle.solver.proofs.Known.{second-known}
 use borrow.Author.Needs.{needs}
@@ -38,13 +38,19 @@ returns c =
 
 compute-requires : tie.Need-compute-requires
 unfolding solverSecondTests receiving
-compute-requires c κs = sym (c .before .before .before .check .ensures) ∙ ap checked (c .before .enum-told .given .1)
+compute-requires c κs =
+    let check = c .before .before .before .check in
+    let a = c .before .before .before .before .before .before .before .args in
+    let s = slotAt (a .pool .now) (a .at .size) (a .at .index) in
+    let passed = sym (check .ensures) ∙ ap checked (c .before .enum-told .given .1) in
+    let k = second-known (a .s) s (messageWith (a .a) (a .residues .now)) (length (a .out .now)) passed in
+    as-taken (λ (m : Message). solverSecondTests (a .s) s m (length (a .out .now))) (k .message) passed
 
 same-length : tie.Need-same-length
 same-length c = search needs
 
 returns-2 : tie.Need-returns-2
-unfolding solverSecond solverSecondTests solverSecondEffect receiving
+unfolding solverSecond solverSecondTests solverSecondEffect receiving messageParts
 returns-2 c =
     let check = c .before .before .before .before .before .before .check in
     let enum-told = c .before .before .before .before .enum-told in
