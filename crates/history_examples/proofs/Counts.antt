@@ -8,39 +8,24 @@ use mathlib.Core.Path.{_≡_, refl, sym, ap, _∙_, subst}
 use mathlib.Core.Bool.{true}
 use mathlib.Core.List.{List, [], _∷_}
 use Prim.Native.Nat.{ℕ, _+_, _*_, _^_}
-use native.Mathlib.Decide.{ℕ-discrete}
 use lib.ListN.{length}
-use Rattle.algebra.specs.Matrix.{sumTo, tabulate, zeros, addMod, subMod, matAdd, matSub, dotTo, dot, matMul}
-use Rattle.algebra.specs.Count.{both, parts, join, eqList, sumLists, count, countParts}
+use Rattle.algebra.specs.Count.{eqList, sumLists, count, countParts}
 use Rattle.algebra.specs.Inverse.{idMat, areInverse, hasInverse}
-use Rattle.algebra.specs.Columns.{cols, beside}
-use Rattle.algebra.specs.Prime.{noDivisor, isPrime}
-use Rattle.algebra.specs.Elimination.{inverseBy, inverse, swapAt, swapRows, scaleRow, clearColumn, pivotFrom, pivot, step, eliminateFrom, eliminate, regular, solution, units}
-use Rattle.algebra.specs.Product.{dealB, sendY, sendX, sendR, rightShare}
-use Rattle.algebra.specs.System.{dealV, solverShare, sendF, sendW, sendC, sumMatrix, sumVector}
-use Rattle.algebra.specs.Words.{over, writtenAt}
+use Rattle.algebra.specs.Elimination.{inverse, solution, units}
+use Rattle.algebra.specs.System.{sumVector}
 use Rattle.algebra.proofs.Pairs.{pairTest, pairs}
 use Rattle.protocol.specs.declared.Terms.{Terms}
-use Rattle.protocol.specs.Judge.{given, clear, judgeBy, judge}
-use Rattle.protocol.specs.Drawing.{isKept, residueOf, residuesOf, drawn, wordsRead, drawTests}
-use Rattle.protocol.specs.Bounds.{within, columns, allBelow, fieldFits, sidesFit, shapeTests, termsTests, inputTests, roomTests}
-use Rattle.protocol.specs.Tape.{isSlot, slotWords, poolWith, headerWords, bodySize, tapeSize, statusOf, withStatus, spent, body, matrices, wordsInUse, wordsSpent, slotTests, halfTests, tapeTests, bodyTests, Role, right, blinder, solver}
-use Rattle.protocol.specs.Deal.{drawSize, drawnParts, dealtB, dealtV, isFree, dealTests, dealtOver, dealtEffect, deal}
-use Rattle.protocol.specs.Message.{kindSort, messageLayout, messageSize, messageParts, messageTests, dueTests}
-use Rattle.protocol.specs.Step.{firstTests, isOpen, openTests, laterTests}
-use Rattle.protocol.specs.Product.{rightFirstEffect, rightFirstTests, rightFirst, leftEffect, leftTests, leftStep, rightLastEffect, rightLastTests, rightLast}
-use Rattle.protocol.specs.System.{padded, sideSize, keptS, keptM, keptY, scratchSize, keptTests, blinderTests, solverTests, coinsOf, scratchParts, regularTests, jointSum, solverFirstEffect, solverFirstTests, solverFirst, blinderFirstEffect, blinderFirstTests, blinderFirst, solverSecondEffect, solverSecondTests, solverSecond, blinderSecondEffect, blinderSecondTests, blinderSecond, solverLastEffect, solverLastTests, solverLast, blinderLastEffect, blinderLastTests, blinderLast}
-use Rattle.protocol.specs.Drop.{dropRight, dropSolver, dropBlinder}
-use Rattle.protocol.specs.Completion.{said, completions, Taken, jointMatrix, jointVector}
+use Rattle.protocol.specs.Tape.{Role, right, blinder, solver}
+use Rattle.protocol.specs.Completion.{completions, Taken, jointMatrix, jointVector}
 use Rattle.protocol.proofs.CompletionNumbers.{Numbers, numbers, solvedMatrix, solvedVector}
-use Rattle.history.specs.Ends.{isBegun, runFirst, runLater}
-use Rattle.history.specs.Log.{Call, halfRole, here, Premises}
-use Rattle.history.specs.Contents.{half}
+use Rattle.history.specs.Ends.{isBegun}
+use Rattle.history.specs.Log.{Call, Premises}
 use Rattle.history.specs.Seen.{view}
 use Rattle.history.proofs.Known.{arises}
 use Rattle.history.proofs.Stands.{known}
 use Rattle.history_examples.proofs.Example.{sizes, start, lent, system-terms, three-slots}
 use Rattle.history_examples.proofs.Interleaved.{ten-terms, answering, halfway, dropping, calls, after, premises, dropping-kept, halfway-kept, answering-kept}
+use Rattle.history_examples.proofs.Computing.{list-rules}
 
 -- ---- the views
 
@@ -55,7 +40,7 @@ Stage cs n role t k = (isBegun (after cs .state .sessions n) ≡ true) × (view 
 -- right of the second product is session 2 and the solver session 1; the blinder is session 4
 stages : Stage answering 2 right (ten-terms 3) 0 × Stage answering 1 solver (system-terms 2) 0 × Stage halfway 1 solver (system-terms 2) 1 × Stage halfway 4 blinder (system-terms 2) 1
     × Stage dropping 4 blinder (system-terms 2) 2 × Stage calls 1 solver (system-terms 2) 2 × Stage calls 4 blinder (system-terms 2) 3
-unfolding sumTo tabulate zeros addMod subMod matAdd matSub dotTo dot matMul both parts join cols beside noDivisor isPrime inverseBy inverse swapAt swapRows scaleRow clearColumn pivotFrom pivot step eliminateFrom eliminate regular solution dealB sendY sendX sendR rightShare dealV solverShare sendF sendW sendC sumMatrix over writtenAt given clear judgeBy judge isKept residueOf residuesOf drawn wordsRead drawTests within columns allBelow fieldFits sidesFit shapeTests termsTests inputTests roomTests isSlot slotWords poolWith headerWords bodySize tapeSize statusOf withStatus spent body matrices wordsInUse wordsSpent slotTests halfTests tapeTests bodyTests drawSize drawnParts dealtB dealtV isFree dealTests dealtOver dealtEffect deal kindSort messageLayout messageSize messageParts messageTests dueTests firstTests isOpen openTests laterTests rightFirstEffect rightFirstTests rightFirst leftEffect leftTests leftStep rightLastEffect rightLastTests rightLast padded sideSize keptS keptM keptY scratchSize keptTests blinderTests solverTests coinsOf scratchParts regularTests jointSum solverFirstEffect solverFirstTests solverFirst blinderFirstEffect blinderFirstTests blinderFirst solverSecondEffect solverSecondTests solverSecond blinderSecondEffect blinderSecondTests blinderSecond solverLastEffect solverLastTests solverLast blinderLastEffect blinderLastTests blinderLast dropRight dropSolver dropBlinder said runFirst runLater here halfRole half ℕ-discrete
+unfolding list-rules
 stages = (
   (refl, refl, refl, refl),
   (refl, refl, refl, refl),
@@ -68,7 +53,7 @@ stages = (
 
 -- the numbers 1 to 4 have an inverse modulo 5
 four-units : units 5 1 ≡ 4
-unfolding sumTo tabulate zeros addMod subMod matAdd matSub dotTo dot matMul both parts join cols beside noDivisor isPrime inverseBy inverse swapAt swapRows scaleRow clearColumn pivotFrom pivot step eliminateFrom eliminate regular solution dealB sendY sendX sendR rightShare dealV solverShare sendF sendW sendC sumMatrix over writtenAt given clear judgeBy judge isKept residueOf residuesOf drawn wordsRead drawTests within columns allBelow fieldFits sidesFit shapeTests termsTests inputTests roomTests isSlot slotWords poolWith headerWords bodySize tapeSize statusOf withStatus spent body matrices wordsInUse wordsSpent slotTests halfTests tapeTests bodyTests drawSize drawnParts dealtB dealtV isFree dealTests dealtOver dealtEffect deal kindSort messageLayout messageSize messageParts messageTests dueTests firstTests isOpen openTests laterTests rightFirstEffect rightFirstTests rightFirst leftEffect leftTests leftStep rightLastEffect rightLastTests rightLast padded sideSize keptS keptM keptY scratchSize keptTests blinderTests solverTests coinsOf scratchParts regularTests jointSum solverFirstEffect solverFirstTests solverFirst blinderFirstEffect blinderFirstTests blinderFirst solverSecondEffect solverSecondTests solverSecond blinderSecondEffect blinderSecondTests blinderSecond solverLastEffect solverLastTests solverLast blinderLastEffect blinderLastTests blinderLast dropRight dropSolver dropBlinder said runFirst runLater here halfRole half ℕ-discrete units count sumLists
+unfolding list-rules units count sumLists
 four-units = refl
 
 -- inputs that the blinder's and the solver's first steps take: M 1, y 1 is the blinder's own, and L 2, x 3 the solver's
@@ -76,7 +61,7 @@ taken : Taken blinder (system-terms 2) ((1 ∷ []) ∷ (1 ∷ []) ∷ [])
     × Taken blinder (system-terms 2) ((2 ∷ []) ∷ (3 ∷ []) ∷ [])
     × Taken blinder (system-terms 2) ((1 ∷ []) ∷ (2 ∷ []) ∷ [])
     × Taken solver (system-terms 2) ((2 ∷ []) ∷ (3 ∷ []) ∷ []) × Taken solver (system-terms 2) ((4 ∷ []) ∷ (0 ∷ []) ∷ [])
-unfolding sumTo tabulate zeros addMod subMod matAdd matSub dotTo dot matMul both parts join cols beside noDivisor isPrime inverseBy inverse swapAt swapRows scaleRow clearColumn pivotFrom pivot step eliminateFrom eliminate regular solution dealB sendY sendX sendR rightShare dealV solverShare sendF sendW sendC sumMatrix over writtenAt given clear judgeBy judge isKept residueOf residuesOf drawn wordsRead drawTests within columns allBelow fieldFits sidesFit shapeTests termsTests inputTests roomTests isSlot slotWords poolWith headerWords bodySize tapeSize statusOf withStatus spent body matrices wordsInUse wordsSpent slotTests halfTests tapeTests bodyTests drawSize drawnParts dealtB dealtV isFree dealTests dealtOver dealtEffect deal kindSort messageLayout messageSize messageParts messageTests dueTests firstTests isOpen openTests laterTests rightFirstEffect rightFirstTests rightFirst leftEffect leftTests leftStep rightLastEffect rightLastTests rightLast padded sideSize keptS keptM keptY scratchSize keptTests blinderTests solverTests coinsOf scratchParts regularTests jointSum solverFirstEffect solverFirstTests solverFirst blinderFirstEffect blinderFirstTests blinderFirst solverSecondEffect solverSecondTests solverSecond blinderSecondEffect blinderSecondTests blinderSecond solverLastEffect solverLastTests solverLast blinderLastEffect blinderLastTests blinderLast dropRight dropSolver dropBlinder said runFirst runLater here halfRole half ℕ-discrete
+unfolding list-rules
 taken = (refl, refl, refl, refl, refl)
 
 -- ---- unfinished
@@ -136,7 +121,7 @@ pairsFor i =
     pairs (v .terms .q) (v .terms .m) 1 (jointMatrix v i) (jointVector v i) (solvedMatrix v) (solvedVector v)
 
 pairs-are : (pairsFor ((1 ∷ []) ∷ (1 ∷ []) ∷ []) ≡ 1) × (pairsFor ((2 ∷ []) ∷ (3 ∷ []) ∷ []) ≡ 1) × (pairsFor ((1 ∷ []) ∷ (2 ∷ []) ∷ []) ≡ 0)
-unfolding sumTo tabulate zeros addMod subMod matAdd matSub dotTo dot matMul both parts join cols beside noDivisor isPrime inverseBy inverse swapAt swapRows scaleRow clearColumn pivotFrom pivot step eliminateFrom eliminate regular solution dealB sendY sendX sendR rightShare dealV solverShare sendF sendW sendC sumMatrix over writtenAt given clear judgeBy judge isKept residueOf residuesOf drawn wordsRead drawTests within columns allBelow fieldFits sidesFit shapeTests termsTests inputTests roomTests isSlot slotWords poolWith headerWords bodySize tapeSize statusOf withStatus spent body matrices wordsInUse wordsSpent slotTests halfTests tapeTests bodyTests drawSize drawnParts dealtB dealtV isFree dealTests dealtOver dealtEffect deal kindSort messageLayout messageSize messageParts messageTests dueTests firstTests isOpen openTests laterTests rightFirstEffect rightFirstTests rightFirst leftEffect leftTests leftStep rightLastEffect rightLastTests rightLast padded sideSize keptS keptM keptY scratchSize keptTests blinderTests solverTests coinsOf scratchParts regularTests jointSum solverFirstEffect solverFirstTests solverFirst blinderFirstEffect blinderFirstTests blinderFirst solverSecondEffect solverSecondTests solverSecond blinderSecondEffect blinderSecondTests blinderSecond solverLastEffect solverLastTests solverLast blinderLastEffect blinderLastTests blinderLast dropRight dropSolver dropBlinder said runFirst runLater here halfRole half ℕ-discrete units count sumLists countParts pairs pairTest eqList idMat areInverse hasInverse sumVector
+unfolding list-rules units count sumLists countParts pairs pairTest eqList idMat areInverse hasInverse sumVector
 pairs-are = (refl, refl, refl)
 
 after-4 : (i : List (List ℕ)) → Taken blinder (system-terms 2) i → completions (view (after calls .log) 1) i ≡ pairsFor i

@@ -7,36 +7,24 @@ use mathlib.Core.List.{List, [], _∷_, _++_}
 use mathlib.Core.Option.{Option, some, none}
 use Prim.Native.Nat.{ℕ, zero, suc, _+_, _≤_, _<_}
 use native.Mathlib.Omega.{arith}
-use native.Mathlib.Decide.{ℕ-discrete}
 use lib.Dec.{eqb}
 use lib.ListN.{length, take, replicate}
 use borrow.Author.Tests.{ltb-true, eq-eqb}
-use Rattle.algebra.specs.Matrix.{sumTo, tabulate, zeros, addMod, subMod, matAdd, matSub, dotTo, dot, matMul}
-use Rattle.algebra.specs.Count.{both, parts, join, eqList, sumLists, count}
+use Rattle.algebra.specs.Count.{both, eqList, sumLists, count}
 use Rattle.algebra.specs.Inverse.{idMat, areInverse, hasInverse}
-use Rattle.algebra.specs.Columns.{cols, beside}
-use Rattle.algebra.specs.Prime.{noDivisor, isPrime}
-use Rattle.algebra.specs.Elimination.{inverseBy, inverse, swapAt, swapRows, scaleRow, clearColumn, pivotFrom, pivot, step, eliminateFrom, eliminate, regular, solution}
-use Rattle.algebra.specs.Product.{dealB, sendY, sendX, sendR, rightShare}
-use Rattle.algebra.specs.System.{dealV, solverShare, sendF, sendW, sendC, sumMatrix}
-use Rattle.algebra.specs.Words.{over, writtenAt}
+use Rattle.algebra.specs.Elimination.{step, solution}
 use Rattle.protocol.specs.declared.Terms.{Terms}
 use Rattle.protocol.specs.declared.Answer.the-variants.{Accepted, Refused}
 use Rattle.protocol.specs.declared.Refusal.the-variants.{Singular}
-use Rattle.protocol.specs.Judge.{given, clear, judgeBy, judge}
-use Rattle.protocol.specs.Drawing.{isKept, residueOf, residuesOf, drawn, wordsRead, drawTests}
-use Rattle.protocol.specs.Bounds.{product, within, columns, allBelow, fieldFits, sidesFit, shapeTests, termsTests, inputTests, roomTests}
-use Rattle.protocol.specs.Tape.{headerSize, EMPTY, READY, SPENT, isSlot, slotWords, poolWith, headerWords, bodySize, tapeSize, statusOf, withStatus, spent, body, matrices, wordsInUse, wordsSpent, slotTests, halfTests, tapeTests, bodyTests, Role, sortOf, left, right, blinder, solver}
-use Rattle.protocol.specs.Deal.{Request, productRequest, systemRequest, drawSize, drawnParts, dealtB, dealtV, isFree, dealTests, dealtOver, dealtEffect, deal, dealAnswer}
-use Rattle.protocol.specs.Message.{Message, kindSort, messageLayout, messageSize, messageParts, messageTests, dueTests}
-use Rattle.protocol.specs.Step.{answerNumber, answerAfter, firstTests, isOpen, openTests, laterTests}
-use Rattle.protocol.specs.Product.{rightFirstEffect, rightFirstTests, rightFirst, leftEffect, leftTests, leftStep, rightLastEffect, rightLastTests, rightLast}
-use Rattle.protocol.specs.System.{padded, sideSize, keptS, keptM, keptY, scratchSize, keptTests, blinderTests, solverTests, coinsOf, scratchParts, regularTests, jointSum, solverFirstEffect, solverFirstTests, solverFirst, blinderFirstEffect, blinderFirstTests, blinderFirst, solverSecondEffect, solverSecondTests, solverSecond, blinderSecondEffect, blinderSecondTests, blinderSecond, solverLastEffect, solverLastTests, solverLast, blinderLastEffect, blinderLastTests, blinderLast}
-use Rattle.protocol.specs.Drop.{dropRight, dropSolver, dropBlinder}
+use Rattle.protocol.specs.Bounds.{product}
+use Rattle.protocol.specs.Tape.{headerSize, EMPTY, READY, SPENT, isSlot, slotWords, headerWords, statusOf, spent, Role, sortOf, left, right, blinder, solver}
+use Rattle.protocol.specs.Deal.{Request, productRequest, systemRequest, deal, dealAnswer}
+use Rattle.protocol.specs.Message.{Message}
+use Rattle.protocol.specs.Step.{answerNumber, answerAfter}
 use Rattle.protocol.specs.View.{View, facing, kindsSent, Finished}
-use Rattle.protocol.specs.Completion.{said, completions, Counted, solutionFor, answerSeen}
+use Rattle.protocol.specs.Completion.{completions, Counted, solutionFor, answerSeen}
 use Rattle.history.specs.Ends.{Session, isBegun, dueIn, roleIn, right-first, left-only, solver-first, blinder-first, right-last, solver-second, solver-last, blinder-second, blinder-last, right-drop, solver-drop, blinder-drop, Step, goes-on, runFirst, runLater}
-use Rattle.history.specs.Log.{Party, first, second, opposite, Call, dealing, beginning, continuing, Dealing, Did, Entry, dealt, did, World, begunIn, slotOf, run, halfRole, holds, here, WasDealt, numberOf, Distinct, Premises}
+use Rattle.history.specs.Log.{Party, first, second, opposite, Call, dealing, beginning, continuing, Dealing, Did, Entry, dealt, did, World, begunIn, slotOf, run, halfRole, holds, WasDealt, numberOf, Distinct, Premises}
 use Rattle.history.specs.Contents.{half}
 use Rattle.history.specs.Seen.{view, as-answered}
 use Rattle.history.specs.Claim.{Demand3}
@@ -45,6 +33,7 @@ use Rattle.history.proofs.Demand.{demand-3}
 use Rattle.history.proofs.Rightness.{demand-2}
 use Rattle.history.proofs.Facts.{same-dealing, none≢}
 use Rattle.history.proofs.Named.{unbegun}
+use Rattle.history_examples.proofs.Computing.{list-rules}
 
 -- a slot that the solver's half of a system with one unknown fills
 abbrev pub slot-size : ℕ
@@ -172,7 +161,7 @@ pub all-answers : answers calls
     ∷ 9 ∷ 0
     ∷ 6 ∷ 0 ∷ 4
     ∷ []
-unfolding sumTo tabulate zeros addMod subMod matAdd matSub dotTo dot matMul both parts join cols beside noDivisor isPrime inverseBy inverse swapAt swapRows scaleRow clearColumn pivotFrom pivot step eliminateFrom eliminate regular solution dealB sendY sendX sendR rightShare dealV solverShare sendF sendW sendC sumMatrix over writtenAt given clear judgeBy judge isKept residueOf residuesOf drawn wordsRead drawTests within columns allBelow fieldFits sidesFit shapeTests termsTests inputTests roomTests isSlot slotWords poolWith headerWords bodySize tapeSize statusOf withStatus spent body matrices wordsInUse wordsSpent slotTests halfTests tapeTests bodyTests drawSize drawnParts dealtB dealtV isFree dealTests dealtOver dealtEffect deal kindSort messageLayout messageSize messageParts messageTests dueTests firstTests isOpen openTests laterTests rightFirstEffect rightFirstTests rightFirst leftEffect leftTests leftStep rightLastEffect rightLastTests rightLast padded sideSize keptS keptM keptY scratchSize keptTests blinderTests solverTests coinsOf scratchParts regularTests jointSum solverFirstEffect solverFirstTests solverFirst blinderFirstEffect blinderFirstTests blinderFirst solverSecondEffect solverSecondTests solverSecond blinderSecondEffect blinderSecondTests blinderSecond solverLastEffect solverLastTests solverLast blinderLastEffect blinderLastTests blinderLast dropRight dropSolver dropBlinder said runFirst runLater here halfRole half ℕ-discrete
+unfolding list-rules
 all-answers = refl
 
 -- ---- what stands then
@@ -183,7 +172,7 @@ pub then-stands : (slotWords (slotOf sizes (end .state .pools) first 0) ≡ head
     × (slotWords (slotOf sizes (end .state .pools) second 0) ≡ headerWords SPENT 6 product 7 1 2 1 ++ (0 ∷ 0 ∷ 0 ∷ 9 ∷ 9 ∷ 9 ∷ []))
     × (end .state .scratches 3 ≡ 0 ∷ 0 ∷ 0 ∷ 9 ∷ [])
     × (view (end .log) 4 .half ≡ (6 ∷ 3 ∷ []) ∷ (2 ∷ []) ∷ [])
-unfolding sumTo tabulate zeros addMod subMod matAdd matSub dotTo dot matMul both parts join cols beside noDivisor isPrime inverseBy inverse swapAt swapRows scaleRow clearColumn pivotFrom pivot step eliminateFrom eliminate regular solution dealB sendY sendX sendR rightShare dealV solverShare sendF sendW sendC sumMatrix over writtenAt given clear judgeBy judge isKept residueOf residuesOf drawn wordsRead drawTests within columns allBelow fieldFits sidesFit shapeTests termsTests inputTests roomTests isSlot slotWords poolWith headerWords bodySize tapeSize statusOf withStatus spent body matrices wordsInUse wordsSpent slotTests halfTests tapeTests bodyTests drawSize drawnParts dealtB dealtV isFree dealTests dealtOver dealtEffect deal kindSort messageLayout messageSize messageParts messageTests dueTests firstTests isOpen openTests laterTests rightFirstEffect rightFirstTests rightFirst leftEffect leftTests leftStep rightLastEffect rightLastTests rightLast padded sideSize keptS keptM keptY scratchSize keptTests blinderTests solverTests coinsOf scratchParts regularTests jointSum solverFirstEffect solverFirstTests solverFirst blinderFirstEffect blinderFirstTests blinderFirst solverSecondEffect solverSecondTests solverSecond blinderSecondEffect blinderSecondTests blinderSecond solverLastEffect solverLastTests solverLast blinderLastEffect blinderLastTests blinderLast dropRight dropSolver dropBlinder said runFirst runLater here halfRole half ℕ-discrete
+unfolding list-rules
 then-stands = (refl, refl, refl, refl)
 
 -- ---- the premises
@@ -236,19 +225,19 @@ pub no-session : (cs : List Call) (m n : ℕ) → begunIn (run sizes start lent 
 no-session cs m n e h d r = omega (arith, d, ap dueIn (unbegun sizes start lent cs n (omega (arith, e, h))))
 
 calm-one : (n : ℕ) → NoBlinder (run sizes start lent one .state .sessions n)
-unfolding sumTo tabulate zeros addMod subMod matAdd matSub dotTo dot matMul both parts join cols beside noDivisor isPrime inverseBy inverse swapAt swapRows scaleRow clearColumn pivotFrom pivot step eliminateFrom eliminate regular solution dealB sendY sendX sendR rightShare dealV solverShare sendF sendW sendC sumMatrix over writtenAt given clear judgeBy judge isKept residueOf residuesOf drawn wordsRead drawTests within columns allBelow fieldFits sidesFit shapeTests termsTests inputTests roomTests isSlot slotWords poolWith headerWords bodySize tapeSize statusOf withStatus spent body matrices wordsInUse wordsSpent slotTests halfTests tapeTests bodyTests drawSize drawnParts dealtB dealtV isFree dealTests dealtOver dealtEffect deal kindSort messageLayout messageSize messageParts messageTests dueTests firstTests isOpen openTests laterTests rightFirstEffect rightFirstTests rightFirst leftEffect leftTests leftStep rightLastEffect rightLastTests rightLast padded sideSize keptS keptM keptY scratchSize keptTests blinderTests solverTests coinsOf scratchParts regularTests jointSum solverFirstEffect solverFirstTests solverFirst blinderFirstEffect blinderFirstTests blinderFirst solverSecondEffect solverSecondTests solverSecond blinderSecondEffect blinderSecondTests blinderSecond solverLastEffect solverLastTests solverLast blinderLastEffect blinderLastTests blinderLast dropRight dropSolver dropBlinder said runFirst runLater here halfRole half ℕ-discrete
+unfolding list-rules
 calm-one zero d r = other-role r (λ e. cc)
 calm-one (suc n) d r = no-session one 1 (suc n) refl (omega arith) d r
 
 calm-two : (n : ℕ) → NoBlinder (run sizes start lent two .state .sessions n)
-unfolding sumTo tabulate zeros addMod subMod matAdd matSub dotTo dot matMul both parts join cols beside noDivisor isPrime inverseBy inverse swapAt swapRows scaleRow clearColumn pivotFrom pivot step eliminateFrom eliminate regular solution dealB sendY sendX sendR rightShare dealV solverShare sendF sendW sendC sumMatrix over writtenAt given clear judgeBy judge isKept residueOf residuesOf drawn wordsRead drawTests within columns allBelow fieldFits sidesFit shapeTests termsTests inputTests roomTests isSlot slotWords poolWith headerWords bodySize tapeSize statusOf withStatus spent body matrices wordsInUse wordsSpent slotTests halfTests tapeTests bodyTests drawSize drawnParts dealtB dealtV isFree dealTests dealtOver dealtEffect deal kindSort messageLayout messageSize messageParts messageTests dueTests firstTests isOpen openTests laterTests rightFirstEffect rightFirstTests rightFirst leftEffect leftTests leftStep rightLastEffect rightLastTests rightLast padded sideSize keptS keptM keptY scratchSize keptTests blinderTests solverTests coinsOf scratchParts regularTests jointSum solverFirstEffect solverFirstTests solverFirst blinderFirstEffect blinderFirstTests blinderFirst solverSecondEffect solverSecondTests solverSecond blinderSecondEffect blinderSecondTests blinderSecond solverLastEffect solverLastTests solverLast blinderLastEffect blinderLastTests blinderLast dropRight dropSolver dropBlinder said runFirst runLater here halfRole half ℕ-discrete
+unfolding list-rules
 calm-two zero d r = omega (arith, d)
 calm-two (suc zero) d r = omega (arith, d)
 calm-two (suc (suc zero)) d r = other-role r (λ e. cc)
 calm-two (suc (suc (suc n))) d r = no-session two 3 (suc (suc (suc n))) refl (omega arith) d r
 
 premises : Premises sizes (end .log)
-unfolding sumTo tabulate zeros addMod subMod matAdd matSub dotTo dot matMul both parts join cols beside noDivisor isPrime inverseBy inverse swapAt swapRows scaleRow clearColumn pivotFrom pivot step eliminateFrom eliminate regular solution dealB sendY sendX sendR rightShare dealV solverShare sendF sendW sendC sumMatrix over writtenAt given clear judgeBy judge isKept residueOf residuesOf drawn wordsRead drawTests within columns allBelow fieldFits sidesFit shapeTests termsTests inputTests roomTests isSlot slotWords poolWith headerWords bodySize tapeSize statusOf withStatus spent body matrices wordsInUse wordsSpent slotTests halfTests tapeTests bodyTests drawSize drawnParts dealtB dealtV isFree dealTests dealtOver dealtEffect deal kindSort messageLayout messageSize messageParts messageTests dueTests firstTests isOpen openTests laterTests rightFirstEffect rightFirstTests rightFirst leftEffect leftTests leftStep rightLastEffect rightLastTests rightLast padded sideSize keptS keptM keptY scratchSize keptTests blinderTests solverTests coinsOf scratchParts regularTests jointSum solverFirstEffect solverFirstTests solverFirst blinderFirstEffect blinderFirstTests blinderFirst solverSecondEffect solverSecondTests solverSecond blinderSecondEffect blinderSecondTests blinderSecond solverLastEffect solverLastTests solverLast blinderLastEffect blinderLastTests blinderLast dropRight dropSolver dropBlinder said runFirst runLater here halfRole half ℕ-discrete
+unfolding list-rules
 premises = (
   distinct (end .log) refl,
   (
@@ -338,18 +327,18 @@ of-this-list = demand-3 sizes start lent three-slots calls premises
 
 -- of the blinder of the second system, and of right in the first product: the other end's inputs of RULES 9.3 are counted
 blinder-counts : Counted (view (end .log) 3) ((2 ∷ []) ∷ (3 ∷ []) ∷ [])
-unfolding sumTo tabulate zeros addMod subMod matAdd matSub dotTo dot matMul both parts join cols beside noDivisor isPrime inverseBy inverse swapAt swapRows scaleRow clearColumn pivotFrom pivot step eliminateFrom eliminate regular solution dealB sendY sendX sendR rightShare dealV solverShare sendF sendW sendC sumMatrix over writtenAt given clear judgeBy judge isKept residueOf residuesOf drawn wordsRead drawTests within columns allBelow fieldFits sidesFit shapeTests termsTests inputTests roomTests isSlot slotWords poolWith headerWords bodySize tapeSize statusOf withStatus spent body matrices wordsInUse wordsSpent slotTests halfTests tapeTests bodyTests drawSize drawnParts dealtB dealtV isFree dealTests dealtOver dealtEffect deal kindSort messageLayout messageSize messageParts messageTests dueTests firstTests isOpen openTests laterTests rightFirstEffect rightFirstTests rightFirst leftEffect leftTests leftStep rightLastEffect rightLastTests rightLast padded sideSize keptS keptM keptY scratchSize keptTests blinderTests solverTests coinsOf scratchParts regularTests jointSum solverFirstEffect solverFirstTests solverFirst blinderFirstEffect blinderFirstTests blinderFirst solverSecondEffect solverSecondTests solverSecond blinderSecondEffect blinderSecondTests blinderSecond solverLastEffect solverLastTests solverLast blinderLastEffect blinderLastTests blinderLast dropRight dropSolver dropBlinder said runFirst runLater here halfRole half ℕ-discrete sumLists count eqList idMat areInverse hasInverse
+unfolding list-rules sumLists count eqList idMat areInverse hasInverse
 blinder-counts = record { taken = refl; sum = refl }
 
 right-counts : Counted (view (end .log) 4) ((3 ∷ 5 ∷ []) ∷ [])
-unfolding sumTo tabulate zeros addMod subMod matAdd matSub dotTo dot matMul both parts join cols beside noDivisor isPrime inverseBy inverse swapAt swapRows scaleRow clearColumn pivotFrom pivot step eliminateFrom eliminate regular solution dealB sendY sendX sendR rightShare dealV solverShare sendF sendW sendC sumMatrix over writtenAt given clear judgeBy judge isKept residueOf residuesOf drawn wordsRead drawTests within columns allBelow fieldFits sidesFit shapeTests termsTests inputTests roomTests isSlot slotWords poolWith headerWords bodySize tapeSize statusOf withStatus spent body matrices wordsInUse wordsSpent slotTests halfTests tapeTests bodyTests drawSize drawnParts dealtB dealtV isFree dealTests dealtOver dealtEffect deal kindSort messageLayout messageSize messageParts messageTests dueTests firstTests isOpen openTests laterTests rightFirstEffect rightFirstTests rightFirst leftEffect leftTests leftStep rightLastEffect rightLastTests rightLast padded sideSize keptS keptM keptY scratchSize keptTests blinderTests solverTests coinsOf scratchParts regularTests jointSum solverFirstEffect solverFirstTests solverFirst blinderFirstEffect blinderFirstTests blinderFirst solverSecondEffect solverSecondTests solverSecond blinderSecondEffect blinderSecondTests blinderSecond solverLastEffect solverLastTests solverLast blinderLastEffect blinderLastTests blinderLast dropRight dropSolver dropBlinder said runFirst runLater here halfRole half ℕ-discrete
+unfolding list-rules
 right-counts = record { taken = refl; sum = refl }
 
 -- both are finished, and the blinder has seen the solution
 ended : (isBegun (end .state .sessions 3) ≡ true) × (view (end .log) 3 .role ≡ blinder) × (length (view (end .log) 3 .received) ≡ 3)
     × (answerSeen (view (end .log) 3) ≡ 3 ∷ []) × (solutionFor (view (end .log) 3) ((2 ∷ []) ∷ (3 ∷ []) ∷ []) ≡ 3 ∷ [])
     × (isBegun (end .state .sessions 4) ≡ true) × (view (end .log) 4 .role ≡ right) × (length (view (end .log) 4 .received) ≡ 1)
-unfolding sumTo tabulate zeros addMod subMod matAdd matSub dotTo dot matMul both parts join cols beside noDivisor isPrime inverseBy inverse swapAt swapRows scaleRow clearColumn pivotFrom pivot step eliminateFrom eliminate regular solution dealB sendY sendX sendR rightShare dealV solverShare sendF sendW sendC sumMatrix over writtenAt given clear judgeBy judge isKept residueOf residuesOf drawn wordsRead drawTests within columns allBelow fieldFits sidesFit shapeTests termsTests inputTests roomTests isSlot slotWords poolWith headerWords bodySize tapeSize statusOf withStatus spent body matrices wordsInUse wordsSpent slotTests halfTests tapeTests bodyTests drawSize drawnParts dealtB dealtV isFree dealTests dealtOver dealtEffect deal kindSort messageLayout messageSize messageParts messageTests dueTests firstTests isOpen openTests laterTests rightFirstEffect rightFirstTests rightFirst leftEffect leftTests leftStep rightLastEffect rightLastTests rightLast padded sideSize keptS keptM keptY scratchSize keptTests blinderTests solverTests coinsOf scratchParts regularTests jointSum solverFirstEffect solverFirstTests solverFirst blinderFirstEffect blinderFirstTests blinderFirst solverSecondEffect solverSecondTests solverSecond blinderSecondEffect blinderSecondTests blinderSecond solverLastEffect solverLastTests solverLast blinderLastEffect blinderLastTests blinderLast dropRight dropSolver dropBlinder said runFirst runLater here halfRole half ℕ-discrete
+unfolding list-rules
 ended = (refl, refl, refl, refl, refl, refl, refl, refl)
 
 pub finished-by : (v : View) (r : Role) (n : ℕ) → v .role ≡ r → length (v .received) ≡ n → n ≡ length (kindsSent (facing r)) → Finished v
@@ -398,19 +387,19 @@ arrived o r n n′ i a b h la lb = record {
 -- RULES 9.3's product: left is session 5 and right session 4. Its system: the blinder is session 3 and the solver session 2. The system with a singular sum:
 -- the blinder is session 1 and the solver session 0
 product-met : Ends-here end left 5 4 4 ((3 ∷ 3 ∷ []) ∷ []) ((3 ∷ 3 ∷ []) ∷ []) ((4 ∷ 2 ∷ 3 ∷ []) ∷ []) ((4 ∷ 2 ∷ 3 ∷ []) ∷ [])
-unfolding sumTo tabulate zeros addMod subMod matAdd matSub dotTo dot matMul both parts join cols beside noDivisor isPrime inverseBy inverse swapAt swapRows scaleRow clearColumn pivotFrom pivot step eliminateFrom eliminate regular solution dealB sendY sendX sendR rightShare dealV solverShare sendF sendW sendC sumMatrix over writtenAt given clear judgeBy judge isKept residueOf residuesOf drawn wordsRead drawTests within columns allBelow fieldFits sidesFit shapeTests termsTests inputTests roomTests isSlot slotWords poolWith headerWords bodySize tapeSize statusOf withStatus spent body matrices wordsInUse wordsSpent slotTests halfTests tapeTests bodyTests drawSize drawnParts dealtB dealtV isFree dealTests dealtOver dealtEffect deal kindSort messageLayout messageSize messageParts messageTests dueTests firstTests isOpen openTests laterTests rightFirstEffect rightFirstTests rightFirst leftEffect leftTests leftStep rightLastEffect rightLastTests rightLast padded sideSize keptS keptM keptY scratchSize keptTests blinderTests solverTests coinsOf scratchParts regularTests jointSum solverFirstEffect solverFirstTests solverFirst blinderFirstEffect blinderFirstTests blinderFirst solverSecondEffect solverSecondTests solverSecond blinderSecondEffect blinderSecondTests blinderSecond solverLastEffect solverLastTests solverLast blinderLastEffect blinderLastTests blinderLast dropRight dropSolver dropBlinder said runFirst runLater here halfRole half ℕ-discrete
+unfolding list-rules
 product-met = (refl, refl, refl, refl, refl, refl, refl, refl, refl, refl)
 
 system-met : Ends-here end blinder 3 2 7 ((3 ∷ 1 ∷ []) ∷ (4 ∷ []) ∷ (1 ∷ []) ∷ []) ((3 ∷ 1 ∷ []) ∷ (4 ∷ []) ∷ (1 ∷ []) ∷ []) ((3 ∷ 0 ∷ 2 ∷ []) ∷ (1 ∷ 4 ∷ []) ∷ []) ((3 ∷ 0 ∷ 2 ∷ []) ∷ (1 ∷ 4 ∷ []) ∷ [])
-unfolding sumTo tabulate zeros addMod subMod matAdd matSub dotTo dot matMul both parts join cols beside noDivisor isPrime inverseBy inverse swapAt swapRows scaleRow clearColumn pivotFrom pivot step eliminateFrom eliminate regular solution dealB sendY sendX sendR rightShare dealV solverShare sendF sendW sendC sumMatrix over writtenAt given clear judgeBy judge isKept residueOf residuesOf drawn wordsRead drawTests within columns allBelow fieldFits sidesFit shapeTests termsTests inputTests roomTests isSlot slotWords poolWith headerWords bodySize tapeSize statusOf withStatus spent body matrices wordsInUse wordsSpent slotTests halfTests tapeTests bodyTests drawSize drawnParts dealtB dealtV isFree dealTests dealtOver dealtEffect deal kindSort messageLayout messageSize messageParts messageTests dueTests firstTests isOpen openTests laterTests rightFirstEffect rightFirstTests rightFirst leftEffect leftTests leftStep rightLastEffect rightLastTests rightLast padded sideSize keptS keptM keptY scratchSize keptTests blinderTests solverTests coinsOf scratchParts regularTests jointSum solverFirstEffect solverFirstTests solverFirst blinderFirstEffect blinderFirstTests blinderFirst solverSecondEffect solverSecondTests solverSecond blinderSecondEffect blinderSecondTests blinderSecond solverLastEffect solverLastTests solverLast blinderLastEffect blinderLastTests blinderLast dropRight dropSolver dropBlinder said runFirst runLater here halfRole half ℕ-discrete
+unfolding list-rules
 system-met = (refl, refl, refl, refl, refl, refl, refl, refl, refl, refl)
 
 singular-met : Ends-here end blinder 1 0 5 ((3 ∷ 1 ∷ []) ∷ (4 ∷ []) ∷ []) ((3 ∷ 1 ∷ []) ∷ (4 ∷ []) ∷ []) ((3 ∷ 0 ∷ 2 ∷ []) ∷ []) ((3 ∷ 0 ∷ 2 ∷ []) ∷ (3 ∷ 4 ∷ []) ∷ [])
-unfolding sumTo tabulate zeros addMod subMod matAdd matSub dotTo dot matMul both parts join cols beside noDivisor isPrime inverseBy inverse swapAt swapRows scaleRow clearColumn pivotFrom pivot step eliminateFrom eliminate regular solution dealB sendY sendX sendR rightShare dealV solverShare sendF sendW sendC sumMatrix over writtenAt given clear judgeBy judge isKept residueOf residuesOf drawn wordsRead drawTests within columns allBelow fieldFits sidesFit shapeTests termsTests inputTests roomTests isSlot slotWords poolWith headerWords bodySize tapeSize statusOf withStatus spent body matrices wordsInUse wordsSpent slotTests halfTests tapeTests bodyTests drawSize drawnParts dealtB dealtV isFree dealTests dealtOver dealtEffect deal kindSort messageLayout messageSize messageParts messageTests dueTests firstTests isOpen openTests laterTests rightFirstEffect rightFirstTests rightFirst leftEffect leftTests leftStep rightLastEffect rightLastTests rightLast padded sideSize keptS keptM keptY scratchSize keptTests blinderTests solverTests coinsOf scratchParts regularTests jointSum solverFirstEffect solverFirstTests solverFirst blinderFirstEffect blinderFirstTests blinderFirst solverSecondEffect solverSecondTests solverSecond blinderSecondEffect blinderSecondTests blinderSecond solverLastEffect solverLastTests solverLast blinderLastEffect blinderLastTests blinderLast dropRight dropSolver dropBlinder said runFirst runLater here halfRole half ℕ-discrete
+unfolding list-rules
 singular-met = (refl, refl, refl, refl, refl, refl, refl, refl, refl, refl)
 
 gave : (result (end .log) 5 ≡ 5 ∷ []) × (result (end .log) 4 ≡ 3 ∷ []) × (result (end .log) 3 ≡ 3 ∷ [])
-unfolding sumTo tabulate zeros addMod subMod matAdd matSub dotTo dot matMul both parts join cols beside noDivisor isPrime inverseBy inverse swapAt swapRows scaleRow clearColumn pivotFrom pivot step eliminateFrom eliminate regular solution dealB sendY sendX sendR rightShare dealV solverShare sendF sendW sendC sumMatrix over writtenAt given clear judgeBy judge isKept residueOf residuesOf drawn wordsRead drawTests within columns allBelow fieldFits sidesFit shapeTests termsTests inputTests roomTests isSlot slotWords poolWith headerWords bodySize tapeSize statusOf withStatus spent body matrices wordsInUse wordsSpent slotTests halfTests tapeTests bodyTests drawSize drawnParts dealtB dealtV isFree dealTests dealtOver dealtEffect deal kindSort messageLayout messageSize messageParts messageTests dueTests firstTests isOpen openTests laterTests rightFirstEffect rightFirstTests rightFirst leftEffect leftTests leftStep rightLastEffect rightLastTests rightLast padded sideSize keptS keptM keptY scratchSize keptTests blinderTests solverTests coinsOf scratchParts regularTests jointSum solverFirstEffect solverFirstTests solverFirst blinderFirstEffect blinderFirstTests blinderFirst solverSecondEffect solverSecondTests solverSecond blinderSecondEffect blinderSecondTests blinderSecond solverLastEffect solverLastTests solverLast blinderLastEffect blinderLastTests blinderLast dropRight dropSolver dropBlinder said runFirst runLater here halfRole half ℕ-discrete
+unfolding list-rules
 gave = (refl, refl, refl)
 
 -- so the shares 5 and 3 add to the product, and z 3 is the only solution
@@ -427,7 +416,7 @@ stepIn (some e) = some (e .step)
 
 singular-step : (stepIn (newest (end .log) 0) ≡ some (goes-on (solver-last (msg 4 (system-terms 5) (3 ∷ 4 ∷ [])) 1)))
     × (hasInverse (view (end .log) 1 .terms .q) (view (end .log) 1 .terms .m) (sumOf (view (end .log) 1) (view (end .log) 0)) ≡ false)
-unfolding sumTo tabulate zeros addMod subMod matAdd matSub dotTo dot matMul both parts join cols beside noDivisor isPrime inverseBy inverse swapAt swapRows scaleRow clearColumn pivotFrom pivot step eliminateFrom eliminate regular solution dealB sendY sendX sendR rightShare dealV solverShare sendF sendW sendC sumMatrix over writtenAt given clear judgeBy judge isKept residueOf residuesOf drawn wordsRead drawTests within columns allBelow fieldFits sidesFit shapeTests termsTests inputTests roomTests isSlot slotWords poolWith headerWords bodySize tapeSize statusOf withStatus spent body matrices wordsInUse wordsSpent slotTests halfTests tapeTests bodyTests drawSize drawnParts dealtB dealtV isFree dealTests dealtOver dealtEffect deal kindSort messageLayout messageSize messageParts messageTests dueTests firstTests isOpen openTests laterTests rightFirstEffect rightFirstTests rightFirst leftEffect leftTests leftStep rightLastEffect rightLastTests rightLast padded sideSize keptS keptM keptY scratchSize keptTests blinderTests solverTests coinsOf scratchParts regularTests jointSum solverFirstEffect solverFirstTests solverFirst blinderFirstEffect blinderFirstTests blinderFirst solverSecondEffect solverSecondTests solverSecond blinderSecondEffect blinderSecondTests blinderSecond solverLastEffect solverLastTests solverLast blinderLastEffect blinderLastTests blinderLast dropRight dropSolver dropBlinder said runFirst runLater here halfRole half ℕ-discrete sumLists count eqList idMat areInverse hasInverse
+unfolding list-rules sumLists count eqList idMat areInverse hasInverse
 singular-step = (refl, refl)
 
 pub singular-here : (e : Did) × (newest (end .log) 0 ≡ some e) × (e .effect .answer ≡ Refused Singular)

@@ -17,35 +17,29 @@ use Prim.Native.Nat.{ℕ, zero, suc, _+_, _≤_}
 use native.Mathlib.Omega.{arith}
 use native.Mathlib.Decide.{ℕ-discrete}
 use lib.ListN.{length, take}
-use Rattle.algebra.specs.Matrix.{sumTo, tabulate, zeros, addMod, subMod, matAdd, matSub, dotTo, dot, matMul}
-use Rattle.algebra.specs.Count.{both, parts, join, part}
-use Rattle.algebra.specs.Columns.{cols, beside}
-use Rattle.algebra.specs.Prime.{noDivisor, isPrime}
-use Rattle.algebra.specs.Elimination.{inverseBy, inverse, swapAt, swapRows, scaleRow, clearColumn, pivotFrom, pivot, step, eliminateFrom, eliminate, regular, solution}
-use Rattle.algebra.specs.Product.{dealB, sendY, sendX, sendR, rightShare}
-use Rattle.algebra.specs.System.{dealV, solverShare, sendF, sendW, sendC, sumMatrix}
-use Rattle.algebra.specs.Words.{over, writtenAt}
+use Rattle.algebra.specs.Count.{both, parts, part}
+use Rattle.algebra.specs.Elimination.{step, regular}
+use Rattle.algebra.specs.Words.{over}
 use Rattle.protocol.specs.declared.Terms.{Terms}
-use Rattle.protocol.specs.Judge.{Judged, refused, done, given, clear, judgeBy, judge}
-use Rattle.protocol.specs.Drawing.{isKept, residueOf, residuesOf, drawn, wordsRead, drawTests}
-use Rattle.protocol.specs.Bounds.{within, columns, allBelow, fieldFits, sidesFit, shapeTests, termsTests, inputTests, roomTests, system}
-use Rattle.protocol.specs.Tape.{headerSize, isSlot, slotWords, poolWith, headerWords, bodySize, tapeSize, statusOf, withStatus, spent, body, matrices, wordsInUse, wordsSpent, slotTests, halfTests, tapeTests, bodyTests, Role, left, right, blinder, solver}
-use Rattle.protocol.specs.Deal.{Request, Dealt, productRequest, drawSize, drawnParts, dealtB, dealtV, isFree, dealTests, dealtOver, dealtEffect, deal, maskFits}
-use Rattle.protocol.specs.Message.{Message, kindSort, messageLayout, messageSize, messageParts, messageTests, dueTests}
-use Rattle.protocol.specs.Step.{Outcome, firstTests, isOpen, openTests, laterTests}
-use Rattle.protocol.specs.Product.{rightFirstEffect, rightFirstTests, rightFirst, leftEffect, leftTests, leftStep, rightLastEffect, rightLastTests, rightLast}
-use Rattle.protocol.specs.System.{padded, sideSize, keptS, keptM, keptY, scratchSize, keptTests, blinderTests, solverTests, coinsOf, scratchParts, regularTests, jointSum, solverFirstEffect, solverFirstTests, solverFirst, blinderFirstEffect, blinderFirstTests, blinderFirst, solverSecondEffect, solverSecondTests, solverSecond, blinderSecondEffect, blinderSecondTests, blinderSecond, solverLastEffect, solverLastTests, solverLast, blinderLastEffect, blinderLastTests, blinderLast}
-use Rattle.protocol.specs.Drop.{dropRight, dropSolver, dropBlinder}
+use Rattle.protocol.specs.Judge.{Judged, refused, done}
+use Rattle.protocol.specs.Drawing.{residuesOf}
+use Rattle.protocol.specs.Bounds.{columns, fieldFits, sidesFit, system}
+use Rattle.protocol.specs.Tape.{headerSize, isSlot, tapeSize, Role, left, right, blinder, solver}
+use Rattle.protocol.specs.Deal.{Request, Dealt, productRequest, drawSize, drawnParts, deal, maskFits}
+use Rattle.protocol.specs.Message.{Message, messageSize}
+use Rattle.protocol.specs.Step.{Outcome}
+use Rattle.protocol.specs.System.{scratchSize, coinsOf, scratchParts}
 use Rattle.protocol.specs.View.{View, facing}
 use Rattle.protocol.specs.Completion.{said, Taken}
-use Rattle.history.specs.Ends.{Session, Step, dueIn, right-first, left-only, solver-first, blinder-first, right-last, solver-second, solver-last, blinder-second, blinder-last, solver-drop, begins, goes-on, runFirst, runLater, runStep, First, Later}
-use Rattle.history.specs.Log.{Party, first, second, opposite, Call, dealing, beginning, continuing, tryStep, begunIn, Dealing, Did, Entry, dealt, did, World, slotOf, advanceDealing, advanceStep, advance, run, halfRole, holds, here, Premises, choose, party-eq, roleBy, Place, untouched, place, WasDone, lentTo}
+use Rattle.history.specs.Ends.{Session, Step, dueIn, right-first, left-only, solver-first, blinder-first, right-last, solver-second, solver-last, blinder-second, blinder-last, solver-drop, begins, goes-on, runStep, First, Later}
+use Rattle.history.specs.Log.{Party, first, second, opposite, Call, dealing, beginning, continuing, tryStep, begunIn, Dealing, Did, Entry, dealt, did, World, slotOf, advanceDealing, advanceStep, advance, run, halfRole, holds, Premises, choose, party-eq, roleBy, Place, untouched, place, WasDone, lentTo}
 use Rattle.history.specs.Contents.{half}
 use Rattle.history.specs.Seen.{view}
 use Rattle.history.specs.Right.{newest, result, Paired, AddTo, OnlySolution, Demand2, DealtNow, HasServed, TakenNow, TermsOf, SentTo, FairLater, SoFar, Stood}
 use Rattle.history.proofs.Rightness.{demand-2}
 use Rattle.history.proofs.Facts.{none≢}
 use Rattle.history_examples.proofs.Example.{slot-size, sizes, start, lent, product-terms, system-terms, msg, a-product, a-system, answers, distinct, own, other-role, NoBlinder, no-session, three-slots, Ends-here, paired, arrived}
+use Rattle.history_examples.proofs.Computing.{list-rules}
 
 -- ---- the list
 
@@ -129,7 +123,7 @@ abbrev pub after : List Call → World
 after cs = run sizes start lent cs
 
 pub all-answers : answers calls ≡ 0 ∷ 0 ∷ 0 ∷ 0 ∷ 0 ∷ 0 ∷ 0 ∷ 0 ∷ 0 ∷ 0 ∷ 6 ∷ 0 ∷ 0 ∷ 0 ∷ 0 ∷ 0 ∷ 0 ∷ 0 ∷ 0 ∷ []
-unfolding sumTo tabulate zeros addMod subMod matAdd matSub dotTo dot matMul both parts join cols beside noDivisor isPrime inverseBy inverse swapAt swapRows scaleRow clearColumn pivotFrom pivot step eliminateFrom eliminate regular solution dealB sendY sendX sendR rightShare dealV solverShare sendF sendW sendC sumMatrix over writtenAt given clear judgeBy judge isKept residueOf residuesOf drawn wordsRead drawTests within columns allBelow fieldFits sidesFit shapeTests termsTests inputTests roomTests isSlot slotWords poolWith headerWords bodySize tapeSize statusOf withStatus spent body matrices wordsInUse wordsSpent slotTests halfTests tapeTests bodyTests drawSize drawnParts dealtB dealtV isFree dealTests dealtOver dealtEffect deal kindSort messageLayout messageSize messageParts messageTests dueTests firstTests isOpen openTests laterTests rightFirstEffect rightFirstTests rightFirst leftEffect leftTests leftStep rightLastEffect rightLastTests rightLast padded sideSize keptS keptM keptY scratchSize keptTests blinderTests solverTests coinsOf scratchParts regularTests jointSum solverFirstEffect solverFirstTests solverFirst blinderFirstEffect blinderFirstTests blinderFirst solverSecondEffect solverSecondTests solverSecond blinderSecondEffect blinderSecondTests blinderSecond solverLastEffect solverLastTests solverLast blinderLastEffect blinderLastTests blinderLast dropRight dropSolver dropBlinder said runFirst runLater here halfRole half ℕ-discrete
+unfolding list-rules
 all-answers = refl
 
 -- ---- the premises
@@ -140,7 +134,7 @@ a and b = (a, b)
 
 -- no blinder's session is open when session 4 begins
 calm : (n : ℕ) → NoBlinder (after answering .state .sessions n)
-unfolding sumTo tabulate zeros addMod subMod matAdd matSub dotTo dot matMul both parts join cols beside noDivisor isPrime inverseBy inverse swapAt swapRows scaleRow clearColumn pivotFrom pivot step eliminateFrom eliminate regular solution dealB sendY sendX sendR rightShare dealV solverShare sendF sendW sendC sumMatrix over writtenAt given clear judgeBy judge isKept residueOf residuesOf drawn wordsRead drawTests within columns allBelow fieldFits sidesFit shapeTests termsTests inputTests roomTests isSlot slotWords poolWith headerWords bodySize tapeSize statusOf withStatus spent body matrices wordsInUse wordsSpent slotTests halfTests tapeTests bodyTests drawSize drawnParts dealtB dealtV isFree dealTests dealtOver dealtEffect deal kindSort messageLayout messageSize messageParts messageTests dueTests firstTests isOpen openTests laterTests rightFirstEffect rightFirstTests rightFirst leftEffect leftTests leftStep rightLastEffect rightLastTests rightLast padded sideSize keptS keptM keptY scratchSize keptTests blinderTests solverTests coinsOf scratchParts regularTests jointSum solverFirstEffect solverFirstTests solverFirst blinderFirstEffect blinderFirstTests blinderFirst solverSecondEffect solverSecondTests solverSecond blinderSecondEffect blinderSecondTests blinderSecond solverLastEffect solverLastTests solverLast blinderLastEffect blinderLastTests blinderLast dropRight dropSolver dropBlinder said runFirst runLater here halfRole half ℕ-discrete
+unfolding list-rules
 calm zero d r = other-role r (λ e. cc)
 calm (suc zero) d r = other-role r (λ e. cc)
 calm (suc (suc zero)) d r = other-role r (λ e. cc)
@@ -148,7 +142,7 @@ calm (suc (suc (suc zero))) d r = omega (arith, d)
 calm (suc (suc (suc (suc n)))) d r = no-session answering 4 (suc (suc (suc (suc n)))) refl (omega arith) d r
 
 pub premises : Premises sizes (after calls .log)
-unfolding sumTo tabulate zeros addMod subMod matAdd matSub dotTo dot matMul both parts join cols beside noDivisor isPrime inverseBy inverse swapAt swapRows scaleRow clearColumn pivotFrom pivot step eliminateFrom eliminate regular solution dealB sendY sendX sendR rightShare dealV solverShare sendF sendW sendC sumMatrix over writtenAt given clear judgeBy judge isKept residueOf residuesOf drawn wordsRead drawTests within columns allBelow fieldFits sidesFit shapeTests termsTests inputTests roomTests isSlot slotWords poolWith headerWords bodySize tapeSize statusOf withStatus spent body matrices wordsInUse wordsSpent slotTests halfTests tapeTests bodyTests drawSize drawnParts dealtB dealtV isFree dealTests dealtOver dealtEffect deal kindSort messageLayout messageSize messageParts messageTests dueTests firstTests isOpen openTests laterTests rightFirstEffect rightFirstTests rightFirst leftEffect leftTests leftStep rightLastEffect rightLastTests rightLast padded sideSize keptS keptM keptY scratchSize keptTests blinderTests solverTests coinsOf scratchParts regularTests jointSum solverFirstEffect solverFirstTests solverFirst blinderFirstEffect blinderFirstTests blinderFirst solverSecondEffect solverSecondTests solverSecond blinderSecondEffect blinderSecondTests blinderSecond solverLastEffect solverLastTests solverLast blinderLastEffect blinderLastTests blinderLast dropRight dropSolver dropBlinder said runFirst runLater here halfRole half ℕ-discrete
+unfolding list-rules
 premises = (
   distinct (after calls .log) refl,
   record { own-half = own first blinder refl; own-scratch = λ e. refl }
@@ -216,7 +210,7 @@ ends : Ends-here (after calls) left 3 0 1 ((3 ∷ 3 ∷ []) ∷ []) ((3 ∷ 3 �
     × Ends-here (after calls) left 5 2 3 ((6 ∷ 4 ∷ []) ∷ []) ((6 ∷ 4 ∷ []) ∷ []) ((9 ∷ 8 ∷ 7 ∷ 8 ∷ 3 ∷ 3 ∷ []) ∷ []) ((9 ∷ 8 ∷ 7 ∷ 8 ∷ 3 ∷ 3 ∷ []) ∷ [])
     × Ends-here (after calls) blinder 4 1 2 ((3 ∷ 1 ∷ []) ∷ (4 ∷ []) ∷ (1 ∷ []) ∷ []) ((3 ∷ 1 ∷ []) ∷ (4 ∷ []) ∷ (1 ∷ []) ∷ [])
     ((3 ∷ 0 ∷ 2 ∷ []) ∷ (1 ∷ 4 ∷ []) ∷ []) ((3 ∷ 0 ∷ 2 ∷ []) ∷ (1 ∷ 4 ∷ []) ∷ [])
-unfolding sumTo tabulate zeros addMod subMod matAdd matSub dotTo dot matMul both parts join cols beside noDivisor isPrime inverseBy inverse swapAt swapRows scaleRow clearColumn pivotFrom pivot step eliminateFrom eliminate regular solution dealB sendY sendX sendR rightShare dealV solverShare sendF sendW sendC sumMatrix over writtenAt given clear judgeBy judge isKept residueOf residuesOf drawn wordsRead drawTests within columns allBelow fieldFits sidesFit shapeTests termsTests inputTests roomTests isSlot slotWords poolWith headerWords bodySize tapeSize statusOf withStatus spent body matrices wordsInUse wordsSpent slotTests halfTests tapeTests bodyTests drawSize drawnParts dealtB dealtV isFree dealTests dealtOver dealtEffect deal kindSort messageLayout messageSize messageParts messageTests dueTests firstTests isOpen openTests laterTests rightFirstEffect rightFirstTests rightFirst leftEffect leftTests leftStep rightLastEffect rightLastTests rightLast padded sideSize keptS keptM keptY scratchSize keptTests blinderTests solverTests coinsOf scratchParts regularTests jointSum solverFirstEffect solverFirstTests solverFirst blinderFirstEffect blinderFirstTests blinderFirst solverSecondEffect solverSecondTests solverSecond blinderSecondEffect blinderSecondTests blinderSecond solverLastEffect solverLastTests solverLast blinderLastEffect blinderLastTests blinderLast dropRight dropSolver dropBlinder said runFirst runLater here halfRole half ℕ-discrete
+unfolding list-rules
 ends = (
   (refl, refl, refl, refl, refl, refl, refl, refl, refl, refl),
   (refl, refl, refl, refl, refl, refl, refl, refl, refl, refl),
@@ -225,7 +219,7 @@ ends = (
 
 gave : (result (after calls .log) 3 ≡ 5 ∷ []) × (result (after calls .log) 0 ≡ 3 ∷ [])
     × (result (after calls .log) 5 ≡ 2 ∷ 4 ∷ 6 ∷ 8 ∷ []) × (result (after calls .log) 2 ≡ 0 ∷ 3 ∷ 2 ∷ 5 ∷ []) × (result (after calls .log) 4 ≡ 3 ∷ [])
-unfolding sumTo tabulate zeros addMod subMod matAdd matSub dotTo dot matMul both parts join cols beside noDivisor isPrime inverseBy inverse swapAt swapRows scaleRow clearColumn pivotFrom pivot step eliminateFrom eliminate regular solution dealB sendY sendX sendR rightShare dealV solverShare sendF sendW sendC sumMatrix over writtenAt given clear judgeBy judge isKept residueOf residuesOf drawn wordsRead drawTests within columns allBelow fieldFits sidesFit shapeTests termsTests inputTests roomTests isSlot slotWords poolWith headerWords bodySize tapeSize statusOf withStatus spent body matrices wordsInUse wordsSpent slotTests halfTests tapeTests bodyTests drawSize drawnParts dealtB dealtV isFree dealTests dealtOver dealtEffect deal kindSort messageLayout messageSize messageParts messageTests dueTests firstTests isOpen openTests laterTests rightFirstEffect rightFirstTests rightFirst leftEffect leftTests leftStep rightLastEffect rightLastTests rightLast padded sideSize keptS keptM keptY scratchSize keptTests blinderTests solverTests coinsOf scratchParts regularTests jointSum solverFirstEffect solverFirstTests solverFirst blinderFirstEffect blinderFirstTests blinderFirst solverSecondEffect solverSecondTests solverSecond blinderSecondEffect blinderSecondTests blinderSecond solverLastEffect solverLastTests solverLast blinderLastEffect blinderLastTests blinderLast dropRight dropSolver dropBlinder said runFirst runLater here halfRole half ℕ-discrete
+unfolding list-rules
 gave = (refl, refl, refl, refl, refl)
 
 -- (3, 5) × (2, 6) = 1 modulo 7: the shares are 5 and 3
@@ -326,7 +320,7 @@ answering-facts : (sentIn (newest (after answering .log) 1) ≡ some (msg 1 (sys
     × (scratchSize (system-terms 2) ≡ 3) × (length (after answering .state .scratches 3) ≡ 4) × (length (residuesOf 5 (2 ∷ 1 ∷ 2 ∷ [])) ≡ 3)
     × (regular 5 1 (part 0 (scratchParts (system-terms 2) (coinsOf (system-terms 2) (2 ∷ 1 ∷ 2 ∷ [])))) ≡ true)
     × (messageSize 2 (system-terms 2) ≡ 3) × (messageSize 2 (ten-terms 3) ≡ 6) × (length (residuesOf 10 (2 ∷ 4 ∷ 6 ∷ 8 ∷ [])) ≡ 4)
-unfolding sumTo tabulate zeros addMod subMod matAdd matSub dotTo dot matMul both parts join cols beside noDivisor isPrime inverseBy inverse swapAt swapRows scaleRow clearColumn pivotFrom pivot step eliminateFrom eliminate regular solution dealB sendY sendX sendR rightShare dealV solverShare sendF sendW sendC sumMatrix over writtenAt given clear judgeBy judge isKept residueOf residuesOf drawn wordsRead drawTests within columns allBelow fieldFits sidesFit shapeTests termsTests inputTests roomTests isSlot slotWords poolWith headerWords bodySize tapeSize statusOf withStatus spent body matrices wordsInUse wordsSpent slotTests halfTests tapeTests bodyTests drawSize drawnParts dealtB dealtV isFree dealTests dealtOver dealtEffect deal kindSort messageLayout messageSize messageParts messageTests dueTests firstTests isOpen openTests laterTests rightFirstEffect rightFirstTests rightFirst leftEffect leftTests leftStep rightLastEffect rightLastTests rightLast padded sideSize keptS keptM keptY scratchSize keptTests blinderTests solverTests coinsOf scratchParts regularTests jointSum solverFirstEffect solverFirstTests solverFirst blinderFirstEffect blinderFirstTests blinderFirst solverSecondEffect solverSecondTests solverSecond blinderSecondEffect blinderSecondTests blinderSecond solverLastEffect solverLastTests solverLast blinderLastEffect blinderLastTests blinderLast dropRight dropSolver dropBlinder said runFirst runLater here halfRole half ℕ-discrete
+unfolding list-rules
 answering-facts = (refl, refl, refl, refl, refl, refl, (refl, refl, refl), (refl, refl, refl), refl, refl, refl, refl, refl, refl, refl, refl, refl)
 
 pub blinder-taken : TakenNow sizes (after answering) first 1 3 (begunIn (after answering .log)) (begins (system-terms 2) blinder-begins)
@@ -365,7 +359,7 @@ halfway-facts : (sentIn (newest (after halfway .log) 3) ≡ some (msg 2 (product
     × (lentTo (after halfway .log) 4 ≡ 3)
     × (messageSize 4 (system-terms 2) ≡ 2)
     × (view (after halfway .log) 4 .role ≡ blinder)
-unfolding sumTo tabulate zeros addMod subMod matAdd matSub dotTo dot matMul both parts join cols beside noDivisor isPrime inverseBy inverse swapAt swapRows scaleRow clearColumn pivotFrom pivot step eliminateFrom eliminate regular solution dealB sendY sendX sendR rightShare dealV solverShare sendF sendW sendC sumMatrix over writtenAt given clear judgeBy judge isKept residueOf residuesOf drawn wordsRead drawTests within columns allBelow fieldFits sidesFit shapeTests termsTests inputTests roomTests isSlot slotWords poolWith headerWords bodySize tapeSize statusOf withStatus spent body matrices wordsInUse wordsSpent slotTests halfTests tapeTests bodyTests drawSize drawnParts dealtB dealtV isFree dealTests dealtOver dealtEffect deal kindSort messageLayout messageSize messageParts messageTests dueTests firstTests isOpen openTests laterTests rightFirstEffect rightFirstTests rightFirst leftEffect leftTests leftStep rightLastEffect rightLastTests rightLast padded sideSize keptS keptM keptY scratchSize keptTests blinderTests solverTests coinsOf scratchParts regularTests jointSum solverFirstEffect solverFirstTests solverFirst blinderFirstEffect blinderFirstTests blinderFirst solverSecondEffect solverSecondTests solverSecond blinderSecondEffect blinderSecondTests blinderSecond solverLastEffect solverLastTests solverLast blinderLastEffect blinderLastTests blinderLast dropRight dropSolver dropBlinder said runFirst runLater here halfRole half ℕ-discrete
+unfolding list-rules
 halfway-facts = (refl, refl, refl, refl, refl, refl, (refl, refl, refl), (refl, refl, refl), refl, refl, refl, refl, refl, refl, refl)
 
 halfway-right : Demand2 sizes (after halfway)
@@ -400,7 +394,7 @@ served-facts : (fieldFits system 5 ≡ true) × (sidesFit system 1 1 2 ≡ true)
     × (tapeSize blinder 1 1 2 ≡ headerSize + 5) × (tapeSize solver 1 1 2 ≡ slot-size)
     × HasServed (after served .state .sessions) (place (after served .log) first 0) × HasServed (after served .state .sessions) (place (after served .log) second 0)
     × (drawSize (a-system 4) ≡ 8) × (length (residuesOf 5 (a-system 4 .words)) ≡ 8) × (maskFits system 5 1 (drawnParts (a-system 4)) ≡ true)
-unfolding sumTo tabulate zeros addMod subMod matAdd matSub dotTo dot matMul both parts join cols beside noDivisor isPrime inverseBy inverse swapAt swapRows scaleRow clearColumn pivotFrom pivot step eliminateFrom eliminate regular solution dealB sendY sendX sendR rightShare dealV solverShare sendF sendW sendC sumMatrix over writtenAt given clear judgeBy judge isKept residueOf residuesOf drawn wordsRead drawTests within columns allBelow fieldFits sidesFit shapeTests termsTests inputTests roomTests isSlot slotWords poolWith headerWords bodySize tapeSize statusOf withStatus spent body matrices wordsInUse wordsSpent slotTests halfTests tapeTests bodyTests drawSize drawnParts dealtB dealtV isFree dealTests dealtOver dealtEffect deal kindSort messageLayout messageSize messageParts messageTests dueTests firstTests isOpen openTests laterTests rightFirstEffect rightFirstTests rightFirst leftEffect leftTests leftStep rightLastEffect rightLastTests rightLast padded sideSize keptS keptM keptY scratchSize keptTests blinderTests solverTests coinsOf scratchParts regularTests jointSum solverFirstEffect solverFirstTests solverFirst blinderFirstEffect blinderFirstTests blinderFirst solverSecondEffect solverSecondTests solverSecond blinderSecondEffect blinderSecondTests blinderSecond solverLastEffect solverLastTests solverLast blinderLastEffect blinderLastTests blinderLast dropRight dropSolver dropBlinder said runFirst runLater here halfRole half ℕ-discrete
+unfolding list-rules
 served-facts = (refl, refl, refl, refl, refl, refl, refl, refl, refl, refl, refl)
 
 by-party : (P : Party → Type 0) → P first → P second → (w : Party) → P w
@@ -426,7 +420,7 @@ dealt-again =
 
 -- the second system's solver may drop its session
 dropping-facts : Lies (place (after dropping .log) second 0) first (a-system 4) (some 6) × (dueIn (after dropping .state .sessions 6) ≡ 2)
-unfolding sumTo tabulate zeros addMod subMod matAdd matSub dotTo dot matMul both parts join cols beside noDivisor isPrime inverseBy inverse swapAt swapRows scaleRow clearColumn pivotFrom pivot step eliminateFrom eliminate regular solution dealB sendY sendX sendR rightShare dealV solverShare sendF sendW sendC sumMatrix over writtenAt given clear judgeBy judge isKept residueOf residuesOf drawn wordsRead drawTests within columns allBelow fieldFits sidesFit shapeTests termsTests inputTests roomTests isSlot slotWords poolWith headerWords bodySize tapeSize statusOf withStatus spent body matrices wordsInUse wordsSpent slotTests halfTests tapeTests bodyTests drawSize drawnParts dealtB dealtV isFree dealTests dealtOver dealtEffect deal kindSort messageLayout messageSize messageParts messageTests dueTests firstTests isOpen openTests laterTests rightFirstEffect rightFirstTests rightFirst leftEffect leftTests leftStep rightLastEffect rightLastTests rightLast padded sideSize keptS keptM keptY scratchSize keptTests blinderTests solverTests coinsOf scratchParts regularTests jointSum solverFirstEffect solverFirstTests solverFirst blinderFirstEffect blinderFirstTests blinderFirst solverSecondEffect solverSecondTests solverSecond blinderSecondEffect blinderSecondTests blinderSecond solverLastEffect solverLastTests solverLast blinderLastEffect blinderLastTests blinderLast dropRight dropSolver dropBlinder said runFirst runLater here halfRole half ℕ-discrete
+unfolding list-rules
 dropping-facts = ((refl, refl, refl), refl)
 
 pub drop-taken : TakenNow sizes (after dropping) second 0 0 6 (goes-on solver-drop)
@@ -440,7 +434,7 @@ drop-taken =
 -- left of the second product is session 5 and right session 2, which awaits message 2; the blinder, session 4, awaits message 3
 halfway-ends : Ends-here (after halfway) left 5 2 3 ((6 ∷ 4 ∷ []) ∷ []) ((6 ∷ 4 ∷ []) ∷ []) [] ((9 ∷ 8 ∷ 7 ∷ 8 ∷ 3 ∷ 3 ∷ []) ∷ [])
     × Ends-here (after halfway) blinder 4 1 2 ((3 ∷ 1 ∷ []) ∷ []) ((3 ∷ 1 ∷ []) ∷ (4 ∷ []) ∷ []) ((3 ∷ 0 ∷ 2 ∷ []) ∷ []) ((3 ∷ 0 ∷ 2 ∷ []) ∷ [])
-unfolding sumTo tabulate zeros addMod subMod matAdd matSub dotTo dot matMul both parts join cols beside noDivisor isPrime inverseBy inverse swapAt swapRows scaleRow clearColumn pivotFrom pivot step eliminateFrom eliminate regular solution dealB sendY sendX sendR rightShare dealV solverShare sendF sendW sendC sumMatrix over writtenAt given clear judgeBy judge isKept residueOf residuesOf drawn wordsRead drawTests within columns allBelow fieldFits sidesFit shapeTests termsTests inputTests roomTests isSlot slotWords poolWith headerWords bodySize tapeSize statusOf withStatus spent body matrices wordsInUse wordsSpent slotTests halfTests tapeTests bodyTests drawSize drawnParts dealtB dealtV isFree dealTests dealtOver dealtEffect deal kindSort messageLayout messageSize messageParts messageTests dueTests firstTests isOpen openTests laterTests rightFirstEffect rightFirstTests rightFirst leftEffect leftTests leftStep rightLastEffect rightLastTests rightLast padded sideSize keptS keptM keptY scratchSize keptTests blinderTests solverTests coinsOf scratchParts regularTests jointSum solverFirstEffect solverFirstTests solverFirst blinderFirstEffect blinderFirstTests blinderFirst solverSecondEffect solverSecondTests solverSecond blinderSecondEffect blinderSecondTests blinderSecond solverLastEffect solverLastTests solverLast blinderLastEffect blinderLastTests blinderLast dropRight dropSolver dropBlinder said runFirst runLater here halfRole half ℕ-discrete
+unfolding list-rules
 halfway-ends = ((refl, refl, refl, refl, refl, refl, refl, refl, refl, refl), (refl, refl, refl, refl, refl, refl, refl, refl, refl, refl))
 
 so-far : (o : World) (r : Role) (n n′ i : ℕ) (a sent′ b sent : List (List ℕ)) → Ends-here o r n n′ i a sent′ b sent → a ≡ take (length a) sent′ → b ≡ take (length b) sent

@@ -6,25 +6,13 @@ use mathlib.Core.Path.{_≡_, refl}
 use mathlib.Core.List.{[], _∷_}
 use Prim.Native.Nat.{ℕ}
 use lib.ListN.{take}
-use Rattle.algebra.specs.Matrix.{sumTo, tabulate, zeros, addMod, subMod, matAdd, matSub, dotTo, dot, matMul}
-use Rattle.algebra.specs.Count.{sumLists, count, countParts, both, eqList, parts, join}
-use Rattle.algebra.specs.Columns.{cols, beside}
-use Rattle.algebra.specs.Prime.{noDivisor, isPrime}
-use Rattle.algebra.specs.Elimination.{inverseBy, inverse, swapAt, swapRows, scaleRow, clearColumn, pivotFrom, pivot, step, eliminateFrom, eliminate, regular, solution}
-use Rattle.algebra.specs.Product.{dealB, sendY, sendX, sendR, rightShare}
-use Rattle.algebra.specs.System.{dealV, solverShare, sendF, sendW, sendC, sumMatrix}
-use Rattle.algebra.specs.Words.{over, writtenAt}
-use Rattle.protocol.specs.Judge.{given, clear, judgeBy, judge}
-use Rattle.protocol.specs.Drawing.{isKept, residueOf, residuesOf, drawn, wordsFor, wordsRead, drawTests}
-use Rattle.protocol.specs.Bounds.{within, columns, allBelow, fieldFits, sidesFit, shapeTests, termsTests, inputTests, roomTests}
-use Rattle.protocol.specs.Tape.{right, blinder, isSlot, slotWords, poolWith, headerWords, bodySize, tapeSize, statusOf, withStatus, spent, body, matrices, wordsInUse, wordsSpent, slotTests, halfTests, tapeTests, bodyTests}
-use Rattle.protocol.specs.Deal.{drawSize, drawnParts, dealtB, dealtV, isFree, dealTests, dealtOver, dealtEffect, deal}
-use Rattle.protocol.specs.Message.{kindSort, messageLayout, messageSize, messageParts, messageTests, dueTests}
-use Rattle.protocol.specs.Step.{firstTests, isOpen, openTests, laterTests}
-use Rattle.protocol.specs.Product.{rightFirstEffect, rightFirstTests, rightFirst, leftEffect, leftTests, leftStep, rightLastEffect, rightLastTests, rightLast}
-use Rattle.protocol.specs.System.{padded, sideSize, keptS, keptM, keptY, scratchSize, keptTests, blinderTests, solverTests, coinsOf, scratchParts, regularTests, jointSum, solverFirstEffect, solverFirstTests, solverFirst, blinderFirstEffect, blinderFirstTests, blinderFirst, solverSecondEffect, solverSecondTests, solverSecond, blinderSecondEffect, blinderSecondTests, blinderSecond, solverLastEffect, solverLastTests, solverLast, blinderLastEffect, blinderLastTests, blinderLast}
+use Rattle.algebra.specs.Count.{sumLists, count, countParts, eqList}
+use Rattle.algebra.specs.Elimination.{solution}
+use Rattle.protocol.specs.Drawing.{wordsFor}
+use Rattle.protocol.specs.Tape.{right, blinder}
 use Rattle.protocol.specs.View.{View}
 use Rattle.protocol.specs.Completion.{said, andThen, hearing, rightMessages, leftMessages, solverMessages, blinderMessages, eqLists, dealing, holds, dealtTogether, isCompletion, completions}
+use Rattle.protocol.proofs.Computing.{session-rules}
 
 -- q 2, X and Y of one residue: Y0 1, B0 0; Y1 1 sent; X1 1, R1 0 received
 abbrev product-view : View
@@ -53,7 +41,7 @@ system-view = record {
 -- X 0 and X 1; L 1 with x 2, whose solution is 2, and with x 0
 pub small-counts : completions product-view ((0 ∷ []) ∷ []) ∷ completions product-view ((1 ∷ []) ∷ [])
     ∷ completions system-view ((1 ∷ []) ∷ (2 ∷ []) ∷ []) ∷ completions system-view ((1 ∷ []) ∷ (0 ∷ []) ∷ []) ∷ [] ≡ 1 ∷ 1 ∷ 1 ∷ 0 ∷ []
-unfolding sumTo tabulate zeros addMod subMod matAdd matSub dotTo dot matMul both eqList parts join cols beside noDivisor isPrime inverseBy inverse swapAt swapRows scaleRow clearColumn pivotFrom pivot step eliminateFrom eliminate regular solution dealB sendY sendX sendR rightShare dealV solverShare sendF sendW sendC sumMatrix given clear judgeBy judge isKept residueOf residuesOf drawn wordsRead drawTests within columns allBelow fieldFits sidesFit shapeTests termsTests inputTests roomTests over writtenAt isSlot slotWords poolWith headerWords bodySize tapeSize statusOf withStatus spent body matrices wordsInUse wordsSpent slotTests halfTests tapeTests bodyTests drawSize drawnParts dealtB dealtV isFree dealTests dealtOver dealtEffect deal kindSort messageLayout messageSize messageParts messageTests dueTests firstTests isOpen openTests laterTests rightFirstEffect rightFirstTests rightFirst leftEffect leftTests leftStep rightLastEffect rightLastTests rightLast padded sideSize keptS keptM keptY scratchSize keptTests blinderTests solverTests coinsOf scratchParts regularTests jointSum solverFirstEffect solverFirstTests solverFirst blinderFirstEffect blinderFirstTests blinderFirst solverSecondEffect solverSecondTests solverSecond blinderSecondEffect blinderSecondTests blinderSecond solverLastEffect solverLastTests solverLast blinderLastEffect blinderLastTests blinderLast sumLists count countParts wordsFor said andThen hearing rightMessages leftMessages solverMessages blinderMessages eqLists dealing holds dealtTogether isCompletion completions
+unfolding session-rules eqList sumLists count countParts wordsFor said andThen hearing rightMessages leftMessages solverMessages blinderMessages eqLists dealing holds dealtTogether isCompletion completions
 small-counts = refl
 
 -- ---- while the session is unfinished
@@ -64,5 +52,5 @@ early v n k = record { role = v .role; terms = v .terms; input = v .input; half 
 
 -- right's before message 2: 2 ^ (1 + 1), whatever X is (proofs/CompletionNumbers has the numbers of all views)
 pub early-counts : completions (early product-view 0 1) ((0 ∷ []) ∷ []) ∷ completions (early product-view 0 1) ((1 ∷ []) ∷ []) ∷ [] ≡ 4 ∷ 4 ∷ []
-unfolding sumTo tabulate zeros addMod subMod matAdd matSub dotTo dot matMul both eqList parts join cols beside noDivisor isPrime inverseBy inverse swapAt swapRows scaleRow clearColumn pivotFrom pivot step eliminateFrom eliminate regular solution dealB sendY sendX sendR rightShare dealV solverShare sendF sendW sendC sumMatrix given clear judgeBy judge isKept residueOf residuesOf drawn wordsRead drawTests within columns allBelow fieldFits sidesFit shapeTests termsTests inputTests roomTests over writtenAt isSlot slotWords poolWith headerWords bodySize tapeSize statusOf withStatus spent body matrices wordsInUse wordsSpent slotTests halfTests tapeTests bodyTests drawSize drawnParts dealtB dealtV isFree dealTests dealtOver dealtEffect deal kindSort messageLayout messageSize messageParts messageTests dueTests firstTests isOpen openTests laterTests rightFirstEffect rightFirstTests rightFirst leftEffect leftTests leftStep rightLastEffect rightLastTests rightLast padded sideSize keptS keptM keptY scratchSize keptTests blinderTests solverTests coinsOf scratchParts regularTests jointSum solverFirstEffect solverFirstTests solverFirst blinderFirstEffect blinderFirstTests blinderFirst solverSecondEffect solverSecondTests solverSecond blinderSecondEffect blinderSecondTests blinderSecond solverLastEffect solverLastTests solverLast blinderLastEffect blinderLastTests blinderLast sumLists count countParts wordsFor said andThen hearing rightMessages leftMessages solverMessages blinderMessages eqLists dealing holds dealtTogether isCompletion completions
+unfolding session-rules eqList sumLists count countParts wordsFor said andThen hearing rightMessages leftMessages solverMessages blinderMessages eqLists dealing holds dealtTogether isCompletion completions
 early-counts = refl

@@ -1,0 +1,80 @@
+-- What a session computes with. A line `unfolding session-rules` opens every definition that dealing and steps are made of, so that a call on
+-- given numbers computes: a definition opens what its own `unfolding` line names. What steps come to use is added here, and nowhere else.
+--   session-rules   all of it; before it the groups that it is made of
+-- Assumes nothing.
+use Rattle.algebra.specs.Matrix.{sumTo, tabulate, zeros, addMod, subMod, matAdd, matSub, dotTo, dot, matMul}
+use Rattle.algebra.specs.Count.{both, parts, join}
+use Rattle.algebra.specs.Columns.{cols, beside}
+use Rattle.algebra.specs.Prime.{noDivisor, isPrime}
+use Rattle.algebra.specs.Elimination.{inverseBy, inverse, swapAt, swapRows, scaleRow, clearColumn, pivotFrom, pivot, step, eliminateFrom, eliminate, regular, solution}
+use Rattle.algebra.specs.Product.{dealB, sendY, sendX, sendR, rightShare}
+use Rattle.algebra.specs.System.{dealV, solverShare, sendF, sendW, sendC, sumMatrix}
+use Rattle.algebra.specs.Words.{over, writtenAt}
+use Rattle.protocol.specs.Judge.{given, clear, judgeBy, judge}
+use Rattle.protocol.specs.Drawing.{isKept, residueOf, residuesOf, drawn, wordsRead, drawTests}
+use Rattle.protocol.specs.Bounds.{within, columns, allBelow, fieldFits, sidesFit, shapeTests, termsTests, inputTests, roomTests}
+use Rattle.protocol.specs.Tape.{isSlot, slotWords, poolWith, headerWords, bodySize, tapeSize, statusOf, withStatus, spent, body, matrices, wordsInUse, wordsSpent, slotTests, halfTests, tapeTests, bodyTests}
+use Rattle.protocol.specs.Deal.{drawSize, drawnParts, dealtB, dealtV, isFree, dealTests, dealtOver, dealtEffect, deal}
+use Rattle.protocol.specs.Message.{kindSort, messageLayout, messageSize, messageParts, messageTests, dueTests}
+use Rattle.protocol.specs.Step.{firstTests, isOpen, openTests, laterTests}
+use Rattle.protocol.specs.Product.{rightFirstEffect, rightFirstTests, rightFirst, leftEffect, leftTests, leftStep, rightLastEffect, rightLastTests, rightLast}
+use Rattle.protocol.specs.System.{padded, sideSize, keptS, keptM, keptY, scratchSize, keptTests, blinderTests, solverTests, coinsOf, scratchParts, regularTests, jointSum}
+use Rattle.protocol.specs.System.{solverFirstEffect, solverFirstTests, solverFirst, blinderFirstEffect, blinderFirstTests, blinderFirst, solverSecondEffect, solverSecondTests, solverSecond}
+use Rattle.protocol.specs.System.{blinderSecondEffect, blinderSecondTests, blinderSecond, solverLastEffect, solverLastTests, solverLast, blinderLastEffect, blinderLastTests, blinderLast}
+
+-- sums, matrices and lists of parts
+unfoldable pub matrix-rules : Unit {0}
+unfolding sumTo tabulate zeros addMod subMod matAdd matSub dotTo dot matMul both parts join cols beside over writtenAt
+matrix-rules = tt
+
+-- primes, inverses and elimination
+unfoldable pub elimination-rules : Unit {0}
+unfolding noDivisor isPrime inverseBy inverse swapAt swapRows scaleRow clearColumn pivotFrom pivot step eliminateFrom eliminate regular solution
+elimination-rules = tt
+
+-- the formulas of the sessions
+unfoldable pub formula-rules : Unit {0}
+unfolding dealB sendY sendX sendR rightShare dealV solverShare sendF sendW sendC sumMatrix
+formula-rules = tt
+
+-- verdicts, bounds and drawing
+unfoldable pub verdict-rules : Unit {0}
+unfolding given clear judgeBy judge within columns allBelow fieldFits sidesFit shapeTests termsTests inputTests roomTests isKept residueOf residuesOf drawn wordsRead drawTests
+verdict-rules = tt
+
+-- tapes, and dealing
+unfoldable pub tape-rules : Unit {0}
+unfolding isSlot slotWords poolWith headerWords bodySize tapeSize statusOf withStatus spent body matrices wordsInUse wordsSpent slotTests halfTests tapeTests bodyTests
+tape-rules = tt
+
+unfoldable pub deal-rules : Unit {0}
+unfolding drawSize drawnParts dealtB dealtV isFree dealTests dealtOver dealtEffect deal
+deal-rules = tt
+
+-- messages, and what steps share
+unfoldable pub message-rules : Unit {0}
+unfolding kindSort messageLayout messageSize messageParts messageTests dueTests firstTests isOpen openTests laterTests
+message-rules = tt
+
+-- the steps of a product
+unfoldable pub product-rules : Unit {0}
+unfolding rightFirstEffect rightFirstTests rightFirst leftEffect leftTests leftStep rightLastEffect rightLastTests rightLast
+product-rules = tt
+
+-- what a system keeps and tests
+unfoldable pub system-rules : Unit {0}
+unfolding padded sideSize keptS keptM keptY scratchSize keptTests blinderTests solverTests coinsOf scratchParts regularTests jointSum
+system-rules = tt
+
+-- steps 1 to 3 of a system, and steps 4 to 6
+unfoldable pub early-steps : Unit {0}
+unfolding solverFirstEffect solverFirstTests solverFirst blinderFirstEffect blinderFirstTests blinderFirst solverSecondEffect solverSecondTests solverSecond
+early-steps = tt
+
+unfoldable pub late-steps : Unit {0}
+unfolding blinderSecondEffect blinderSecondTests blinderSecond solverLastEffect solverLastTests solverLast blinderLastEffect blinderLastTests blinderLast
+late-steps = tt
+
+unfoldable pub session-rules : Unit {0}
+unfolding matrix-rules elimination-rules formula-rules verdict-rules tape-rules deal-rules message-rules product-rules system-rules early-steps late-steps
+session-rules = tt
