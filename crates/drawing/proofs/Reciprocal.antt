@@ -2,14 +2,12 @@
 --   estimate-below   the multiple is no more than the word
 --   estimate-near    what is left is below 2q
 --   rest-low, rest-high   the residue is what is left, or that less q
---   one-times   a word times the multiplier 1
 -- Assumes nothing.
 use mathlib.Core.Path.{_≡_, sym, ap, _∙_}
 use Prim.Native.Nat.{ℕ, _+_, _-_, _*_, _/_, _%_, _≤_, _<_}
-use native.Mathlib.Nat.{mod-eq-of-lt, mul-le-mul, div-add-mod', mod-lt, mod-eq-sub-mod, add-mul-mod-self-right, one-mul}
+use native.Mathlib.Nat.{mod-eq-of-lt, mul-le-mul, div-add-mod', mod-lt, mod-eq-sub-mod, add-mul-mod-self-right}
 use native.Mathlib.Decide.{decLt}
 use native.Mathlib.Omega.{arith}
-use Rattle.algebra.proofs.Congruence.{cong-eq, cong-refl, cong-mod, cong-mul, cong-trans}
 
 -- n is 2^32
 module _ (n q s w : ℕ) (hn : 0 < n) (hq : 0 < q) (e : s ≡ n / q) where
@@ -63,6 +61,3 @@ rest-low q t w h l = sym (whole q t w h ∙ mod-eq-of-lt l)
 
 pub rest-high : (q t w : ℕ) → t * q ≤ w → q ≤ w - t * q → w < t * q + q + q → w - t * q - q ≡ w % q
 rest-high q t w h l k = sym (whole q t w h ∙ mod-eq-sub-mod l ∙ mod-eq-of-lt (omega arith))
-
-pub one-times : (q v w : ℕ) → v ≡ 1 % q → v * w % q ≡ w % q
-one-times q v w e = rw e (cong-trans (cong-mul (cong-mod {q = q} 1) (cong-refl w)) (cong-eq (one-mul w)) .same)

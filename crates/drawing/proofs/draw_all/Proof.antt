@@ -5,7 +5,7 @@ use native.Mathlib.Omega.{arith}
 use native.Mathlib.Nat.{mod-lt}
 use borrow.Author.Needs.{needs}
 use Rattle.protocol.specs.Drawing.{residueOf}
-use Rattle.drawing.proofs.Reciprocal.{one-times}
+use Rattle.reduction.proofs.Prepared.{one-times}
 use Rattle.drawing.proofs.Turns.{Drew, drew-start, drew-inside, drew-kept, drew-read, drew-all}
 use Rattle.drawing.proofs.draw_all.Statement.{statement}
 use Rattle.drawing.proofs.draw_all.Tie as tie
