@@ -5,8 +5,8 @@
 //   later                         what steps 3 and 5 check
 //   second, last                  steps 3 and 5: solver_second, solver_last
 //   drop                          solver_drop
-// A step is given its pool, the size of the pool's slots and the index of its own; its terms or its session; its inputs; the message that
-// it takes, a head and residues; and last the slice that it writes.
+// A step is given its pool and the place of its slot; its terms or its session; its inputs; the message that it takes, a head and
+// residues; and last the slice that it writes.
 // For hosts: solver_first, solver_second, solver_last, solver_drop.
 mod drop;
 mod first;
