@@ -2,6 +2,7 @@
 // where its arguments don't fit.
 // No function here is for hosts.
 use field::Field;
+use matrix::Sides;
 ghost use Rattle.bench_matrix.specs.Fits.{Fits};
 
 #[no_mangle]
@@ -67,7 +68,7 @@ pub extern "C" fn bench_product(
     out: &mut [u32],
 ) {
     if fits(q, m, k, p, x.len(), y.len(), out.len()) {
-        matrix::write_product(q, m, k, p, x, y, out);
+        matrix::write_product(Sides { q, m, k, p }, x, y, out);
     }
 }
 
@@ -84,7 +85,7 @@ pub extern "C" fn bench_reply(
 ) {
     if fits(q, m, k, p, x.len(), y.len(), out.len()) {
         if m * p <= u.len() {
-            matrix::write_reply(q, m, k, p, x, y, u, u, out);
+            matrix::write_reply(Sides { q, m, k, p }, x, y, u, u, out);
         }
     }
 }

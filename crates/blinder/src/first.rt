@@ -20,6 +20,7 @@ use judging::received::check_coins;
 use judging::step::check_first_received;
 use judging::step::check_input;
 use judging::worst;
+use matrix::sides_of;
 use matrix::write_reply;
 use protocol::Answer;
 use protocol::Head;
@@ -114,13 +115,11 @@ fn send(t: Terms, y1: &[u32], scratch: &[u32], x0: &[u32], a0: &[u32], out: &mut
     ensures { λ _. ⌜ now (out .exit) ≡ over (firstSent t (now (y1 .entry)) (now (scratch .entry)) (now (x0 .entry)) (now (a0 .entry)))
         (now (out .entry)) ⌝ }
 {
-    let n = t.m as usize;
-    let p = t.p as usize;
     let square = times(t.m, t.m);
     let pm = drawn_p(t, scratch);
     let u0 = drawn_u0(t, scratch);
     write_sum(t.q, square, pm, x0, out);
-    write_reply(t.q, n, n, p, pm, y1, u0, a0, &mut out[square..]);
+    write_reply(sides_of(t), pm, y1, u0, a0, &mut out[square..]);
 }
 
 // P and U0 are drawn into the scratch, and the message goes into `out`. The session waits for kind 3.

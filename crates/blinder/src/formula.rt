@@ -1,4 +1,5 @@
 // The formulas of step 4, over slices of exactly their matrices' sizes, for n unknowns and rhs columns of right-hand sides.
+use matrix::Sides;
 use matrix::write_deal;
 use matrix::write_product;
 use matrix::write_share;
@@ -29,7 +30,13 @@ fn write_inner(
     let square = n * n;
     let mut first = [0u32; 256];
     write_cols(n, n + rhs, 0, n, u0, &mut first);
-    write_share(q, n, n, n, pm, mm, &first[..square], f, out);
+    let sides = Sides {
+        q,
+        m: n,
+        k: n,
+        p: n,
+    };
+    write_share(sides, pm, mm, &first[..square], f, out);
 }
 
 // W = (U' − F) × Q + P × M × Q − G, as (P × M + U' − F) × Q − G: two products instead of three.
@@ -53,7 +60,13 @@ pub fn write_w(
     let square = n * n;
     let mut inner = [0u32; 256];
     write_inner(q, n, rhs, u0, f, pm, mm, &mut inner);
-    write_deal(q, n, n, n, &inner[..square], qm, g, out);
+    let sides = Sides {
+        q,
+        m: n,
+        k: n,
+        p: n,
+    };
+    write_deal(sides, &inner[..square], qm, g, out);
 }
 
 // c = u + P × y.
@@ -65,6 +78,12 @@ pub fn write_c(q: u32, n: usize, rhs: usize, u0: &[u32], pm: &[u32], y: &[u32], 
     let mut last = [0u32; 16];
     let mut product = [0u32; 16];
     write_cols(n, n + rhs, n, rhs, u0, &mut last);
-    write_product(q, n, n, rhs, pm, y, &mut product);
+    let sides = Sides {
+        q,
+        m: n,
+        k: n,
+        p: rhs,
+    };
+    write_product(sides, pm, y, &mut product);
     write_sum(q, side, &last[..side], &product[..side], out);
 }

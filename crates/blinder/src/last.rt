@@ -8,6 +8,7 @@ use crate::refused;
 use judging::Check;
 use judging::message::no_head;
 use judging::message::side_size;
+use matrix::Sides;
 use matrix::write_product;
 use protocol::Answer;
 use protocol::BlinderSession;
@@ -43,7 +44,13 @@ fn compute(
     let n = t.m as usize;
     let rhs = (t.p - t.m) as usize;
     let qm = matrix(End::Blinder, t, 2, pool, at);
-    write_product(t.q, n, n, rhs, qm, residues, out);
+    let sides = Sides {
+        q: t.q,
+        m: n,
+        k: n,
+        p: rhs,
+    };
+    write_product(sides, qm, residues, out);
     BlinderAnswer {
         answer: Answer::Accepted(0),
         session: forget(t, scratch),

@@ -5,6 +5,7 @@
 use crate::sort::Sort;
 use crate::sort::first_end;
 use drawing::draw;
+use matrix::Sides;
 use matrix::write_deal;
 use matrix::write_masked;
 use protocol::Terms;
@@ -87,10 +88,7 @@ fn write_b(q: u32, m: usize, k: usize, p: usize, first: &[u32], second: &mut [u3
     let end = a + n;
     let mut b0 = [0u32; 1024];
     write_deal(
-        q,
-        m,
-        k,
-        p,
+        Sides { q, m, k, p },
         &first[start..a],
         &second[start..b],
         &first[a..end],
@@ -147,10 +145,12 @@ fn write_v(q: u32, n: usize, first: &[u32], first_at: usize, second: &mut [u32],
     let end = g + nn;
     let mut sum = [0u32; 256];
     write_masked(
-        q,
-        n,
-        n,
-        n,
+        Sides {
+            q,
+            m: n,
+            k: n,
+            p: n,
+        },
         &second[second_at..v],
         &first[first_at..g],
         &first[g..end],

@@ -1,5 +1,6 @@
 // Matrices modulo q, stored row by row in slices of words. Results are written over the first words of a lent slice;
 // the words past the count keep their value.
+//   sides    the modulus and the sides of a product
 //   sum      a sum of products that may pass 64 bits
 //   inner    the inner product
 //   product  the product of an m by k and a k by p matrix, row by row (the crate `rows`) or from its columns
@@ -8,6 +9,7 @@
 mod formula;
 mod inner;
 mod product;
+mod sides;
 mod sum;
 
 pub use formula::write_deal;
@@ -16,3 +18,5 @@ pub use formula::write_reply;
 pub use formula::write_share;
 pub use inner::inner_product;
 pub use product::write_product;
+pub use sides::Sides;
+pub use sides::sides_of;

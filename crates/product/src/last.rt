@@ -7,6 +7,7 @@ use judging::message::no_head;
 use judging::step::check_later;
 use judging::step::check_room;
 use judging::worst;
+use matrix::sides_of;
 use matrix::write_share;
 use protocol::Head;
 use protocol::RightSession;
@@ -45,17 +46,7 @@ fn write_own(t: Terms, residues: &[u32], y0: &[u32], b0: &[u32], share: &mut [u3
         (drop (t .m * t .k) (now (residues .entry))) (now (b0 .entry))) (now (share .entry)) ⌝ }
 {
     let mk = times(t.m, t.k);
-    write_share(
-        t.q,
-        t.m as usize,
-        t.k as usize,
-        t.p as usize,
-        &residues[..mk],
-        y0,
-        &residues[mk..],
-        b0,
-        share,
-    );
+    write_share(sides_of(t), &residues[..mk], y0, &residues[mk..], b0, share);
 }
 
 // The share goes into its slice, and the session closes.

@@ -10,6 +10,7 @@ use judging::need;
 use judging::received::check_coins;
 use judging::step::check_first_received;
 use judging::worst;
+use matrix::sides_of;
 use matrix::write_reply;
 use protocol::Answer;
 use protocol::Head;
@@ -84,17 +85,7 @@ fn write_message(
 {
     let mk = times(t.m, t.k);
     add_residues(t.q, mk, x, x0, out);
-    write_reply(
-        t.q,
-        t.m as usize,
-        t.k as usize,
-        t.p as usize,
-        x,
-        y1,
-        u,
-        a0,
-        &mut out[mk..],
-    );
+    write_reply(sides_of(t), x, y1, u, a0, &mut out[mk..]);
 }
 
 // U is drawn into the share; X1 and R1 go into `out`.

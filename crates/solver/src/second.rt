@@ -6,6 +6,7 @@ use crate::accepted;
 use crate::later::check;
 use crate::refused;
 use judging::Check;
+use matrix::sides_of;
 use matrix::write_share;
 use protocol::Head;
 use protocol::SolverSession;
@@ -39,17 +40,7 @@ fn find_share(t: Terms, residues: &[u32], y0: &[u32], b0: &[u32], out: &mut [u32
     ensures { λ _. ⌜ now (out .exit) ≡ over (shareOf t (now (y0 .entry)) (now (b0 .entry)) (now (residues .entry))) (now (out .entry)) ⌝ }
 {
     let x1 = times(t.m, t.k);
-    write_share(
-        t.q,
-        t.m as usize,
-        t.k as usize,
-        t.p as usize,
-        &residues[..x1],
-        y0,
-        &residues[x1..],
-        b0,
-        out,
-    );
+    write_share(sides_of(t), &residues[..x1], y0, &residues[x1..], b0, out);
 }
 
 // F, by R and S.

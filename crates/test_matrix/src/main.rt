@@ -4,6 +4,7 @@ ghost use Prim.Native.Nat.{_*_, _<_, _≤_};
 ghost use lib.ListN.{length};
 ghost use Rattle.rows.specs.Shape.{Shape};
 use field::Field;
+use matrix::Sides;
 use sides::Matrix;
 
 fn put(n: u32) {
@@ -56,7 +57,7 @@ fn show_product(name: &[u8], q: u32, m: usize, k: usize, p: usize, x: &[u32], y:
     requires { ⌜ Shape q m k p (length (now x)) (length (now y)) 1028 × (0 < m * p) × (m * p < 1028) ⌝ }
 {
     let mut out = [4294967295u32; 1028];
-    matrix::write_product(q, m, k, p, x, y, &mut out);
+    matrix::write_product(Sides { q, m, k, p }, x, y, &mut out);
     show(name, m * p, &out);
 }
 
@@ -65,7 +66,7 @@ fn show_deal(q: u32, m: usize, k: usize, p: usize, x: &[u32], y: &[u32])
     requires { ⌜ Shape q m k p (length (now x)) (length (now y)) 1028 × (0 < m * p) × (m * p < 1028) × (m * p ≤ length (now x)) × (m * p ≤ length (now y)) ⌝ }
 {
     let mut out = [4294967295u32; 1028];
-    matrix::write_deal(q, m, k, p, x, y, y, &mut out);
+    matrix::write_deal(Sides { q, m, k, p }, x, y, y, &mut out);
     show(b"deal", m * p, &out);
 }
 
@@ -73,7 +74,7 @@ fn show_masked(q: u32, m: usize, k: usize, p: usize, x: &[u32], y: &[u32])
     requires { ⌜ Shape q m k p (length (now x)) (length (now y)) 1028 × (0 < m * p) × (m * p < 1028) × (m * p ≤ length (now x)) × (m * p ≤ length (now y)) ⌝ }
 {
     let mut out = [4294967295u32; 1028];
-    matrix::write_masked(q, m, k, p, x, y, y, &mut out);
+    matrix::write_masked(Sides { q, m, k, p }, x, y, y, &mut out);
     show(b"masked", m * p, &out);
 }
 
@@ -81,7 +82,7 @@ fn show_reply(q: u32, m: usize, k: usize, p: usize, x: &[u32], y: &[u32])
     requires { ⌜ Shape q m k p (length (now x)) (length (now y)) 1028 × (0 < m * p) × (m * p < 1028) × (m * p ≤ length (now x)) × (m * p ≤ length (now y)) ⌝ }
 {
     let mut out = [4294967295u32; 1028];
-    matrix::write_reply(q, m, k, p, x, y, x, y, &mut out);
+    matrix::write_reply(Sides { q, m, k, p }, x, y, x, y, &mut out);
     show(b"reply", m * p, &out);
 }
 
@@ -89,7 +90,7 @@ fn show_share(q: u32, m: usize, k: usize, p: usize, x: &[u32], y: &[u32])
     requires { ⌜ Shape q m k p (length (now x)) (length (now y)) 1028 × (0 < m * p) × (m * p < 1028) × (m * p ≤ length (now x)) × (m * p ≤ length (now y)) ⌝ }
 {
     let mut out = [4294967295u32; 1028];
-    matrix::write_share(q, m, k, p, x, y, x, y, &mut out);
+    matrix::write_share(Sides { q, m, k, p }, x, y, x, y, &mut out);
     show(b"share", m * p, &out);
 }
 

@@ -24,15 +24,15 @@ same-length c = search needs
 
 returns : tie.Need-returns
 returns c =
-    let start = c .before .before .before .before .before .before .before .before .before .before .before .before in
+    let start = c .before .before .before .before .before .before .before .before .before .before .before .before .before in
     let a = start .args in
-    let n : ℕ = a .m * a .p in
+    let n : ℕ = a .s .m * a .s .p in
     let d : List ℕ = a .out .now in
-    let t : List ℕ = matMul (a .q) (a .m) (a .k) (a .p) (a .x .now) (a .y .now) in
+    let t : List ℕ = matMul (a .s .q) (a .s .m) (a .s .k) (a .s .p) (a .x .now) (a .y .now) in
     c .before .before .add-product .ensures
-    ∙ (ap (λ (o : List ℕ). over (matAdd (a .q) n t o) o) (c .before .before .before .before .before .before .write-negative .ensures)
-    ∙ (onto (a .q) n t (negated (a .q) n (a .a .now)) d (negated-count (a .q) n (a .a .now))
-    ∙ ap (λ (l : List ℕ). over l d) (negated-sum (a .q) n (start .pre .0 .some-q) t (a .a .now))))
+    ∙ (ap (λ (o : List ℕ). over (matAdd (a .s .q) n t o) o) (c .before .before .before .before .before .before .write-negative .ensures)
+    ∙ (onto (a .s .q) n t (negated (a .s .q) n (a .a .now)) d (negated-count (a .s .q) n (a .a .now))
+    ∙ ap (λ (l : List ℕ). over l d) (negated-sum (a .s .q) n (start .pre .0 .some-q) t (a .a .now))))
 
 pub write-deal-spec : {M : Type 1} → statement M
 write-deal-spec =

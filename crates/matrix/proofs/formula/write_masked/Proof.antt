@@ -24,13 +24,13 @@ same-length c = search needs
 
 returns : tie.Need-returns
 returns c =
-    let a = c .before .before .before .before .before .before .before .before .before .before .before .before .args in
-    let n : ℕ = a .m * a .p in
+    let a = c .before .before .before .before .before .before .before .before .before .before .before .before .before .args in
+    let n : ℕ = a .s .m * a .s .p in
     let d : List ℕ = a .out .now in
-    let t : List ℕ = matMul (a .q) (a .m) (a .k) (a .p) (a .x .now) (a .y .now) in
+    let t : List ℕ = matMul (a .s .q) (a .s .m) (a .s .k) (a .s .p) (a .x .now) (a .y .now) in
     c .before .before .add-product .ensures
-    ∙ (ap (λ (o : List ℕ). over (matAdd (a .q) n t o) o) (c .before .before .before .before .before .before .write-copy .ensures)
-    ∙ (onto (a .q) n t (firstWords n (a .g .now)) d (copy-count (a .q) n (a .g .now)) ∙ ap (λ (l : List ℕ). over l d) (copy-sum (a .q) n t (a .g .now))))
+    ∙ (ap (λ (o : List ℕ). over (matAdd (a .s .q) n t o) o) (c .before .before .before .before .before .before .write-copy .ensures)
+    ∙ (onto (a .s .q) n t (firstWords n (a .g .now)) d (copy-count (a .s .q) n (a .g .now)) ∙ ap (λ (l : List ℕ). over l d) (copy-sum (a .s .q) n t (a .g .now))))
 
 pub write-masked-spec : {M : Type 1} → statement M
 write-masked-spec =

@@ -28,19 +28,19 @@ same-length c = search needs
 returns : tie.Need-returns
 returns c =
     let first = c .before .before .before .before .before .before .before .before .before .before in
-    let start = first .before .before .before .before .before .before .before in
+    let start = first .before .before .before .before .before .before .before .before in
     let a = start .args in
-    let minus : List ℕ = negated (a .q) (a .m * a .p) (a .u .now) in
-    let n : ℕ = a .m * a .p in
+    let minus : List ℕ = negated (a .s .q) (a .s .m * a .s .p) (a .u .now) in
+    let n : ℕ = a .s .m * a .s .p in
     let d : List ℕ = a .out .now in
-    let t : List ℕ = matMul (a .q) (a .m) (a .k) (a .p) (a .x .now) (a .y .now) in
+    let t : List ℕ = matMul (a .s .q) (a .s .m) (a .s .k) (a .s .p) (a .x .now) (a .y .now) in
     c .before .before .add-product .ensures
-    ∙ (ap (λ (o : List ℕ). over (matAdd (a .q) n t o) o)
+    ∙ (ap (λ (o : List ℕ). over (matAdd (a .s .q) n t o) o)
     (c .before .before .before .before .before .before .subtract-from .ensures
-    ∙ (ap (λ (o : List ℕ). over (matSub (a .q) n o (a .a .now)) o) (first .write-negative .ensures)
-    ∙ off (a .q) n minus (a .a .now) d (negated-count (a .q) n (a .u .now))))
-    ∙ (onto (a .q) n t (matSub (a .q) n minus (a .a .now)) d (sub-count (a .q) n minus (a .a .now))
-    ∙ ap (λ (l : List ℕ). over l d) (twice-negated-sum (a .q) n (start .pre .0 .some-q) t (a .u .now) (a .a .now))))
+    ∙ (ap (λ (o : List ℕ). over (matSub (a .s .q) n o (a .a .now)) o) (first .write-negative .ensures)
+    ∙ off (a .s .q) n minus (a .a .now) d (negated-count (a .s .q) n (a .u .now))))
+    ∙ (onto (a .s .q) n t (matSub (a .s .q) n minus (a .a .now)) d (sub-count (a .s .q) n minus (a .a .now))
+    ∙ ap (λ (l : List ℕ). over l d) (twice-negated-sum (a .s .q) n (start .pre .0 .some-q) t (a .u .now) (a .a .now))))
 
 pub write-reply-spec : {M : Type 1} → statement M
 write-reply-spec =

@@ -15,19 +15,13 @@ use Rattle.product.proofs.last.write_own.Tie as tie
 times-requires : tie.Need-times-requires
 times-requires c κs = search needs
 
-cast-write-share : tie.Need-cast-write-share
-cast-write-share c = search needs
-
-cast-write-share-2 : tie.Need-cast-write-share-2
-cast-write-share-2 c = search needs
-
-cast-write-share-3 : tie.Need-cast-write-share-3
-cast-write-share-3 c = search needs
+sides-of-requires : tie.Need-sides-of-requires
+sides-of-requires c κs = search needs
 
 slice-aggregate-write-share : tie.Need-slice-aggregate-write-share
 slice-aggregate-write-share c =
-    let start = c .before .before .before .before .before .before .before .before .before in
-    let n = c .before .before .before .before .times .ensures in
+    let start = c .before .before .before .before .before .before .before in
+    let n = c .before .before .times .ensures in
     sym (length-take-le _ (start .args .residues .now) (omega (arith, start .pre .full)))
 
 mul-write-share : tie.Need-mul-write-share
@@ -44,12 +38,13 @@ part-write-share-end c = search needs
 
 write-share-requires : tie.Need-write-share-requires
 write-share-requires c κs =
-    let at = c .before .before .before .before .before .before in
+    let at = c .before .before .before .before in
     let start = at .before .before .before .before .before in
     let a = start .args in
     let h = start .pre in
     let n = at .times .ensures in
-    let b = sides-of product (a .t .m) (a .t .k) (a .t .p) (h .sides) in (
+    let b = sides-of product (a .t .m) (a .t .k) (a .t .p) (h .sides) in
+    rw (c .before .before .before .sides-of .ensures) (
       record {
         some-q = h .some-q;
         small-q = h .small-q;
@@ -69,18 +64,16 @@ same-length c = search needs
 returns : tie.Need-returns
 unfolding rightShare
 returns c =
-    let at = c .before .before .before .before .before .before .before .before .before in
+    let at = c .before .before .before .before .before .before .before in
     let a = at .before .before .before .before .before .args in
-    rw (at .times .ensures, tail-part (a .t .m * a .t .k) (a .residues .now)) at (c .before .before .write-share .ensures)
+    rw (c .before .before .before .before .before .before .sides-of .ensures, at .times .ensures, tail-part (a .t .m * a .t .k) (a .residues .now)) at (c .before .before .write-share .ensures)
 
 pub write-own-spec : {M : Type 1} → statement M
 write-own-spec =
     tie.close
     (tie.spec
     times-requires
-    cast-write-share
-    cast-write-share-2
-    cast-write-share-3
+    sides-of-requires
     slice-aggregate-write-share
     mul-write-share
     sub-write-share

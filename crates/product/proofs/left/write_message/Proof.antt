@@ -28,14 +28,8 @@ add-residues-requires c κs =
       omega (arith, h .room, n),
     )
 
-cast-write-reply : tie.Need-cast-write-reply
-cast-write-reply c = search needs
-
-cast-write-reply-2 : tie.Need-cast-write-reply-2
-cast-write-reply-2 c = search needs
-
-cast-write-reply-3 : tie.Need-cast-write-reply-3
-cast-write-reply-3 c = search needs
+sides-of-requires : tie.Need-sides-of-requires
+sides-of-requires c κs = search needs
 
 mul-write-reply : tie.Need-mul-write-reply
 mul-write-reply c = search needs
@@ -51,13 +45,14 @@ part-write-reply-end c = search needs
 
 write-reply-requires : tie.Need-write-reply-requires
 write-reply-requires c κs =
-    let at = c .before .before .before .before .before .before .before .before in
+    let at = c .before .before .before .before .before .before in
     let start = at .before .before .before .before .before .before .before in
     let a = start .args in
     let h = start .pre in
     let n = at .times .ensures in
     let b = sides-of product (a .t .m) (a .t .k) (a .t .p) (h .sides) in
-    let full = sum-residues (h .some-q) (a .t .m * a .t .k) (a .x .now) (a .x0 .now) .size in (
+    let full = sum-residues (h .some-q) (a .t .m * a .t .k) (a .x .now) (a .x0 .now) .size in
+    rw (c .before .sides-of .ensures) (
       record {
         some-q = h .some-q;
         small-q = h .small-q;
@@ -77,7 +72,7 @@ same-length c = search needs
 returns : tie.Need-returns
 unfolding sendX sendR
 returns c =
-    let at = c .before .before .before .before .before .before .before .before .before in
+    let at = c .before .before .before .before .before .before .before in
     let start = at .before .before .before .before .before .before .before .before .before in
     let a = start .args in
     let h = start .pre in
@@ -86,7 +81,7 @@ returns c =
     let first = rw n at (at .add-residues .ensures) in
     rw n
     (part-then _ _ (a .out .now) _ _ (a .t .m * a .t .k) full (omega (arith, ap length first ∙ over-length _ (a .out .now) (omega (arith, full, h .room)), h .room))
-    first (rw n at (c .before .before .write-reply .ensures)))
+    first (rw (n, c .before .before .before .before .sides-of .ensures) at (c .before .before .write-reply .ensures)))
 
 pub write-message-spec : {M : Type 1} → statement M
 write-message-spec =
@@ -94,9 +89,7 @@ write-message-spec =
     (tie.spec
     times-requires
     add-residues-requires
-    cast-write-reply
-    cast-write-reply-2
-    cast-write-reply-3
+    sides-of-requires
     mul-write-reply
     sub-write-reply
     part-write-reply-start

@@ -14,19 +14,13 @@ use Rattle.solver.proofs.second.find_share.Tie as tie
 times-requires : tie.Need-times-requires
 times-requires c κs = search needs
 
-cast-write-share : tie.Need-cast-write-share
-cast-write-share c = search needs
-
-cast-write-share-2 : tie.Need-cast-write-share-2
-cast-write-share-2 c = search needs
-
-cast-write-share-3 : tie.Need-cast-write-share-3
-cast-write-share-3 c = search needs
+sides-of-requires : tie.Need-sides-of-requires
+sides-of-requires c κs = search needs
 
 slice-aggregate-write-share : tie.Need-slice-aggregate-write-share
 slice-aggregate-write-share c =
-    let times = c .before .before .before .before .times in
-    let pre = c .before .before .before .before .before .before .before .before .before .pre in
+    let times = c .before .before .times in
+    let pre = c .before .before .before .before .before .before .before .pre in
     sym (length-take-le _ _ (omega (arith, times .ensures, pre .3)))
 
 mul-write-share : tie.Need-mul-write-share
@@ -43,9 +37,10 @@ part-write-share-end c = search needs
 
 write-share-requires : tie.Need-write-share-requires
 write-share-requires c κs =
-    let h = c .before .before .before .before .before .before .before .before .before .before .before .pre in
-    let n = c .before .before .before .before .before .before .times .ensures in
-    let f = few (c .before .before .before .before .before .before .before .before .before .before .before .args .t) (h .2) in (
+    let h = c .before .before .before .before .before .before .before .before .before .pre in
+    let n = c .before .before .before .before .times .ensures in
+    let f = few (c .before .before .before .before .before .before .before .before .before .args .t) (h .2) in
+    rw (c .before .before .before .sides-of .ensures) (
       record {
         some-q = h .0;
         small-q = h .1;
@@ -65,15 +60,15 @@ same-length c = search needs
 returns : tie.Need-returns
 unfolding shareOf
 returns c =
-    let far = c .before .before .before .before .before .before .before .before .before .before in
-    let write-share = c .before .before .write-share in
+    let far = c .before .before .before .before .before .before .before .before in
+    let shared = rw (c .before .before .before .before .before .before .sides-of .ensures) at (c .before .before .write-share .ensures) in
     let a = far .before .before .before .before .args in
     let h = far .before .before .before .before .pre in
     let f = few (a .t) (h .2) in
-    let times = c .before .before .before .before .before .before .before .before .before .times in
+    let times = c .before .before .before .before .before .before .before .times in
     let x1 = x1-part (a .t) (a .residues .now) (times .result) (times .ensures) in
     let r1 = r1-part (a .t) (a .residues .now) (times .result) (times .ensures) (h .3) in
-    share-found (a .t .q) (a .t .m) (a .t .k) (a .t .p) (columns (a .t .m) (a .t .p)) _ (a .y0 .now) _ (a .b0 .now) (a .out .now) (write-share .ensures)
+    share-found (a .t .q) (a .t .m) (a .t .k) (a .t .p) (columns (a .t .m) (a .t .p)) _ (a .y0 .now) _ (a .b0 .now) (a .out .now) shared
     x1 refl r1 refl (f .square) (f .whole)
 
 pub find-share-spec : {M : Type 1} → statement M
@@ -81,9 +76,7 @@ find-share-spec =
     tie.close
     (tie.spec
     times-requires
-    cast-write-share
-    cast-write-share-2
-    cast-write-share-3
+    sides-of-requires
     slice-aggregate-write-share
     mul-write-share
     sub-write-share
