@@ -4,6 +4,7 @@
 use crate::BlinderAnswer;
 use crate::drawn_p;
 use crate::drawn_u0;
+use crate::formula::Unknowns;
 use crate::formula::write_c;
 use crate::formula::write_w;
 use crate::later;
@@ -45,13 +46,16 @@ fn send(
     ensures { λ _. ⌜ now (out .exit) ≡ over (secondSent t (now (mm .entry)) (now (y .entry)) (now (f .entry)) (now (scratch .entry)) (now (qm .entry))
         (now (g .entry))) (now (out .entry)) ⌝ }
 {
-    let n = t.m as usize;
-    let rhs = (t.p - t.m) as usize;
+    let sizes = Unknowns {
+        q: t.q,
+        n: t.m as usize,
+        rhs: (t.p - t.m) as usize,
+    };
     let square = times(t.m, t.m);
     let pm = drawn_p(t, scratch);
     let u0 = drawn_u0(t, scratch);
-    write_w(t.q, n, rhs, u0, f, qm, pm, mm, g, out);
-    write_c(t.q, n, rhs, u0, pm, y, &mut out[square..]);
+    write_w(sizes, u0, f, qm, pm, mm, g, out);
+    write_c(sizes, u0, pm, y, &mut out[square..]);
 }
 
 // The message goes into `out`; the session waits for kind 5.

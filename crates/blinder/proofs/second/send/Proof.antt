@@ -15,14 +15,14 @@ use Rattle.blinder.proofs.second.send.Tie as tie
 abbrev start : tie.After-times → tie.Start
 start c = c .before .before .before .before .before .before .before .before .before .before
 
-cast-n : tie.Need-cast-n
-cast-n c = search needs
+cast-write-c : tie.Need-cast-write-c
+cast-write-c c = search needs
 
-sub-rhs : tie.Need-sub-rhs
-sub-rhs c = let told = c .before .before .before .before .before .before .before .before .before in wide-enough (told .args .t) (told .pre .sides)
+sub-write-c : tie.Need-sub-write-c
+sub-write-c c = let told = c .before .before .before .before .before .before .before .before .before in wide-enough (told .args .t) (told .pre .sides)
 
-cast-rhs : tie.Need-cast-rhs
-cast-rhs c = search needs
+cast-write-c-2 : tie.Need-cast-write-c-2
+cast-write-c-2 c = search needs
 
 times-requires : tie.Need-times-requires
 times-requires c κs = search needs
@@ -49,8 +49,8 @@ mul-write-c c =
     let few = square-bound (told .args .t) (told .pre .sides) in
     search needs
 
-sub-write-c : tie.Need-sub-write-c
-sub-write-c c = search needs
+sub-write-c-2 : tie.Need-sub-write-c-2
+sub-write-c-2 c = search needs
 
 part-write-c-start : tie.Need-part-write-c-start
 part-write-c-start c = search needs
@@ -89,15 +89,15 @@ pub send-spec : {M : Type 1} → statement M
 send-spec =
     tie.close
     (tie.spec
-    cast-n
-    sub-rhs
-    cast-rhs
+    cast-write-c
+    sub-write-c
+    cast-write-c-2
     times-requires
     drawn-p-requires
     drawn-u0-requires
     write-w-requires
     mul-write-c
-    sub-write-c
+    sub-write-c-2
     part-write-c-start
     part-write-c-end
     write-c-requires
