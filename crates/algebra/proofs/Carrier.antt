@@ -61,7 +61,8 @@ module _ {q : ℕ} (p : Prime q) (n : ℕ) where
           units = step-units p n 1 0 r b (omega arith) (omega arith) l (omega arith) rb (law .found l) (record { at = λ i j hi hj. absurd (omega arith) })
 
           is-unit : next ≡ unitVector n
-          is-unit = unfold unitVector in column-ext h n (matrix-residues n 1 (step q 0 r (entry 1 b)) (λ i j hi hj. step-below h 0 r (entry 1 b) i j)) (matrix-residues n 1 (λ i j. delta i 0) (λ i j hi hj. delta-below (p .two) i 0)) (λ i hi.
+          is-unit = unfold unitVector in column-ext h n (matrix-residues n 1 (step q 0 r (entry 1 b)) (λ i j hi hj. step-below h 0 r (entry 1 b) i j))
+              (matrix-residues n 1 (λ i j. delta i 0) (λ i j hi hj. delta-below (p .two) i 0)) (λ i hi.
               cong-eq (units .at i 0 hi (omega arith) ∙ sym (matrix-at n 1 (λ x y. delta x 0) i 0 hi (omega arith))))
 
   carrier-nonzero : {b b′ : List ℕ} → Residues q (n * 1) b → Residues q (n * 1) b′ → ((b ≡ zeros (n * 1)) → ⊥) → ((b′ ≡ zeros (n * 1)) → ⊥) → Carrier q n b b′

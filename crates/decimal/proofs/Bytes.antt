@@ -39,7 +39,8 @@ spell-end f s i h e =
     let t : eqb (getD s i 0) (endByte (length (drop (suc i) s))) ≡ true = eq-eqb _ _ (e ∙ ap endByte (sym (left-behind s i))) in
     rw (add-one, drop-cons s i 0 h, t)
 
-pub spell-byte : (f : Numeral) (s : List ℕ) (i : ℕ) → i < length s → (getD s i 0 ≡ endByte (length s - (i + 1)) → ⊥) → spell f (drop i s) ≡ spell (withByte f (getD s i 0)) (drop (i + 1) s)
+pub spell-byte : (f : Numeral) (s : List ℕ) (i : ℕ) → i < length s → (getD s i 0 ≡ endByte (length s - (i + 1)) → ⊥)
+    → spell f (drop i s) ≡ spell (withByte f (getD s i 0)) (drop (i + 1) s)
 spell-byte f s i h e =
     let t : eqb (getD s i 0) (endByte (length (drop (suc i) s))) ≡ false = ne-eqb _ _ (λ p. e (p ∙ ap endByte (left-behind s i))) in
     rw (add-one, drop-cons s i 0 h, t)

@@ -101,7 +101,8 @@ unread skip s out e f =
 pub unread-length : (skip : ℕ) (s out : List ℕ) → (length s < 1) ⊎ (65536 < length s) → (tally.Wrong ≡ tallyOf (numbersOf s)) × (out ≡ sets out 0 (drop skip (numbersBefore s)))
 unfolding numbersBefore within both
 unread-length skip s out d =
-    unread skip s out (whole-none s d) (⊎-elim (λ h. rw (lt-leb 1 (length s) h)) (λ h. let l : 1 ≤ length s = omega arith in rw (le-leb 1 (length s) l, lt-leb (length s) 65536 h)) d)
+    unread skip s out (whole-none s d) (⊎-elim (λ h. rw (lt-leb 1 (length s) h))
+    (λ h. let l : 1 ≤ length s = omega arith in rw (le-leb 1 (length s) l, lt-leb (length s) 65536 h)) d)
 
 pub unread-end : (skip : ℕ) (s out : List ℕ) → 0 < length s → length s ≤ 65536 → (Ended s → ⊥)
     → (tally.Wrong ≡ tallyOf (numbersOf s)) × (out ≡ sets out 0 (drop skip (numbersBefore s)))

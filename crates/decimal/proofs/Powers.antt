@@ -50,7 +50,8 @@ upto-turn n p h = by-reach (decLt n p) (decLt n (p * 10))
         rw (le-ltb n p (omega arith), lt-ltb n (p * 10) k, own) (decimal-small (n / p) small)
     by-reach (no l) (no k) =
         let large : 10 ≤ n / p = le-div-iff-mul-le h .1 (omega arith) in
-        rw (le-ltb n p (omega arith), le-ltb n (p * 10) (omega arith)) (decimal-large (n / p) large ∙ ap (λ (m : ℕ). decimal m ++ ((48 + n / p % 10) ∷ [])) (div-div-eq-div-mul n p 10))
+        rw (le-ltb n p (omega arith), le-ltb n (p * 10) (omega arith))
+        (decimal-large (n / p) large ∙ ap (λ (m : ℕ). decimal m ++ ((48 + n / p % 10) ∷ [])) (div-div-eq-div-mul n p 10))
 
 pub upto-none : (n p : ℕ) → n < p → upto n p ≡ []
 unfolding upto

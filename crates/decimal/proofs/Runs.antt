@@ -100,7 +100,8 @@ module _ (s : List ℕ) (r t : Run) where
       let p1 : 10 ^ (j + 1) ≡ 10 ^ j * 10 = rw add-one (pow-suc 10 j) in
       let p2 : 10 ^ (j + 1 + 1) ≡ 10 ^ (j + 1) * 10 = rw (add-one (j + 1)) (pow-suc 10 (j + 1)) in
       record {
-        reads = a .reads ∙ digit-read (seen (t .value)) s (t .next) (a .inside) l ∙ ap (λ (f : Numeral). spell f (drop (t .next + 1) s)) (seen-digit (t .value) b (a .some) l h (decLt _ _));
+        reads = a .reads ∙ digit-read (seen (t .value)) s (t .next) (a .inside) l
+            ∙ ap (λ (f : Numeral). spell f (drop (t .next + 1) s)) (seen-digit (t .value) b (a .some) l h (decLt _ _));
         inside = digit-inside s (t .next) e (a .inside) l;
         onward = omega (arith, a .onward);
         some = omega (arith, a .some);
@@ -130,7 +131,8 @@ module _ (s : List ℕ) (r t : Run) where
       by-digit k (yes l) h = not-taken (seen (t .value)) (getD s (t .next) 0) (inl l)
       by-digit k (no l) (yes h) = not-taken (seen (t .value)) (getD s (t .next) 0) (inr h)
       by-digit k (no l) (no h) =
-          seen-digit (t .value) (getD s (t .next) 0) (a .some) (omega arith) (omega arith) (decLt (t .value) (2 ^ 32)) ∙ seen-large (t .value * 10 + (getD s (t .next) 0 - 48)) (omega arith)
+          seen-digit (t .value) (getD s (t .next) 0) (a .some) (omega arith) (omega arith) (decLt (t .value) (2 ^ 32))
+          ∙ seen-large (t .value * 10 + (getD s (t .next) 0 - 48)) (omega arith)
 
       full : 10 ^ 9 ≤ t .value → Stops s (seen (t .value)) (t .next)
       full k = by-digit k (decLt (getD s (t .next) 0) 48) (decLt 57 (getD s (t .next) 0))

@@ -33,13 +33,15 @@ line-none xs j h = rw (drop-of-length-le xs h)
 
 -- ---- a run of numbers on a line
 
-before-step : (m : ℕ) (xs : List ℕ) (j : ℕ) → j < length xs → lineBefore m (drop j xs) ≡ decimal (getD xs j 0) ++ (endByte (length xs - (j + 1) + m) ∷ lineBefore m (drop (j + 1) xs))
+before-step : (m : ℕ) (xs : List ℕ) (j : ℕ) → j < length xs → lineBefore m (drop j xs) ≡ decimal (getD xs j 0)
+    ++ (endByte (length xs - (j + 1) + m) ∷ lineBefore m (drop (j + 1) xs))
 before-step m xs j h = rw (add-one, drop-cons xs j 0 h, length-drop)
 
 pub before-none : (m : ℕ) (xs : List ℕ) (j : ℕ) → length xs ≤ j → lineBefore m (drop j xs) ≡ []
 before-none m xs j h = rw (drop-of-length-le xs h)
 
-pub before-length-step : (m : ℕ) (xs : List ℕ) (j : ℕ) → j < length xs → length (lineBefore m (drop j xs)) ≡ length (decimal (getD xs j 0)) + 1 + length (lineBefore m (drop (j + 1) xs))
+pub before-length-step : (m : ℕ) (xs : List ℕ) (j : ℕ) → j < length xs
+    → length (lineBefore m (drop j xs)) ≡ length (decimal (getD xs j 0)) + 1 + length (lineBefore m (drop (j + 1) xs))
 before-length-step m xs j h = ap length (before-step m xs j h) ∙ simp length-append (omega arith)
 
 -- a number, stored with its last byte, and what comes behind it

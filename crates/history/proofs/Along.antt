@@ -122,8 +122,10 @@ module _ (size : Party → ℕ) (start : Party → List ℕ) (empty : Empty size
   -- The principle: what holds at the start and is kept by every dealing and by every move holds after every list of calls, with the invariant
   module _ (lent : ℕ → List ℕ) (P : State → List Entry → Type 0) (base : P (fresh start lent) [])
       (deal-step : (l : List Entry) (d : Dealing) (x : Dealt) → Inv size start (d .on) l → Premises size (dealt d ∷ l)
-      → deal (d .on .pools (d .holder)) (d .on .pools (opposite (d .holder))) (d .size) (d .index) (d .request) ≡ done x → P (d .on) l → P (afterDealing (d .holder) x (d .on)) (dealt d ∷ l))
-      (move-step : (l : List Entry) (e : Did) → Inv size start (e .on) l → Premises size (did e ∷ l) → Move size start l e → P (e .on) l → P (stateAfter size start e) (did e ∷ l)) where
+      → deal (d .on .pools (d .holder)) (d .on .pools (opposite (d .holder))) (d .size) (d .index) (d .request) ≡ done x → P (d .on) l
+      → P (afterDealing (d .holder) x (d .on)) (dealt d ∷ l))
+      (move-step : (l : List Entry) (e : Did) → Inv size start (e .on) l → Premises size (did e ∷ l) → Move size start l e → P (e .on) l
+      → P (stateAfter size start e) (did e ∷ l)) where
     abbrev Goal : World → Type 0
     Goal o = Premises size (o .log) → Inv size start (o .state) (o .log) × P (o .state) (o .log)
 

@@ -54,7 +54,8 @@ module _ (r : Request) (big : 1 < r .q) (sides : sidesFit (r .sort) (r .m) (r .k
   unfolding dealtV dealV
   v-residues ls e = subst (λ (k : ℕ). Residues (r .q) (r .m * k) (dealtV r ls)) (sym e) (add-residues positive (r .m * r .m) _ _)
 
-  first-fits : (sort : Sort) (ls : List (List ℕ)) → Fits (r .q) (drawLayout sort (r .m) (r .k) (r .p)) ls → Fits (r .q) (layout (firstRole sort) (r .m) (r .k) (r .p)) (firstHalf sort ls)
+  first-fits : (sort : Sort) (ls : List (List ℕ)) → Fits (r .q) (drawLayout sort (r .m) (r .k) (r .p)) ls
+      → Fits (r .q) (layout (firstRole sort) (r .m) (r .k) (r .p)) (firstHalf sort ls)
   first-fits product ls (rx then ry then ra then none) = rx then ra then none
   first-fits system ls (rx then ry then ra then rq then rr then rg then none) = rx then ra then rq then rg then none
 
@@ -145,7 +146,8 @@ module _ (size : Party → ℕ) (start : Party → List ℕ) (d : Dealing) (x : 
           ≡ poolWith (slotOf given (d .on .pools) w (d .index)) (tapeOn READY (join (halfBy c r)) d (slotWords (slotOf given (d .on .pools) w (d .index))))
       go (yes p) =
           ap (λ (z : Dealt). z .first) (sym (deal-step (d .on .pools (d .holder)) (d .on .pools (opposite (d .holder))) (d .size) (d .index) r .means h .1))
-          ∙ ap (λ (w : Party). poolWith (slotOf given (d .on .pools) w (d .index)) (tapeOn READY (join (firstHalf (r .sort) (drawnParts r))) d (slotWords (slotOf given (d .on .pools) w (d .index))))) p
+          ∙ ap (λ (w : Party). poolWith (slotOf given (d .on .pools) w (d .index))
+          (tapeOn READY (join (firstHalf (r .sort) (drawnParts r))) d (slotWords (slotOf given (d .on .pools) w (d .index))))) p
       go (no p) =
           ap (λ (z : Dealt). z .second) (sym (deal-step (d .on .pools (d .holder)) (d .on .pools (opposite (d .holder))) (d .size) (d .index) r .means h .1))
           ∙ ap (λ (w : Party). poolWith (slotOf given (d .on .pools) w (d .index))

@@ -47,7 +47,8 @@ place-never (did e ∷ l) w i n = go (here (e .party) (e .index) w i) (e .step) 
 -- the last dealing at a slot counts
 place-last : (newer older : List Entry) (d : Dealing) (w : Party) → Never (d .index) newer → place (newer ++ dealt d ∷ older) w (d .index) ≡ holds d (server newer w (d .index))
 place-last [] older d w n = chosen-yes (ℕ-discrete (d .index) (d .index)) (holds d none) (place older w (d .index)) refl
-place-last (dealt d′ ∷ l) older d w n = chosen-no (ℕ-discrete (d′ .index) (d .index)) (holds d′ none) (place (l ++ dealt d ∷ older) w (d .index)) (n .0) ∙ place-last l older d w (n .1)
+place-last (dealt d′ ∷ l) older d w n = chosen-no (ℕ-discrete (d′ .index) (d .index)) (holds d′ none) (place (l ++ dealt d ∷ older) w (d .index)) (n .0)
+    ∙ place-last l older d w (n .1)
 place-last (did e ∷ l) older d w n = go (here (e .party) (e .index) w (d .index)) (e .step) (place-last l older d w n)
   where
     go : (c : Dec ((e .party ≡ w) × (e .index ≡ d .index))) (k : Step) → place (l ++ dealt d ∷ older) w (d .index) ≡ holds d (server l w (d .index))
@@ -65,7 +66,8 @@ was-dealt (did e ∷ l) older d = was-dealt l older d
 
 module _ (size : Party → ℕ) (start : Party → List ℕ) (lent : ℕ → List ℕ) where
   abbrev Found : List Call → List Entry → Entry → Type 0
-  Found cs older x = (later : List Call) × (c : Call) × (earlier : List Call) × (cs ≡ later ++ c ∷ earlier) × (run size start lent earlier .log ≡ older) × EntryOf size x c (run size start lent earlier)
+  Found cs older x = (later : List Call) × (c : Call) × (earlier : List Call) × (cs ≡ later ++ c ∷ earlier) × (run size start lent earlier .log ≡ older)
+      × EntryOf size x c (run size start lent earlier)
 
   longer : (c : Call) (cs : List Call) (older : List Entry) (x : Entry) → Found cs older x → Found (c ∷ cs) older x
   longer c cs older x f = (c ∷ f .0, f .1, f .2, ap (λ (l : List Call). c ∷ l) (f .3), f .4, f .5)
@@ -117,7 +119,8 @@ module _ (size : Party → ℕ) (start : Party → List ℕ) (lent : ℕ → Lis
           by-result : (a : Judged Dealt) → deal (o .state .pools holder) (o .state .pools (opposite holder)) len i r ≡ a
               → advanceDealing holder len i r o a .log ≡ newer ++ x ∷ older → Found (dealing holder len i r ∷ cs) older x
           by-result (refused n) e f = longer (dealing holder len i r) cs older x (ih newer f)
-          by-result (done a) e f = newest (dealing holder len i r) cs older newer x (dealt (record { holder = holder; size = len; index = i; request = r; on = o .state })) f (refl, refl, a, e) ih
+          by-result (done a) e f = newest (dealing holder len i r) cs older newer x
+              (dealt (record { holder = holder; size = len; index = i; request = r; on = o .state })) f (refl, refl, a, e) ih
       go (beginning w i b t k) ih = by-step w i b (begunIn (run size start lent cs .log)) (begins t k) (beginning w i b t k) (λ a. (refl, refl)) ih
       go (continuing w i b n k) ih = by-step w i b n (goes-on k) (continuing w i b n k) (λ a. refl) ih
 

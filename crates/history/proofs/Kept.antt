@@ -82,7 +82,11 @@ module _ (size : Party → ℕ) (start : Party → List ℕ) where
     pub ready-place : (c : Place) → statusOf (placeWords size start sessions w i c) ≡ READY → (d : Dealing) × (c ≡ holds d none)
     ready-place untouched h = absurd (omega (arith, empty, h))
     ready-place (holds d none) h = (d, refl)
-    ready-place (holds d (some n)) h = absurd (elim (served-status w d (dueIn (sessions n)) (slotWords (slotOf size (d .on .pools) w i))) [ inl z ↦ omega (arith, z, h) | inr z ↦ omega (arith, z, h) ])
+    ready-place (holds d (some n)) h = absurd (elim (served-status w d (dueIn (sessions n)) (slotWords (slotOf size (d .on .pools) w i))) [
+      | inl z ↦ omega
+          (arith, z, h)
+      | inr z ↦ omega (arith, z, h)
+    ])
 
     pub used-place : (c : Place) → statusOf (placeWords size start sessions w i c) ≡ IN-USE → (d : Dealing) × (n : ℕ) × (c ≡ holds d (some n))
     used-place untouched h = absurd (omega (arith, empty, h))
@@ -111,7 +115,8 @@ module _ (size : Party → ℕ) (start : Party → List ℕ) where
   unfolding isSlot
   inside-now v w i h = rw (v .sizes w) h
 
-  pub inside-then : (pools : Party → List ℕ) (w : Party) (i : ℕ) → length (pools w) ≡ length (start w) → isSlot (slotOf size pools w i) ≡ true → isSlot (slotOf size start w i) ≡ true
+  pub inside-then : (pools : Party → List ℕ) (w : Party) (i : ℕ) → length (pools w) ≡ length (start w) → isSlot (slotOf size pools w i) ≡ true
+      → isSlot (slotOf size start w i) ≡ true
   unfolding isSlot
   inside-then pools w i e h = rw (← e) h
 
@@ -246,7 +251,8 @@ module _ (size : Party → ℕ) (start : Party → List ℕ) where
             let ep : t .p ≡ d₀ .request .p = ap (λ (t : Terms). t .p) (sym (c .terms-are)) ∙ mv .agrees .p-is in
             c .wrote
             ∙ ap (λ (r : Role). leaveLater due r t (slotBy e)) (sym (c .role-is) ∙ mv .agrees .role-is)
-            ∙ later-leaves d₀ good (e .party) (slotBy e) t due em ek ep (used-before o (c .session-open .is-open) ∙ ap (tapeOn IN-USE (join (half (e .party) d₀)) d₀) (sym at-index))
+            ∙ later-leaves d₀ good (e .party) (slotBy e) t due em ek ep
+            (used-before o (c .session-open .is-open) ∙ ap (tapeOn IN-USE (join (half (e .party) d₀)) d₀) (sym at-index))
             ∙ at
 
     whole : length (e .effect .slot) ≡ size (e .party)
@@ -294,7 +300,8 @@ module _ (size : Party → ℕ) (start : Party → List ℕ) where
     move-sizes w = go (party-eq (e .party) w)
       where
         go : (c : Dec (e .party ≡ w)) → length (choose c (poolWith (slotBy e) (e .effect .slot)) (e .on .pools w)) ≡ length (start w)
-        go (yes p) = length-pool (e .on .pools (e .party)) (size (e .party)) (e .index) (e .effect .slot) inside-here whole ∙ v .sizes (e .party) ∙ ap (λ (w : Party). length (start w)) p
+        go (yes p) = length-pool (e .on .pools (e .party)) (size (e .party)) (e .index) (e .effect .slot) inside-here whole ∙ v .sizes (e .party)
+            ∙ ap (λ (w : Party). length (start w)) p
         go (no _) = v .sizes w
 
     move-shown : (w : Party) (i : ℕ) → isSlot (slotOf size start w i) ≡ true
@@ -332,15 +339,18 @@ module _ (size : Party → ℕ) (start : Party → List ℕ) where
     move-tails : (w : Party) → drop (length (start w) / size w * size w) (stateAfter e .pools w) ≡ drop (length (start w) / size w * size w) (start w)
     move-tails w = go (party-eq (e .party) w)
       where
-        this : drop (length (start (e .party)) / size (e .party) * size (e .party)) (poolWith (slotBy e) (e .effect .slot)) ≡ drop (length (start (e .party)) / size (e .party) * size (e .party)) (start (e .party))
+        this : drop (length (start (e .party)) / size (e .party) * size (e .party)) (poolWith (slotBy e) (e .effect .slot)) ≡ drop
+            (length (start (e .party)) / size (e .party) * size (e .party)) (start (e .party))
         this =
             ap (λ (n : ℕ). drop (n / size (e .party) * size (e .party)) (poolWith (slotBy e) (e .effect .slot))) (sym (v .sizes (e .party)))
             ∙ tail-stays (e .on .pools (e .party)) (size (e .party)) (e .index) (e .effect .slot) inside-here whole
             ∙ ap (λ (n : ℕ). drop (n / size (e .party) * size (e .party)) (e .on .pools (e .party))) (v .sizes (e .party))
             ∙ v .tails (e .party)
 
-        go : (c : Dec (e .party ≡ w)) → drop (length (start w) / size w * size w) (choose c (poolWith (slotBy e) (e .effect .slot)) (e .on .pools w)) ≡ drop (length (start w) / size w * size w) (start w)
-        go (yes p) = subst (λ (w : Party). drop (length (start w) / size w * size w) (poolWith (slotBy e) (e .effect .slot)) ≡ drop (length (start w) / size w * size w) (start w)) p this
+        go : (c : Dec (e .party ≡ w)) → drop (length (start w) / size w * size w) (choose c (poolWith (slotBy e) (e .effect .slot)) (e .on .pools w)) ≡ drop
+            (length (start w) / size w * size w) (start w)
+        go (yes p) = subst (λ (w : Party). drop (length (start w) / size w * size w) (poolWith (slotBy e) (e .effect .slot)) ≡ drop
+            (length (start w) / size w * size w) (start w)) p this
         go (no _) = v .tails w
 
     move-taken : (w : Party) (i : ℕ) (d : Dealing) (n : ℕ) → place (did e ∷ l) w i ≡ holds d (some n) → Agrees (stateAfter e .sessions n) w d

@@ -110,9 +110,11 @@ f-stage y v s m room seen o e (s-first p q) =
     let got : v .received ++ (m .residues ∷ []) ≡ m .residues ∷ [] = ap (λ (z : List (List ℕ)). z ++ (m .residues ∷ [])) p in
     record {
       known = known-with (seen .known) (solverOne t (v .half) l x .sent .residues ∷ solverTwo t (v .half) l x (m .residues) .sent .residues ∷ []) (m .residues ∷ [])
-          (ap₂ (λ (a b : List (List ℕ)). a ++ b) (solver-sent (seen .known) (seen .input-is) p ∙ solver-none t (v .half) l x g) (said-is own ∙ ap (λ (b : Message). b .residues ∷ []) now))
+          (ap₂ (λ (a b : List (List ℕ)). a ++ b) (solver-sent (seen .known) (seen .input-is) p ∙ solver-none t (v .half) l x g)
+          (said-is own ∙ ap (λ (b : Message). b .residues ∷ []) now))
           got
-          (sym (solver-one t (v .half) l x g (m .residues) rm) ∙ ap (λ (i : List (List ℕ)). solverMessages t (halfSlot solver t (v .half)) i (m .residues ∷ [])) (sym (seen .input-is)))
+          (sym (solver-one t (v .half) l x g (m .residues) rm)
+          ∙ ap (λ (i : List (List ℕ)). solverMessages t (halfSlot solver t (v .half)) i (m .residues ∷ [])) (sym (seen .input-is)))
           (y1-sent t _ l x (g .terms) .residues before subst (λ (b : Message). Residues (t .q) (messageSize 3 t) (b .residues)) now (own .residues) before no-more)
           (rm before no-more) (omega arith);
       l = l;
@@ -153,15 +155,19 @@ t-stage y v s m room seen o e true r (s-second a ra p q) =
     let now : solverLastEffect y s m .sent ≡ solverThree t (v .half) l x a (m .residues) .sent = ap (λ (z : SolverSession). solverLastEffect z s m .sent) q ∙ is .0 in
     let own′ : MessageFits 5 t (solverThree t (v .half) l x a (m .residues) .sent) = subst (MessageFits 5 t) now own in
     known-with (seen .known)
-    (solverOne t (v .half) l x .sent .residues ∷ solverTwo t (v .half) l x a .sent .residues ∷ solverThree t (v .half) l x a (m .residues) .sent .residues ∷ []) (a ∷ m .residues ∷ [])
-    (ap₂ (λ (a b : List (List ℕ)). a ++ b) (solver-sent (seen .known) (seen .input-is) p ∙ solver-one t (v .half) l x g a ra) (said-is own ∙ ap (λ (b : Message). b .residues ∷ []) now))
+    (solverOne t (v .half) l x .sent .residues ∷ solverTwo t (v .half) l x a .sent .residues ∷ solverThree t (v .half) l x a
+    (m .residues) .sent .residues ∷ []) (a ∷ m .residues ∷ [])
+    (ap₂ (λ (a b : List (List ℕ)). a ++ b) (solver-sent (seen .known) (seen .input-is) p ∙ solver-one t (v .half) l x g a ra)
+    (said-is own ∙ ap (λ (b : Message). b .residues ∷ []) now))
     (ap₂ (λ (a : List (List ℕ)) (b : Answer). a ++ heard b (m ∷ [])) p (takes y s m r))
-    (sym (solver-two t (v .half) l x g a ra (m .residues) rm below own′) ∙ ap (λ (i : List (List ℕ)). solverMessages t (halfSlot solver t (v .half)) i (a ∷ m .residues ∷ [])) (sym (seen .input-is)))
+    (sym (solver-two t (v .half) l x g a ra (m .residues) rm below own′)
+    ∙ ap (λ (i : List (List ℕ)). solverMessages t (halfSlot solver t (v .half)) i (a ∷ m .residues ∷ [])) (sym (seen .input-is)))
     (y1-sent t _ l x (g .terms) .residues before f-sent (solverOne t (v .half) l x .session) _ _ (g .terms) .residues before own′ .residues before no-more)
     (ra before rm before no-more) (omega arith)
 t-stage y v s m room seen o e false r (s-second a ra p q) =
     let n = refuses y s m r in
-    known-still (seen .known) (ap (λ (b : Message). v .sent ++ said b) (n .1) ∙ quiet (v .sent)) (ap (λ (b : Answer). v .received ++ heard b (m ∷ [])) (n .0) ∙ append-nil (v .received))
+    known-still (seen .known) (ap (λ (b : Message). v .sent ++ said b) (n .1) ∙ quiet (v .sent))
+    (ap (λ (b : Answer). v .received ++ heard b (m ∷ [])) (n .0) ∙ append-nil (v .received))
 t-stage y v s m room seen o e b r (s-over d) = absurd (omega (arith, o .later .due-is, d))
 
 -- ---- the blinder
@@ -195,8 +201,10 @@ w-stage z v s u m room seen o e c (b-first a ra p q) =
     let two = blinder-two t (v .half) mm y (v .coins) g a ra (m .residues) rm mb yb in
     let got : v .received ++ (m .residues ∷ []) ≡ a ∷ m .residues ∷ [] = ap (λ (z : List (List ℕ)). z ++ (m .residues ∷ [])) p in
     record {
-      known = known-with (seen .known) (blinderOne t (v .half) mm y (v .coins) a .sent .residues ∷ blinderTwo t (v .half) mm y (v .coins) a (m .residues) .sent .residues ∷ []) (a ∷ m .residues ∷ [])
-          (ap₂ (λ (a b : List (List ℕ)). a ++ b) (blinder-sent (seen .known) (seen .input-is) p ∙ blinder-one t (v .half) mm y (v .coins) g a ra) (said-is own ∙ ap (λ (b : Message). b .residues ∷ []) now))
+      known = known-with (seen .known) (blinderOne t (v .half) mm y (v .coins) a .sent .residues ∷ blinderTwo t (v .half) mm y (v .coins) a
+          (m .residues) .sent .residues ∷ []) (a ∷ m .residues ∷ [])
+          (ap₂ (λ (a b : List (List ℕ)). a ++ b) (blinder-sent (seen .known) (seen .input-is) p ∙ blinder-one t (v .half) mm y (v .coins) g a ra)
+          (said-is own ∙ ap (λ (b : Message). b .residues ∷ []) now))
           got (sym (two []) ∙ input-back (seen .known) (seen .input-is) (a ∷ m .residues ∷ []))
           (x1-sent t _ mm y _ _ (g .terms) .residues before subst (λ (b : Message). Residues (t .q) (messageSize 4 t) (b .residues)) now (own .residues) before no-more)
           (ra before rm before no-more) (omega arith);

@@ -254,7 +254,8 @@ module _ (size : Party → ℕ) (start : Party → List ℕ) (lent : ℕ → Lis
                 let h′ : tenant l b ≡ some x = sym (tenant-other (ℕ-discrete (e .scratch) b) e (e .step) (tenant l b) n) ∙ h in
                 other-tenant b x (not-named b x h′) (o .is-tenant b x h′)
 
-        blinder-keeps : (n : ℕ) → 0 < dueIn (st′ .sessions n) → roleIn (st′ .sessions n) ≡ blinder → (x : Did) × (tenant (did e ∷ l) (lentTo (did e ∷ l) n) ≡ some x) × (x .name ≡ n)
+        blinder-keeps : (n : ℕ) → 0 < dueIn (st′ .sessions n) → roleIn (st′ .sessions n) ≡ blinder
+            → (x : Did) × (tenant (did e ∷ l) (lentTo (did e ∷ l) n) ≡ some x) × (x .name ≡ n)
         blinder-keeps n d b = go (ℕ-discrete n (e .name))
           where
             fair : OwnScratchBy l e (begins t k)
@@ -369,8 +370,10 @@ module _ (size : Party → ℕ) (start : Party → List ℕ) (lent : ℕ → Lis
           this =
               set-same (e .scratch) (over (e .effect .scratch) (e .on .scratches (e .scratch))) (e .on .scratches)
               ∙ ap₂ over wrote (o .shown (e .scratch) ∙ ap (scratchWords lent (e .on .sessions) (e .scratch)) at
-              ∙ ap (λ (z : List ℕ). over z (found .0 .on .scratches (e .scratch))) (kept-open (dueIn (e .on .sessions (found .0 .name))) (termsBy (found .0 .step)) (coinsIn (found .0 .step)) was-open))
-              ∙ over-over (zeros (scratchSize (termsBy (found .0 .step)))) (coinsIn (found .0 .step)) (found .0 .on .scratches (e .scratch)) (length-tabulate _ (λ i. 0) ∙ sym (ten .coins-are))
+              ∙ ap (λ (z : List ℕ). over z (found .0 .on .scratches (e .scratch)))
+              (kept-open (dueIn (e .on .sessions (found .0 .name))) (termsBy (found .0 .step)) (coinsIn (found .0 .step)) was-open))
+              ∙ over-over (zeros (scratchSize (termsBy (found .0 .step)))) (coinsIn (found .0 .step)) (found .0 .on .scratches (e .scratch))
+              (length-tabulate _ (λ i. 0) ∙ sym (ten .coins-are))
               ∙ ap (λ (d : ℕ). over (keptWords d (termsBy (found .0 .step)) (coinsIn (found .0 .step))) (found .0 .on .scratches (e .scratch))) (sym is-closed)
               ∙ ap (scratchWords lent (st′ .sessions) (e .scratch)) (sym (tenant-stays (e .scratch) ∙ at))
 
@@ -414,5 +417,10 @@ module _ (size : Party → ℕ) (start : Party → List ℕ) (lent : ℕ → Lis
   lent-scratches empty cs p =
       along size start empty lent (Lent lent)
       (record { shown = λ b. refl; is-tenant = λ b e h. none≢ h; keeps-it = λ n d r. absurd (omega arith) })
-      (λ l d x v q h o. record { shown = o .shown; is-tenant = λ b e i. let k = o .is-tenant b e i in record { lent-is = k .lent-is; is-begun = k .is-begun; role-is = k .role-is; terms-are = k .terms-are; coins-are = k .coins-are }; keeps-it = o .keeps-it })
+      (λ l d x v q h o. record {
+        shown = o .shown;
+        is-tenant = λ b e i. let k = o .is-tenant b e i in
+            record { lent-is = k .lent-is; is-begun = k .is-begun; role-is = k .role-is; terms-are = k .terms-are; coins-are = k .coins-are };
+        keeps-it = o .keeps-it;
+      })
       (λ l e v q mv o. move-lent l e q mv o) cs p .1

@@ -60,7 +60,8 @@ module _ (size : Party → ℕ) (start : Party → List ℕ) where
       pub at-most : (n : ℕ) (a : A) → count n a l ≤ 1
       pub past : (n : ℕ) (a : A) → 0 < count n a l → Past st n a
 
-    move-once : (l : List Entry) (e : Did) → Inv size start (e .on) l → Premises size (did e ∷ l) → Move size start l e → Once (e .on) l → Once (stateAfter size start e) (did e ∷ l)
+    move-once : (l : List Entry) (e : Did) → Inv size start (e .on) l → Premises size (did e ∷ l) → Move size start l e → Once (e .on) l
+        → Once (stateAfter size start e) (did e ∷ l)
     move-once l e v p mv o = record { at-most = most; past = after }
       where
         never : 0 < count (e .name) (label e) l → ⊥
@@ -74,7 +75,8 @@ module _ (size : Party → ℕ) (start : Party → List ℕ) where
         most n d = go (ℕ-discrete (e .name) n) (same (label e) d)
           where
             go : (a : Dec (e .name ≡ n)) (b : Dec (label e ≡ d)) → choose (both? a b) (suc (count n d l)) (count n d l) ≤ 1
-            go (yes a) (yes b) = subst₂ (λ (n : ℕ) (d : A). suc (count n d l) ≤ 1) a b (elim (decLt 0 (count (e .name) (label e) l)) [ yes t ↦ absurd (never t) | no n ↦ omega arith ])
+            go (yes a) (yes b) = subst₂ (λ (n : ℕ) (d : A). suc (count n d l) ≤ 1) a b
+                (elim (decLt 0 (count (e .name) (label e) l)) [ yes t ↦ absurd (never t) | no n ↦ omega arith ])
             go (yes a) (no b) = o .at-most n d
             go (no a) b = o .at-most n d
 
@@ -149,5 +151,6 @@ module _ (size : Party → ℕ) (start : Party → List ℕ) where
           subst Goal (sym s)
           (later-turned (laterRow k .turn) (laterRow k .takes) (laterRow k .next) (due e) (dueIn (e .effect .session)) (g .in-turn) (g .due-is) (g .moved))
 
-  pub once : Empty size start → (lent : ℕ → List ℕ) (cs : List Call) → Premises size (run size start lent cs .log) → (n : ℕ) (k : StepKind) → timesOf n k (run size start lent cs .log) ≤ 1
+  pub once : Empty size start → (lent : ℕ → List ℕ) (cs : List Call) → Premises size (run size start lent cs .log) → (n : ℕ) (k : StepKind)
+      → timesOf n k (run size start lent cs .log) ≤ 1
   once = labelled kind-eq (λ e. kindOf (e .step)) turnOf step-turned

@@ -103,7 +103,8 @@ t-sent x s a f r =
     rw r (record {
       head-is = refl;
       residues = fits-join (rw (one-column (x .terms .m) (x .terms .p) (sides f .p-is))
-          (solution-solves (prime-test _ (f .field)) (x .terms .m) (add-residues (positive f) (x .terms .m * x .terms .m) _ _) (add-residues (positive f) (x .terms .m * 1) _ _) r .0)
+          (solution-solves (prime-test _ (f .field)) (x .terms .m) (add-residues (positive f) (x .terms .m * x .terms .m) _ _)
+          (add-residues (positive f) (x .terms .m * 1) _ _) r .0)
           then none);
     })
 
@@ -267,7 +268,8 @@ module _ (t : Terms) (half : List (List ℕ)) (l x : List ℕ) (g : SolverBegan 
     unfolding solverMessages hearing
     solver-one =
         then-accepted _ _ _ _ accepts1
-        ∙ ap (λ (z : List (List ℕ)). z ++ andThen (slotOne t half l x) (solverSecond (solverOne t half l x .session) (slotOne t half l x) (incoming 2 t a) (messageSize 3 t)) (λ x s. [])) says1
+        ∙ ap (λ (z : List (List ℕ)). z ++ andThen (slotOne t half l x)
+        (solverSecond (solverOne t half l x .session) (slotOne t half l x) (incoming 2 t a) (messageSize 3 t)) (λ x s. [])) says1
         ∙ ap (λ (z : List (List ℕ)). solverOne t half l x .sent .residues ∷ z) (then-accepted _ _ _ _ accepts2 ∙ ap (λ (z : List (List ℕ)). z ++ []) says2)
 
     pub f-is : (s : Slot) (m : Message) → m ≡ incoming 2 t a → matrices solver t (slotWords s) ≡ half
@@ -313,7 +315,8 @@ module _ (t : Terms) (half : List (List ℕ)) (l x : List ℕ) (g : SolverBegan 
           (λ x s. andThen s (solverLast x s (incoming 4 t b) (messageSize 5 t)) (λ x s. []))) says1
           ∙ ap (λ (z : List (List ℕ)). solverOne t half l x .sent .residues ∷ z)
           (then-accepted _ _ _ _ accepts2
-          ∙ ap (λ (z : List (List ℕ)). z ++ andThen (slotTwo t half l x a) (solverLast (solverTwo t half l x a .session) (slotTwo t half l x a) (incoming 4 t b) (messageSize 5 t)) (λ x s. [])) says2
+          ∙ ap (λ (z : List (List ℕ)). z ++ andThen (slotTwo t half l x a)
+          (solverLast (solverTwo t half l x a .session) (slotTwo t half l x a) (incoming 4 t b) (messageSize 5 t)) (λ x s. [])) says2
           ∙ ap (λ (z : List (List ℕ)). solverTwo t half l x a .sent .residues ∷ z) (then-accepted _ _ _ _ accepts3 ∙ ap (λ (z : List (List ℕ)). z ++ []) (said-is f)))
 
 -- ---- the blinder
@@ -410,19 +413,20 @@ module _ (t : Terms) (half : List (List ℕ)) (mm y coins : List ℕ) (g : Blind
     takes2 : blinderSecond (blinderOne t half mm y coins a .session) (slotFirst t half mm y coins a) (scratchFirst t half mm y coins a) (incoming 3 t b) (messageSize 4 t)
         ≡ done (blinderTwo t half mm y coins a b)
     unfolding blinderFirstEffect
-    takes2 = tests.blinder-second (blinderOne t half mm y coins a .session) (slotFirst t half mm y coins a) (scratchFirst t half mm y coins a) (incoming 3 t b) (messageSize 4 t) .accepts (record {
-      later = record {
-        due-is = refl;
-        session-open = record { is-open = omega arith; terms = g .terms; half = half-fits has1 };
-        matrices-fit = subst (λ (ls : List (List ℕ)). Fits (t .q) (layout blinder (t .m) (t .k) (t .p)) ls) (sym (holding-matrices blinder IN-USE t half _ has1)) (g .fits);
-      };
-      message = record { head-is = refl; residues = rb };
-      scratch-room = room;
-      m-below = m-below;
-      y-below = y-below;
-      scratch-below = ap (allBelow (t .q)) stand ∙ residues-below (g .coins-fit);
-      write-room = le-refl _;
-    })
+    takes2 = tests.blinder-second (blinderOne t half mm y coins a .session) (slotFirst t half mm y coins a) (scratchFirst t half mm y coins a)
+        (incoming 3 t b) (messageSize 4 t) .accepts (record {
+          later = record {
+            due-is = refl;
+            session-open = record { is-open = omega arith; terms = g .terms; half = half-fits has1 };
+            matrices-fit = subst (λ (ls : List (List ℕ)). Fits (t .q) (layout blinder (t .m) (t .k) (t .p)) ls) (sym (holding-matrices blinder IN-USE t half _ has1)) (g .fits);
+          };
+          message = record { head-is = refl; residues = rb };
+          scratch-room = room;
+          m-below = m-below;
+          y-below = y-below;
+          scratch-below = ap (allBelow (t .q)) stand ∙ residues-below (g .coins-fit);
+          write-room = le-refl _;
+        })
 
     told2 : said (blinderTwo t half mm y coins a b .sent) ≡ blinderTwo t half mm y coins a b .sent .residues ∷ []
     unfolding blinderFirstEffect
@@ -435,9 +439,11 @@ module _ (t : Terms) (half : List (List ℕ)) (mm y coins : List ℕ) (g : Blind
     blinder-two got =
         then-accepted _ _ _ _ takes1
         ∙ ap (λ (o : Outcome BlinderSession). said (blinderOne t half mm y coins a .sent) ++ andThen (slotFirst t half mm y coins a)
-        (blinderSecond (blinderOne t half mm y coins a .session) (slotFirst t half mm y coins a) (over (scratchAfter o) lent) (incoming 3 t b) (messageSize 4 t)) (λ x s. [])) takes1
+        (blinderSecond (blinderOne t half mm y coins a .session) (slotFirst t half mm y coins a) (over (scratchAfter o) lent) (incoming 3 t b)
+        (messageSize 4 t)) (λ x s. [])) takes1
         ∙ ap (λ (z : List (List ℕ)). z ++ andThen (slotFirst t half mm y coins a)
-        (blinderSecond (blinderOne t half mm y coins a .session) (slotFirst t half mm y coins a) (scratchFirst t half mm y coins a) (incoming 3 t b) (messageSize 4 t)) (λ x s. [])) told1
+        (blinderSecond (blinderOne t half mm y coins a .session) (slotFirst t half mm y coins a) (scratchFirst t half mm y coins a) (incoming 3 t b)
+        (messageSize 4 t)) (λ x s. [])) told1
         ∙ ap (λ (z : List (List ℕ)). blinderOne t half mm y coins a .sent .residues ∷ z) (then-accepted _ _ _ _ takes2 ∙ ap (λ (z : List (List ℕ)). z ++ []) told2)
 
     pub w-is : (s : Slot) (u : List ℕ) (m : Message) → m ≡ incoming 3 t b → matrices blinder t (slotWords s) ≡ half → scratchParts t u ≡ scratchParts t coins

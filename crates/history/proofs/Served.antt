@@ -32,11 +32,13 @@ pub record Served (st : State) (l : List Entry) : Type 0 where
   pub one : (n n′ : ℕ) → isBegun (st .sessions n) ≡ true → isBegun (st .sessions n′) ≡ true
       → tapeIn (st .sessions n) ≡ tapeIn (st .sessions n′) → roleIn (st .sessions n) ≡ roleIn (st .sessions n′) → n ≡ n′
   -- an accepted step was on its session's half
-  pub of : (e : Did) → WasDone e l → (isBegun (st .sessions (e .name)) ≡ true) × (termsIn (st .sessions (e .name)) ≡ termsIn (e .effect .session)) × (roleIn (st .sessions (e .name)) ≡ roleIn (e .effect .session))
+  pub of : (e : Did) → WasDone e l → (isBegun (st .sessions (e .name)) ≡ true) × (termsIn (st .sessions (e .name)) ≡ termsIn (e .effect .session))
+      × (roleIn (st .sessions (e .name)) ≡ roleIn (e .effect .session))
 
 module _ (size : Party → ℕ) (start : Party → List ℕ) where
   deal-served : (l : List Entry) (d : Dealing) (x : Dealt) → Inv size start (d .on) l → Premises size (dealt d ∷ l)
-      → deal (d .on .pools (d .holder)) (d .on .pools (opposite (d .holder))) (d .size) (d .index) (d .request) ≡ done x → Served (d .on) l → Served (afterDealing (d .holder) x (d .on)) (dealt d ∷ l)
+      → deal (d .on .pools (d .holder)) (d .on .pools (opposite (d .holder))) (d .size) (d .index) (d .request) ≡ done x → Served (d .on) l
+      → Served (afterDealing (d .holder) x (d .on)) (dealt d ∷ l)
   deal-served l d x v p h o = record { known = λ n b. let k = o .known n b in (k .0, k .1, inr (k .2), k .3); unserved = still; one = o .one; of = o .of }
     where
       still : (w : Party) (i : ℕ) (d′ : Dealing) → place (dealt d ∷ l) w i ≡ holds d′ none
@@ -47,7 +49,8 @@ module _ (size : Party → ℕ) (start : Party → List ℕ) where
           go (yes q) g = let k = o .known n b in p .0 .0 (k .1) (k .2) (sym (k .3 .tape-is) ∙ t ∙ ap numberOf (sym (same-dealing g)))
           go (no _) g = o .unserved w i d′ g n b t r
 
-  move-served : (l : List Entry) (e : Did) → Inv size start (e .on) l → Premises size (did e ∷ l) → Move size start l e → Served (e .on) l → Served (stateAfter size start e) (did e ∷ l)
+  move-served : (l : List Entry) (e : Did) → Inv size start (e .on) l → Premises size (did e ∷ l) → Move size start l e → Served (e .on) l
+      → Served (stateAfter size start e) (did e ∷ l)
   move-served l e v p mv o = record { known = known-now; unserved = still; one = one-now; of = of-now }
     where
       after : ℕ → Session
@@ -115,16 +118,19 @@ module _ (size : Party → ℕ) (start : Party → List ℕ) where
       one-now : (n n′ : ℕ) → isBegun (after n) ≡ true → isBegun (after n′) ≡ true → tapeIn (after n) ≡ tapeIn (after n′) → roleIn (after n) ≡ roleIn (after n′) → n ≡ n′
       one-now n n′ b b′ t r = go (which n b) (which n′ b′)
         where
-          go : ((e .name ≡ n) × (mv .server ≡ none)) ⊎ (isBegun (e .on .sessions n) ≡ true) → ((e .name ≡ n′) × (mv .server ≡ none)) ⊎ (isBegun (e .on .sessions n′) ≡ true) → n ≡ n′
+          go : ((e .name ≡ n) × (mv .server ≡ none)) ⊎ (isBegun (e .on .sessions n) ≡ true)
+              → ((e .name ≡ n′) × (mv .server ≡ none)) ⊎ (isBegun (e .on .sessions n′) ≡ true) → n ≡ n′
           go (inl a) (inl c) = sym (a .0) ∙ c .0
           go (inl a) (inr c) = absurd (alone n′ (a .1) c (ap (λ (n : ℕ). tapeIn (after n)) (a .0) ∙ t) (ap (λ (n : ℕ). roleIn (after n)) (a .0) ∙ r))
           go (inr a) (inl c) = absurd (alone n (c .1) a (ap (λ (n : ℕ). tapeIn (after n)) (c .0) ∙ sym t) (ap (λ (n : ℕ). roleIn (after n)) (c .0) ∙ sym r))
           go (inr a) (inr c) = o .one n n′ a c
               (ap (λ (t : Terms). t .tape .0) (sym (same n a .0)) ∙ t ∙ ap (λ (t : Terms). t .tape .0) (same n′ c .0)) (sym (same n a .1) ∙ r ∙ same n′ c .1)
 
-      of-now : (e′ : Did) → (e ≡ e′) ⊎ WasDone e′ l → (isBegun (after (e′ .name)) ≡ true) × (termsIn (after (e′ .name)) ≡ termsIn (e′ .effect .session)) × (roleIn (after (e′ .name)) ≡ roleIn (e′ .effect .session))
+      of-now : (e′ : Did) → (e ≡ e′) ⊎ WasDone e′ l → (isBegun (after (e′ .name)) ≡ true) × (termsIn (after (e′ .name)) ≡ termsIn (e′ .effect .session))
+          × (roleIn (after (e′ .name)) ≡ roleIn (e′ .effect .session))
       of-now e′ (inl q) =
-          subst (λ (x : Did). (isBegun (after (x .name)) ≡ true) × (termsIn (after (x .name)) ≡ termsIn (x .effect .session)) × (roleIn (after (x .name)) ≡ roleIn (x .effect .session))) q
+          subst (λ (x : Did). (isBegun (after (x .name)) ≡ true) × (termsIn (after (x .name)) ≡ termsIn (x .effect .session))
+          × (roleIn (after (x .name)) ≡ roleIn (x .effect .session))) q
           (ap isBegun is-now ∙ mv .agrees .is-begun, ap termsIn is-now, ap roleIn is-now)
       of-now e′ (inr b) =
           let k = o .of e′ b in
@@ -134,7 +140,8 @@ module _ (size : Party → ℕ) (start : Party → List ℕ) where
           begun-still (yes q) b = ap isBegun (ap after q ∙ is-now) ∙ mv .agrees .is-begun
           begun-still (no h) b = ap isBegun (set-other (e .name) (e .effect .session) (e .on .sessions) (e′ .name) h) ∙ b
 
-  pub served : Empty size start → (lent : ℕ → List ℕ) (cs : List Call) → Premises size (run size start lent cs .log) → Served (run size start lent cs .state) (run size start lent cs .log)
+  pub served : Empty size start → (lent : ℕ → List ℕ) (cs : List Call) → Premises size (run size start lent cs .log)
+      → Served (run size start lent cs .state) (run size start lent cs .log)
   served empty lent cs p =
       along size start empty lent Served
       (record { known = λ n b. absent≢ refl b; unserved = λ w i d e n b t r. absent≢ refl b; one = λ n n′ b b′ t r. absent≢ refl b; of = λ e h. absurd h })

@@ -48,7 +48,8 @@ heard-fit r t (m ∷ ms) a h e p =
     the-message : m ∷ ms ≡ a ∷ [] → m ≡ a
     the-message e = cc
 
-taken-fit : (k : Step) (x : Session) (s : Slot) (u : List ℕ) (f : Effect Session) (a : Message) → runStep k x s u ≡ done f → takenBy k ≡ a ∷ [] → sortOf (roleOf k) ≡ product → Fit k f a
+taken-fit : (k : Step) (x : Session) (s : Slot) (u : List ℕ) (f : Effect Session) (a : Message) → runStep k x s u ≡ done f → takenBy k ≡ a ∷ []
+    → sortOf (roleOf k) ≡ product → Fit k f a
 taken-fit (begins t k) x s u f a h e p =
     let g = begins-sound t k s u f h in
     subst (λ (t : Terms). Messages t (kindsSent (facing (roleFirst k))) (a .residues ∷ [])) (sym (g .terms-are))
@@ -95,7 +96,8 @@ Heard st l = (e : Did) → WasDone e l → (a : Message) → takenBy (e .step) �
 
 move-heard : (size : Party → ℕ) (start : Party → List ℕ) (l : List Entry) (e : Did) → Move size start l e → Heard (e .on) l → Heard (stateAfter size start e) (did e ∷ l)
 move-heard size start l e mv o e′ (inl i) a h s =
-    subst (λ (e : Did). takenBy (e .step) ≡ a ∷ [] → sortOf (roleOf (e .step)) ≡ product → Fit (e .step) (e .effect) a) i (λ h s. taken-fit (e .step) _ _ _ (e .effect) a (mv .acted) h s) h s
+    subst (λ (e : Did). takenBy (e .step) ≡ a ∷ [] → sortOf (roleOf (e .step)) ≡ product → Fit (e .step) (e .effect) a) i
+    (λ h s. taken-fit (e .step) _ _ _ (e .effect) a (mv .acted) h s) h s
 move-heard size start l e mv o e′ (inr w) a h s = o e′ w a h s
 
 module _ (size : Party → ℕ) (start : Party → List ℕ) (empty : Empty size start) (lent : ℕ → List ℕ) (cs : List Call) (p : Premises size (run size start lent cs .log)) where
@@ -134,7 +136,8 @@ module _ (size : Party → ℕ) (start : Party → List ℕ) (empty : Empty size
       let role = view l n .role in
       let s : sortOf (roleOf (c .step .step)) ≡ product = ap sortOf (c .other-end) ∙ product-facing role (c .in-product) in
       let f : Messages (termsIn (st .sessions (c .step .name))) (kindsSent role) (a .residues ∷ []) =
-      subst₂ (λ (t : Terms) (r : Role). Messages t (kindsSent r) (a .residues ∷ [])) (sym (o .1)) (ap facing (c .other-end) ∙ facing-twice role) (heard (c .step) (c .was-done) a (c .message) s)
+      subst₂ (λ (t : Terms) (r : Role). Messages t (kindsSent r) (a .residues ∷ [])) (sym (o .1)) (ap facing (c .other-end) ∙ facing-twice role)
+      (heard (c .step) (c .was-done) a (c .message) s)
       in
       record {
         terms-fit = k .terms-fit;

@@ -103,7 +103,8 @@ agrees-fits : {size : Party → ℕ} {start : Party → List ℕ} (x : Session) 
 agrees-fits x w d g a = rw (a .role-is, a .q-is, a .m-is, a .k-is, a .p-is) (g .fits w)
 
 module _ (size : Party → ℕ) (start : Party → List ℕ) (lent : ℕ → List ℕ) where
-  module _ (l : List Entry) (e : Did) (v : Inv size start (e .on) l) (p : Premises size (did e ∷ l)) (mv : Move size start l e) (o : Lent lent (e .on) l) (vs : Views (e .on) l) where
+  module _ (l : List Entry) (e : Did) (v : Inv size start (e .on) l) (p : Premises size (did e ∷ l)) (mv : Move size start l e) (o : Lent lent (e .on) l)
+      (vs : Views (e .on) l) where
     abbrev pub here-view : View
     here-view = view (did e ∷ l) (e .name)
 
@@ -114,12 +115,14 @@ module _ (size : Party → ℕ) (start : Party → List ℕ) (lent : ℕ → Lis
     view-other n h = view-else (ℕ-discrete (e .name) n) l e (e .step) (view l n) (λ q. h (sym q))
 
     -- the half, fitting the terms of the session after the step
-    fit : Fits (termsIn (e .effect .session) .q) (layout (roleIn (e .effect .session)) (termsIn (e .effect .session) .m) (termsIn (e .effect .session) .k) (termsIn (e .effect .session) .p)) (half (e .party) (mv .dealing))
+    fit : Fits (termsIn (e .effect .session) .q) (layout (roleIn (e .effect .session)) (termsIn (e .effect .session) .m) (termsIn (e .effect .session) .k)
+        (termsIn (e .effect .session) .p)) (half (e .party) (mv .dealing))
     fit = agrees-fits (e .effect .session) (e .party) (mv .dealing) (v .fine (mv .dealing) (place-known l (e .party) (e .index) (mv .stands) .0)) (mv .agrees)
 
     -- ---- a first step
 
-    module _ (t : Terms) (k : First) (s : e .step ≡ begins t k) (u : mv .server ≡ none) (a : e .on .sessions (e .name) ≡ absent) (g : Begins t k (slotBy size start e) (e .effect)) where
+    module _ (t : Terms) (k : First) (s : e .step ≡ begins t k) (u : mv .server ≡ none) (a : e .on .sessions (e .name) ≡ absent)
+        (g : Begins t k (slotBy size start e) (e .effect)) where
       half-here : halfAt (e .party) (place l (e .party) (e .index)) ≡ half (e .party) (mv .dealing)
       half-here = ap (halfAt (e .party)) (mv .stands)
 
@@ -146,7 +149,8 @@ module _ (size : Party → ℕ) (start : Party → List ℕ) (lent : ℕ → Lis
           go : Came e (tenant l b) x → view (did e ∷ l) (x .name) .coins ≡ coinsIn (x .step)
           go (this q t′ f s′ r) =
               subst (λ (x : Did). view (did e ∷ l) (x .name) .coins ≡ coinsIn (x .step)) q
-              (ap (λ (z : View). z .coins) (view-first decided l e (e .step) (view l (e .name)) s′ refl) ∙ blinder-coins t′ f (halfAt (e .party) (place l (e .party) (e .index))) (e .effect) r ∙ sym (ap coinsIn s′))
+              (ap (λ (z : View). z .coins) (view-first decided l e (e .step) (view l (e .name)) s′ refl)
+              ∙ blinder-coins t′ f (halfAt (e .party) (place l (e .party) (e .index))) (e .effect) r ∙ sym (ap coinsIn s′))
           go (before q) =
               let n : x .name ≢ e .name = λ z. absent≢ (ap (e .on .sessions) z ∙ a) (o .is-tenant b x q .is-begun) in
               ap (λ (z : View). z .coins) (view-other (x .name) n) ∙ vs .tied b x q
@@ -176,7 +180,8 @@ module _ (size : Party → ℕ) (start : Party → List ℕ) (lent : ℕ → Lis
       pub mats-later : matrices (roleIn x₀) (termsIn x₀) (slotWords (slotBy size start e)) ≡ view l (e .name) .half
       mats-later =
           ap (matrices (roleIn x₀) (termsIn x₀)) (used-before size start l e v (p .0) mv u (g .session-open .is-open))
-          ∙ tape-matrices (roleIn x₀) (termsIn x₀) _ (mv .dealing) (half (e .party) (mv .dealing)) _ (subst₂ (λ (r : Role) (t : Terms). Fits (t .q) (layout r (t .m) (t .k) (t .p)) (half (e .party) (mv .dealing))) (g .role-is) (g .terms-are) fit)
+          ∙ tape-matrices (roleIn x₀) (termsIn x₀) _ (mv .dealing) (half (e .party) (mv .dealing)) _
+          (subst₂ (λ (r : Role) (t : Terms). Fits (t .q) (layout r (t .m) (t .k) (t .p)) (half (e .party) (mv .dealing))) (g .role-is) (g .terms-are) fit)
           ∙ sym was-half
 
       -- P and U0 stand in the blinder's scratch
@@ -273,7 +278,14 @@ module _ (size : Party → ℕ) (start : Party → List ℕ) (lent : ℕ → Lis
   pub deal-lent : (l : List Entry) (d : Dealing) (x : Dealt) → Lent lent (d .on) l → Lent lent (afterDealing (d .holder) x (d .on)) (dealt d ∷ l)
   deal-lent l d x o = record {
     shown = o .shown;
-    is-tenant = λ b e i. let k = o .is-tenant b e i in record { lent-is = k .lent-is; is-begun = k .is-begun; role-is = k .role-is; terms-are = k .terms-are; coins-are = k .coins-are };
+    is-tenant = λ b e i. let k = o .is-tenant b e i in record {
+      lent-is = k .lent-is;
+      is-begun = k .is-begun;
+      role-is = k .role-is;
+      terms-are =
+          k .terms-are;
+      coins-are = k .coins-are;
+    };
     keeps-it = o .keeps-it;
   }
 

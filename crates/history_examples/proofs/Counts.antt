@@ -35,10 +35,12 @@ numbers-at cs p n b = numbers (view (after cs .log) n) (arises (known sizes star
 
 -- a session of the list: begun, with this role and these terms, and so many messages received
 abbrev Stage : (cs : List Call) (n : ℕ) → Role → Terms → (received : ℕ) → Type 0
-Stage cs n role t k = (isBegun (after cs .state .sessions n) ≡ true) × (view (after cs .log) n .role ≡ role) × (view (after cs .log) n .terms ≡ t) × (length (view (after cs .log) n .received) ≡ k)
+Stage cs n role t k = (isBegun (after cs .state .sessions n) ≡ true) × (view (after cs .log) n .role ≡ role) × (view (after cs .log) n .terms ≡ t)
+    × (length (view (after cs .log) n .received) ≡ k)
 
 -- right of the second product is session 2 and the solver session 1; the blinder is session 4
-stages : Stage answering 2 right (ten-terms 3) 0 × Stage answering 1 solver (system-terms 2) 0 × Stage halfway 1 solver (system-terms 2) 1 × Stage halfway 4 blinder (system-terms 2) 1
+stages : Stage answering 2 right (ten-terms 3) 0 × Stage answering 1 solver (system-terms 2) 0 × Stage halfway 1 solver (system-terms 2) 1
+    × Stage halfway 4 blinder (system-terms 2) 1
     × Stage dropping 4 blinder (system-terms 2) 2 × Stage calls 1 solver (system-terms 2) 2 × Stage calls 4 blinder (system-terms 2) 3
 unfolding list-rules
 stages = (
@@ -96,7 +98,8 @@ solver-after-2 = (after-2 _ (taken .0), after-2 _ (taken .1))
 after-1 : (i : List (List ℕ)) → Taken solver (system-terms 2) i → completions (view (after halfway .log) 4) i ≡ 5
 after-1 i ti =
     let s = stages .3 in
-    numbers-at halfway halfway-kept 4 (s .0) .blinder-after-1 (s .1) (s .3) i (subst (λ (t : Terms). Taken solver t i) (sym (s .2)) ti) ∙ ap (λ (t : Terms). t .q ^ (t .m * t .m)) (s .2)
+    numbers-at halfway halfway-kept 4 (s .0) .blinder-after-1 (s .1) (s .3) i (subst (λ (t : Terms). Taken solver t i) (sym (s .2)) ti)
+    ∙ ap (λ (t : Terms). t .q ^ (t .m * t .m)) (s .2)
 
 pub blinder-after-1 : (completions (view (after halfway .log) 4) ((2 ∷ []) ∷ (3 ∷ []) ∷ []) ≡ 5)
     × (completions (view (after halfway .log) 4) ((4 ∷ []) ∷ (0 ∷ []) ∷ []) ≡ 5)

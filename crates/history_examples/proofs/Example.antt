@@ -390,7 +390,8 @@ product-met : Ends-here end left 5 4 4 ((3 ∷ 3 ∷ []) ∷ []) ((3 ∷ 3 ∷ [
 unfolding list-rules
 product-met = (refl, refl, refl, refl, refl, refl, refl, refl, refl, refl)
 
-system-met : Ends-here end blinder 3 2 7 ((3 ∷ 1 ∷ []) ∷ (4 ∷ []) ∷ (1 ∷ []) ∷ []) ((3 ∷ 1 ∷ []) ∷ (4 ∷ []) ∷ (1 ∷ []) ∷ []) ((3 ∷ 0 ∷ 2 ∷ []) ∷ (1 ∷ 4 ∷ []) ∷ []) ((3 ∷ 0 ∷ 2 ∷ []) ∷ (1 ∷ 4 ∷ []) ∷ [])
+system-met : Ends-here end blinder 3 2 7 ((3 ∷ 1 ∷ []) ∷ (4 ∷ []) ∷ (1 ∷ []) ∷ []) ((3 ∷ 1 ∷ []) ∷ (4 ∷ []) ∷ (1 ∷ []) ∷ [])
+    ((3 ∷ 0 ∷ 2 ∷ []) ∷ (1 ∷ 4 ∷ []) ∷ []) ((3 ∷ 0 ∷ 2 ∷ []) ∷ (1 ∷ 4 ∷ []) ∷ [])
 unfolding list-rules
 system-met = (refl, refl, refl, refl, refl, refl, refl, refl, refl, refl)
 
@@ -404,10 +405,12 @@ gave = (refl, refl, refl)
 
 -- so the shares 5 and 3 add to the product, and z 3 is the only solution
 pub product-here : AddTo (view (end .log) 5) (view (end .log) 4) (5 ∷ []) (3 ∷ [])
-product-here = subst₂ (AddTo (view (end .log) 5) (view (end .log) 4)) (gave .0) (gave .1) (right-here .product 5 4 (paired end left 5 4 4 _ _ _ _ product-met) (arrived end left 5 4 4 _ _ product-met refl refl))
+product-here = subst₂ (AddTo (view (end .log) 5) (view (end .log) 4)) (gave .0) (gave .1)
+    (right-here .product 5 4 (paired end left 5 4 4 _ _ _ _ product-met) (arrived end left 5 4 4 _ _ product-met refl refl))
 
 pub system-here : OnlySolution (view (end .log) 3) (view (end .log) 2) (3 ∷ [])
-system-here = subst (OnlySolution (view (end .log) 3) (view (end .log) 2)) (gave .2) (right-here .system 3 2 (paired end blinder 3 2 7 _ _ _ _ system-met) (arrived end blinder 3 2 7 _ _ system-met refl refl))
+system-here = subst (OnlySolution (view (end .log) 3) (view (end .log) 2)) (gave .2)
+    (right-here .system 3 2 (paired end blinder 3 2 7 _ _ _ _ system-met) (arrived end blinder 3 2 7 _ _ system-met refl refl))
 
 -- and the singular sum was answered by 10: the solver's last step was handed message 4 as it was sent
 abbrev stepIn : Option Did → Option Step

@@ -286,7 +286,8 @@ sentIn none = none
 sentIn (some e) = some (e .effect .sent)
 
 -- the message that session n sent last
-sent-last : (o : World) (role : Role) (t : Terms) (kind n : ℕ) (a : Message) → sentIn (newest (o .log) n) ≡ some a → view (o .log) n .role ≡ facing role → view (o .log) n .terms ≡ t
+sent-last : (o : World) (role : Role) (t : Terms) (kind n : ℕ) (a : Message) → sentIn (newest (o .log) n) ≡ some a → view (o .log) n .role ≡ facing role
+    → view (o .log) n .terms ≡ t
     → a .head .kind ≡ kind → SentTo o role t kind a
 sent-last o role t kind n a h hr ht hk = go (newest (o .log) n) refl h
   where
@@ -378,7 +379,8 @@ pub blinder-goes-on : TakenNow sizes (after halfway) first 1 3 4 (goes-on (blind
 blinder-goes-on =
     let f = halfway-facts in
     let d = lies _ _ _ _ (f .7) in
-    halfway-right .later-taken (blinder-second (msg 3 (system-terms 2) (4 ∷ [])) 2) first 1 3 4 (d .0) (d .1) (role-there first first (d .0) (a-system 2) (d .2) (d .3)) (λ e. f .12)
+    halfway-right .later-taken (blinder-second (msg 3 (system-terms 2) (4 ∷ [])) 2) first 1 3 4 (d .0) (d .1)
+    (role-there first first (d .0) (a-system 2) (d .2) (d .3)) (λ e. f .12)
     (subst (λ (t : Terms). FairLater (after halfway) t (dueIn (after halfway .state .sessions 4)) (blinder-second (msg 3 (system-terms 2) (4 ∷ [])) 2)) (sym (f .9))
     (f .11, sent-last (after halfway) blinder (system-terms 2) 3 1 _ (f .3) (f .4) (f .5) refl, omega (arith, f .13)))
 

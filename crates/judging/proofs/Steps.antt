@@ -71,12 +71,14 @@ module _ (role : Role) (t : Terms) (s : Slot) where
       later-verdict e = rw e
 
       later-two : judged (laterReceived role kind due t a (length residues) (length (s .pool)) (s .size) (s .index) ++ receivedWords role IN-USE t a (slotWords s) residues)
-          ≡ after (judged (laterReceived role kind due t a (length residues) (length (s .pool)) (s .size) (s .index))) (judged (receivedWords role IN-USE t a (slotWords s) residues))
+          ≡ after (judged (laterReceived role kind due t a (length residues) (length (s .pool)) (s .size) (s .index)))
+          (judged (receivedWords role IN-USE t a (slotWords s) residues))
       unfolding sorted sortedBy only tapeTests bodyTests laterReceived firstReceived receivedNumbers receivedWords kindTests modulusTests numberTests countTests placeTests sameTests
       later-two = in-two _ (laterReceived role kind due t a (length residues) (length (s .pool)) (s .size) (s .index)) (receivedWords role IN-USE t a (slotWords s) residues) refl
 
       pub later-phases : isOpen due ≡ true → judged (messageTests (messageWith a residues) ++ (laterTests role kind due t s ++ dueTests kind t (messageWith a residues)))
-          ≡ after (judged (laterReceived role kind due t a (length residues) (length (s .pool)) (s .size) (s .index))) (judged (receivedWords role IN-USE t a (slotWords s) residues))
+          ≡ after (judged (laterReceived role kind due t a (length residues) (length (s .pool)) (s .size) (s .index)))
+          (judged (receivedWords role IN-USE t a (slotWords s) residues))
       later-phases e = judge-sorted _ tt ∙ (later-verdict e ∙ (sym (judge-sorted _ tt) ∙ later-two))
 
       closed-verdict : due ≡ 0 → verdict (sorted (messageTests (messageWith a residues) ++ (laterTests role kind due t s ++ dueTests kind t (messageWith a residues))))

@@ -27,7 +27,8 @@ size-few kind t s = go (eqb kind 1) (eqb kind 2) (eqb kind 3) (eqb kind 4)
     less = few-columns (t .m) (t .p)
 
     go : (a b c d : Bool)
-        → total (cond a (t .k * t .p ∷ []) (cond b (t .m * t .k ∷ t .m * t .p ∷ []) (cond c (t .m * t .k ∷ []) (cond d (t .m * t .k ∷ t .m * columns (t .m) (t .p) ∷ []) (t .m * columns (t .m) (t .p) ∷ []))))) ≤ 3072
+        → total (cond a (t .k * t .p ∷ []) (cond b (t .m * t .k ∷ t .m * t .p ∷ [])
+        (cond c (t .m * t .k ∷ []) (cond d (t .m * t .k ∷ t .m * columns (t .m) (t .p) ∷ []) (t .m * columns (t .m) (t .p) ∷ []))))) ≤ 3072
     go true b c d = omega (arith, s .few-kp)
     go false true c d = omega (arith, s .few-mk, s .few-mp)
     go false false true d = omega (arith, s .few-mk)

@@ -56,4 +56,5 @@ read-was-written l words a p = go (numbersOf l) refl p
         let same : l ≡ messageLine (messageFrom xs) = message-was-written l (messageFrom xs) form in
         let room : length (messageLine (messageFrom xs)) ≤ length l = omega (arith, ap length same) in
         subst (λ (m : Message). writeInto (length l) m ≡ done l) (o .1)
-        (accepts (writeTests (length l) (messageFrom xs)) (messageLine (messageFrom xs)) (all-append (messageTests (messageFrom xs)) _ t (le-leb _ _ room, tt)) ∙ ap done (sym same))
+        (accepts (writeTests (length l) (messageFrom xs)) (messageLine (messageFrom xs))
+        (all-append (messageTests (messageFrom xs)) _ t (le-leb _ _ room, tt)) ∙ ap done (sym same))

@@ -162,7 +162,8 @@ solver-secret session tape q n input half coins sent received terms (_then_ {l =
 blinder-secret : (session : SessionId) (tape : TapeId) (q n : ℕ) (input half : List (List ℕ)) (coins : List ℕ) (sent received : List (List ℕ))
     → TermsFit system (systemTerms session tape q n) → Fits q (layout blinder n n (n + 1)) half → regular q n (part 2 half) ≡ true
     → Messages (systemTerms session tape q n) (2 ∷ 4 ∷ []) sent → Messages (systemTerms session tape q n) (1 ∷ 3 ∷ 5 ∷ []) received → length received ≤ length sent + 1
-    → (Finished (viewOf blinder (systemTerms session tape q n) input half coins sent received) → Kept (viewOf blinder (systemTerms session tape q n) input half coins sent received))
+    → (Finished (viewOf blinder (systemTerms session tape q n) input half coins sent received)
+    → Kept (viewOf blinder (systemTerms session tape q n) input half coins sent received))
     → Secret (viewOf blinder (systemTerms session tape q n) input half coins sent received)
 blinder-secret session tape q n input half coins sent received terms fits mask s no-more turn kept = record {
   unfinished = λ u i j ci cj. nothing-received blinder (systemTerms session tape q n) input half coins sent i j;
@@ -219,10 +220,12 @@ secret-of left t input half coins sent received a = left-secret t input half coi
 secret-of right t input half coins sent received a = right-secret t input half coins sent received (a .terms-fit) (a .half-fits) (a .sent-fit) (a .received-fit) (a .in-turn)
 secret-of solver t input half coins sent received a =
     subst (λ (t : Terms). Arises (viewOf solver t input half coins sent received) → Secret (viewOf solver t input half coins sent received)) (terms-are t (a .terms-fit))
-    (λ a. solver-secret (t .session) (t .tape) (t .q) (t .m) input half coins sent received (a .terms-fit) (a .half-fits) (a .sent-fit) (a .received-fit) (a .in-turn) (a .kept refl)) a
+    (λ a. solver-secret (t .session) (t .tape) (t .q) (t .m) input half coins sent received (a .terms-fit) (a .half-fits) (a .sent-fit) (a .received-fit)
+    (a .in-turn) (a .kept refl)) a
 secret-of blinder t input half coins sent received a =
     subst (λ (t : Terms). Arises (viewOf blinder t input half coins sent received) → Secret (viewOf blinder t input half coins sent received)) (terms-are t (a .terms-fit))
-    (λ a. blinder-secret (t .session) (t .tape) (t .q) (t .m) input half coins sent received (a .terms-fit) (a .half-fits) (a .mask-fits) (a .sent-fit) (a .received-fit) (a .in-turn) (a .kept refl)) a
+    (λ a. blinder-secret (t .session) (t .tape) (t .q) (t .m) input half coins sent received (a .terms-fit) (a .half-fits) (a .mask-fits) (a .sent-fit)
+    (a .received-fit) (a .in-turn) (a .kept refl)) a
 
 -- DEMAND 3, for one view
 pub secret : (v : View) → Arises v → Secret v

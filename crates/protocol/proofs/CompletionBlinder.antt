@@ -268,5 +268,6 @@ module _ (session : SessionId) (tape : TapeId) (q n : ℕ) (terms : TermsFit sys
             ∙ blinder-end pr (seen x0 a0 qm g coins b2 b4 m1 m3 m5) (part 0 i) (part 1 i) (part 0 input) (part 1 input)
             (taken-pair t i ti .matrix .size)
             (taken-pair t i ti .side .size ∙ side-one session tape q n terms)
-            honest (y1-ok m1 r1) (f-ok m3 r3) t-ok (first-of coins-fit) (third-of own-fits) (sym (regular-inverse pr n (first-of coins-fit)) ∙ p-regular) (sym (regular-inverse pr n (third-of own-fits)) ∙ q-regular) sum-has
+            honest (y1-ok m1 r1) (f-ok m3 r3) t-ok (first-of coins-fit) (third-of own-fits) (sym (regular-inverse pr n (first-of coins-fit)) ∙ p-regular)
+            (sym (regular-inverse pr n (third-of own-fits)) ∙ q-regular) sum-has
             ∙ ap (λ (z : List ℕ). bit (eqList (solution q n (matAdd q (n * n) (part 0 i) (part 0 input)) (matAdd q (n * 1) (part 1 i) (part 1 input))) (matMul q n n 1 qm z))) t-is

@@ -137,7 +137,8 @@ module _ (t : Terms) (terms : TermsFit product t) (x0 y0 a0 : List ℕ) (rx : Re
   right-held =
       subst (λ (o : Judged Dealt). Holding right READY t (y0 ∷ dealB (t .q) (t .m) (t .k) (t .p) x0 y0 a0 ∷ []) (dealtSlot right t o)) (sym p-done)
       (rw (drawn-is product t terms p-drawn p-fits)
-      (dealt-holding right t _ (y0 ∷ dealB (t .q) (t .m) (t .k) (t .p) x0 y0 a0 ∷ []) (empty product t terms p-drawn p-fits) (empty-inside product t terms p-drawn p-fits) (omega arith)
+      (dealt-holding right t _ (y0 ∷ dealB (t .q) (t .m) (t .k) (t .p) x0 y0 a0 ∷ []) (empty product t terms p-drawn p-fits)
+      (empty-inside product t terms p-drawn p-fits) (omega arith)
       (ry then b-residues t (omega (arith, terms .big)) x0 y0 a0 then none)))
 
   -- the two halves that stand there, against X0, A0 and Y0, B0
@@ -152,18 +153,21 @@ module _ (t : Terms) (terms : TermsFit product t) (x0 y0 a0 : List ℕ) (rx : Re
   is-done : isDone p-dealt ≡ true
   is-done = ap isDone p-done
 
-  pub left-dealt : (b0 : List ℕ) → dealtTogether left t (dealing product t (x0 ∷ y0 ∷ a0 ∷ [])) (x0 ∷ a0 ∷ []) (y0 ∷ b0 ∷ []) ≡ eqList b0 (dealB (t .q) (t .m) (t .k) (t .p) x0 y0 a0)
+  pub left-dealt : (b0 : List ℕ) → dealtTogether left t (dealing product t (x0 ∷ y0 ∷ a0 ∷ [])) (x0 ∷ a0 ∷ []) (y0 ∷ b0 ∷ []) ≡ eqList b0
+      (dealB (t .q) (t .m) (t .k) (t .p) x0 y0 a0)
   unfolding dealtTogether both
   left-dealt b0 = rw (is-done, left-holds) (right-holds b0)
 
-  pub right-dealt : (b0 : List ℕ) → dealtTogether right t (dealing product t (x0 ∷ y0 ∷ a0 ∷ [])) (y0 ∷ b0 ∷ []) (x0 ∷ a0 ∷ []) ≡ eqList b0 (dealB (t .q) (t .m) (t .k) (t .p) x0 y0 a0)
+  pub right-dealt : (b0 : List ℕ) → dealtTogether right t (dealing product t (x0 ∷ y0 ∷ a0 ∷ [])) (y0 ∷ b0 ∷ []) (x0 ∷ a0 ∷ []) ≡ eqList b0
+      (dealB (t .q) (t .m) (t .k) (t .p) x0 y0 a0)
   unfolding dealtTogether both
   right-dealt b0 = rw (is-done, left-holds) (both-true _ ∙ right-holds b0)
 
 -- ---- systems
 
 module _ (t : Terms) (terms : TermsFit system t) (x0 y0 a0 qm r g : List ℕ) (rx : Residues (t .q) (t .m * t .k) x0) (ry : Residues (t .q) (t .k * t .p) y0)
-    (ra : Residues (t .q) (t .m * t .p) a0) (rq : Residues (t .q) (t .m * t .k) qm) (rr : Residues (t .q) (t .m * t .k) r) (rg : Residues (t .q) (t .m * t .k) g) (square : t .k ≡ t .m) where
+    (ra : Residues (t .q) (t .m * t .p) a0) (rq : Residues (t .q) (t .m * t .k) qm) (rr : Residues (t .q) (t .m * t .k) r)
+    (rg : Residues (t .q) (t .m * t .k) g) (square : t .k ≡ t .m) where
   abbrev s-drawn : List (List ℕ)
   s-drawn = x0 ∷ y0 ∷ a0 ∷ qm ∷ r ∷ g ∷ []
 
@@ -185,10 +189,12 @@ module _ (t : Terms) (terms : TermsFit system t) (x0 y0 a0 qm r g : List ℕ) (r
   blinder-stands e =
       subst (λ (o : Judged Dealt). Holding blinder READY t (x0 ∷ a0 ∷ qm ∷ g ∷ []) (dealtSlot blinder t o)) (sym (s-done e))
       (rw (drawn-is system t terms s-drawn s-fits)
-      (dealt-holding blinder t _ (x0 ∷ a0 ∷ qm ∷ g ∷ []) (empty system t terms s-drawn s-fits) (empty-inside system t terms s-drawn s-fits) (omega arith) (rx then ra then rq then rg then none)))
+      (dealt-holding blinder t _ (x0 ∷ a0 ∷ qm ∷ g ∷ []) (empty system t terms s-drawn s-fits) (empty-inside system t terms s-drawn s-fits) (omega arith)
+      (rx then ra then rq then rg then none)))
 
   solver-stands : regular (t .q) (t .m) qm ≡ true
-      → Holding solver READY t (y0 ∷ dealB (t .q) (t .m) (t .k) (t .p) x0 y0 a0 ∷ r ∷ dealV (t .q) (t .m) r qm g ∷ []) (dealtSlot solver t (dealing system t (x0 ∷ y0 ∷ a0 ∷ qm ∷ r ∷ g ∷ [])))
+      → Holding solver READY t (y0 ∷ dealB (t .q) (t .m) (t .k) (t .p) x0 y0 a0 ∷ r ∷ dealV (t .q) (t .m) r qm g ∷ [])
+      (dealtSlot solver t (dealing system t (x0 ∷ y0 ∷ a0 ∷ qm ∷ r ∷ g ∷ [])))
   unfolding effect dealtEffect dealtB dealtV
   solver-stands e =
       subst (λ (o : Judged Dealt). Holding solver READY t solver-half (dealtSlot solver t o)) (sym (s-done e))

@@ -26,7 +26,8 @@ use Rattle.protocol.proofs.StepTests.{right-first, left-step, solver-fi
 pub taken-by-right : (t : Terms) (s : Slot) (y : List ℕ) (room : ℕ) {e : Effect RightSession} → rightFirst t s y room ≡ done e → Taken right t (y ∷ [])
 taken-by-right t s y room h = accepts (takenTests right t (y ∷ [])) tt (residues-input (right-first t s y room .means h .0 .y-fits))
 
-pub taken-by-left : (t : Terms) (s : Slot) (x words : List ℕ) (a : Message) (room shareRoom : ℕ) {e : Effect Unit} → leftStep t s x words a room shareRoom ≡ done e → Taken left t (x ∷ [])
+pub taken-by-left : (t : Terms) (s : Slot) (x words : List ℕ) (a : Message) (room shareRoom : ℕ) {e : Effect Unit}
+    → leftStep t s x words a room shareRoom ≡ done e → Taken left t (x ∷ [])
 taken-by-left t s x words a room shareRoom h =
     accepts (takenTests left t (x ∷ [])) tt (residues-input (left-step t s x words a room shareRoom .means h .0 .x-fits))
 

@@ -46,7 +46,8 @@ module _ (session : SessionId) (tape : TapeId) (q n : ℕ) (terms : TermsFit sys
 
     pub solver-kept : regular q n sum ≡ true
         → Kept (viewOf solver t input (y0 ∷ b0 ∷ r ∷ v ∷ []) []
-        (join (sendY q n n (n + 1) (beside n n 1 (part 0 input) (part 1 input)) y0 ∷ []) ∷ join (sendF q n 1 r share ∷ []) ∷ join (solution q n sum (sumVector q n 1 (part 1 (cut 4 m4)) share) ∷ []) ∷ [])
+        (join (sendY q n n (n + 1) (beside n n 1 (part 0 input) (part 1 input)) y0 ∷ []) ∷ join (sendF q n 1 r share ∷ []) ∷ join
+        (solution q n sum (sumVector q n 1 (part 1 (cut 4 m4)) share) ∷ []) ∷ [])
         (m2 ∷ m4 ∷ []))
     solver-kept e = record {
       input-taken = taken;
@@ -74,7 +75,8 @@ module _ (session : SessionId) (tape : TapeId) (q n : ℕ) (terms : TermsFit sys
 
     pub blinder-kept : regular q n pm ≡ true
         → Kept (viewOf blinder t input (x0 ∷ a0 ∷ qm ∷ g ∷ []) coins
-        (join (sendX q n n (n + 1) pm x0 ∷ sendR q n n (n + 1) pm (part 0 (cut 1 m1)) u0 a0 ∷ []) ∷ join (sendW q n 1 u0 (part 0 (cut 3 m3)) qm pm (part 0 input) g ∷ sendC q n 1 u0 pm (part 1 input) ∷ []) ∷ [])
+        (join (sendX q n n (n + 1) pm x0 ∷ sendR q n n (n + 1) pm (part 0 (cut 1 m1)) u0 a0 ∷ []) ∷ join
+        (sendW q n 1 u0 (part 0 (cut 3 m3)) qm pm (part 0 input) g ∷ sendC q n 1 u0 pm (part 1 input) ∷ []) ∷ [])
         (m1 ∷ m3 ∷ m5 ∷ []))
     blinder-kept e = record {
       input-taken = taken;

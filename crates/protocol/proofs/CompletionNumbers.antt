@@ -75,7 +75,8 @@ module _ (session : SessionId) (tape : TapeId) (q n : ℕ) (input : List (List �
 
   solver-numbers : (half sent received : List (List ℕ)) → Fits q (layout solver n n (n + 1)) half → Messages (systemTerms session tape q n) (1 ∷ 3 ∷ 5 ∷ []) sent
       → Messages (systemTerms session tape q n) (2 ∷ 4 ∷ []) received → length received ≤ length sent + 0
-      → (Finished (viewOf solver (systemTerms session tape q n) input half coins sent received) → Kept (viewOf solver (systemTerms session tape q n) input half coins sent received))
+      → (Finished (viewOf solver (systemTerms session tape q n) input half coins sent received)
+      → Kept (viewOf solver (systemTerms session tape q n) input half coins sent received))
       → Numbers (viewOf solver (systemTerms session tape q n) input half coins sent received)
   solver-numbers half sent received (_then_ {l = y0} ry (_then_ {l = b0} rb (_then_ {l = r} rr (_then_ {l = v} rv none)))) s ms turn kept = record {
     right-waits = λ e. never e (λ e. cc);
@@ -157,10 +158,12 @@ numbers-of left t input half coins sent received a = record {
 numbers-of right t input half coins sent received a = right-numbers t input half coins sent received (a .terms-fit) (a .half-fits)
 numbers-of solver t input half coins sent received a =
     subst (λ (t : Terms). Arises (viewOf solver t input half coins sent received) → Numbers (viewOf solver t input half coins sent received)) (terms-are t (a .terms-fit))
-    (λ a. solver-numbers (t .session) (t .tape) (t .q) (t .m) input coins (a .terms-fit) half sent received (a .half-fits) (a .sent-fit) (a .received-fit) (a .in-turn) (a .kept refl)) a
+    (λ a. solver-numbers (t .session) (t .tape) (t .q) (t .m) input coins (a .terms-fit) half sent received (a .half-fits) (a .sent-fit) (a .received-fit)
+    (a .in-turn) (a .kept refl)) a
 numbers-of blinder t input half coins sent received a =
     subst (λ (t : Terms). Arises (viewOf blinder t input half coins sent received) → Numbers (viewOf blinder t input half coins sent received)) (terms-are t (a .terms-fit))
-    (λ a. blinder-numbers (t .session) (t .tape) (t .q) (t .m) input coins (a .terms-fit) half sent received (a .half-fits) (a .mask-fits) (a .sent-fit) (a .received-fit) (a .in-turn)) a
+    (λ a. blinder-numbers (t .session) (t .tape) (t .q) (t .m) input coins (a .terms-fit) half sent received (a .half-fits) (a .mask-fits) (a .sent-fit)
+    (a .received-fit) (a .in-turn)) a
 
 pub numbers : (v : View) → Arises v → Numbers v
 numbers v a = numbers-of (v .role) (v .terms) (v .input) (v .half) (v .coins) (v .sent) (v .received) a

@@ -190,13 +190,15 @@ module _ (session : SessionId) (tape : TapeId) (q n : ℕ) (terms : TermsFit sys
           to-back ls (_then_ {l = x0} rx (_then_ {l = a0} ra (_then_ {l = qm} rq (_then_ {l = g} rg (_then_ {l = pm} rp (_then_ {l = u0} ru none)))))) e =
               let d = and-right _ _ (and-left _ _ e) in
               let m = and-right _ _ (and-right _ _ e) in
-              let o = fill-only q n n (n + 1) h y0 b0 y1 x1 rr pm x0 a0 u0 rx ra ru (eqList-eq _ _ (and-left _ _ d)) (eqList-eq _ _ (and-left _ _ m)) (eqList-eq _ _ (and-right _ _ m)) in
+              let o = fill-only q n n (n + 1) h y0 b0 y1 x1 rr pm x0 a0 u0 rx ra ru (eqList-eq _ _ (and-left _ _ d)) (eqList-eq _ _ (and-left _ _ m))
+              (eqList-eq _ _ (and-right _ _ m)) in
               let z = g-left qm g rg (eqList-eq _ _ (and-right _ _ d)) in
               cc (o .0, o .1, o .2, z)
 
           from-fits : (ls : List (List ℕ)) → Fits q (n * n ∷ n * n ∷ []) ls → Fits q six (expand ls)
           from-fits ls (rq then rp then none) =
-              fillX-residues q n n (n + 1) h _ _ then fillA-residues q n n (n + 1) h _ _ _ _ then rq then sub-residues h (n * n) _ _ then rp then fillU-residues q n n (n + 1) h _ _ _ _ _ _ then none
+              fillX-residues q n n (n + 1) h _ _ then fillA-residues q n n (n + 1) h _ _ _ _ then rq then sub-residues h
+              (n * n) _ _ then rp then fillU-residues q n n (n + 1) h _ _ _ _ _ _ then none
 
           from-passes : (ls : List (List ℕ)) → Fits q (n * n ∷ n * n ∷ []) ls → masksFit q n ls ≡ true → heardTest (expand ls) ≡ true
           from-passes ls (_then_ {l = qm} rq (_then_ {l = pm} rp none)) e =

@@ -81,7 +81,8 @@ module _ (t : Terms) (terms : TermsFit product t) where
     left-sent = rw (holding-matrices left READY t _ s h, message-parts 1 t y1 (message-fits 1 t a ra), drawn-own (terms .small) ru)
 
     pub left-sends : (got : List (List ℕ)) → leftMessages t s input (a ∷ got) (wordsFor (t .q) (join (u ∷ [])))
-        ≡ join (sendX (t .q) (t .m) (t .k) (t .p) (part 0 input) x0 ∷ sendR (t .q) (t .m) (t .k) (t .p) (part 0 input) (part 0 (parts (messageLayout 1 (t .m) (t .k) (t .p)) a)) u a0 ∷ []) ∷ []
+        ≡ join (sendX (t .q) (t .m) (t .k) (t .p) (part 0 input) x0 ∷ sendR (t .q) (t .m) (t .k) (t .p) (part 0 input)
+        (part 0 (parts (messageLayout 1 (t .m) (t .k) (t .p)) a)) u a0 ∷ []) ∷ []
     unfolding leftMessages hearing y1
     left-sends got = rw (let z : join (u ∷ []) ≡ u = unfold join in append-nil u in z, incoming-is 1 t a ra)
         (then-accepted s _ _ _ left-accepts ∙ rw (left-sent, said-message) refl)

@@ -61,7 +61,8 @@ shuffle b v q p x1 r1 w c = same-test _ _
     let e5 = and-right _ _ e4 in
     let e6 = and-right _ _ e5 in
     and-both (and-both (and-right _ _ e6) (and-both (and-left _ _ e) (and-left _ _ e3)))
-    (and-both (and-left _ _ e6) (and-both (and-both (and-left _ _ e1) (and-both (and-left _ _ e2) refl)) (and-both (and-both (and-left _ _ e4) (and-both (and-left _ _ e5) refl)) refl))))
+    (and-both (and-left _ _ e6) (and-both (and-both (and-left _ _ e1) (and-both (and-left _ _ e2) refl))
+    (and-both (and-both (and-left _ _ e4) (and-both (and-left _ _ e5) refl)) refl))))
 
 module _ (session : SessionId) (tape : TapeId) (q n : ℕ) (terms : TermsFit system (systemTerms session tape q n)) where
   abbrev t : Terms
@@ -108,7 +109,8 @@ module _ (session : SessionId) (tape : TapeId) (q n : ℕ) (terms : TermsFit sys
       c = part 1 (cut 4 m4);
     }
 
-    module _ (i : List (List ℕ)) (ti : Taken blinder t i) (y0 b0 r v x0 a0 qm g pm u0 : List ℕ) (ry : Residues q (n * (n + 1)) y0) (rr : Residues q (n * n) r) (rx : Residues q (n * n) x0) (ra : Residues q (n * (n + 1)) a0)
+    module _ (i : List (List ℕ)) (ti : Taken blinder t i) (y0 b0 r v x0 a0 qm g pm u0 : List ℕ) (ry : Residues q (n * (n + 1)) y0)
+        (rr : Residues q (n * n) r) (rx : Residues q (n * n) x0) (ra : Residues q (n * (n + 1)) a0)
         (rq : Residues q (n * n) qm) (rg : Residues q (n * n) g) (rp : Residues q (n * n) pm) (ru : Residues q (n * (n + 1)) u0) where
       first : List (List ℕ)
       first = sendX q n n (n + 1) pm x0 ∷ sendR q n n (n + 1) pm (part 0 (cut 1 b1)) u0 a0 ∷ []

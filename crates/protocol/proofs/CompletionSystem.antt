@@ -43,7 +43,8 @@ pub record Pair (t : Terms) (i : List (List ℕ)) : Type 0 where
 pub taken-pair : (t : Terms) (i : List (List ℕ)) → Taken solver t i → Pair t i
 unfolding regularTests
 taken-pair t i taken =
-    let a = all-split (inputTests (t .q) (t .m * t .m) (part 0 i) ++ inputTests (t .q) (sideSize t) (part 1 i)) (regularTests (t .q) (t .m) (part 0 i)) (passed (pairTests t i) taken .0) in
+    let a = all-split (inputTests (t .q) (t .m * t .m) (part 0 i) ++ inputTests (t .q) (sideSize t) (part 1 i)) (regularTests (t .q) (t .m) (part 0 i))
+    (passed (pairTests t i) taken .0) in
     let b = all-split (inputTests (t .q) (t .m * t .m) (part 0 i)) (inputTests (t .q) (sideSize t) (part 1 i)) (a .0) in
     record { matrix = input-residues (t .q) (t .m * t .m) (part 0 i) (b .0); side = input-residues (t .q) (sideSize t) (part 1 i) (b .1); inverse = a .1 .0 }
 
@@ -129,7 +130,8 @@ module _ (session : SessionId) (tape : TapeId) (q n rhs : ℕ) (terms : TermsFit
     pub solver-sends-all : (a b : List ℕ) → Residues q (messageSize 2 t) a → Residues q (messageSize 4 t) b → (got : List (List ℕ)) → solverMessages t s input (a ∷ b ∷ got)
         ≡ join (sendY q n n (n + rhs) (beside n n rhs (part 0 input) (part 1 input)) y0 ∷ []) ∷ join (sendF q n rhs r (shareOf a) ∷ [])
         ∷ cond (regular q n (sumMatrix q n (part 0 (parts (messageLayout 4 n n (n + rhs)) b)) v))
-        (join (solution q n (sumMatrix q n (part 0 (parts (messageLayout 4 n n (n + rhs)) b)) v) (sumVector q n rhs (part 1 (parts (messageLayout 4 n n (n + rhs)) b)) (shareOf a)) ∷ []) ∷ []) []
+        (join (solution q n (sumMatrix q n (part 0 (parts (messageLayout 4 n n (n + rhs)) b)) v)
+        (sumVector q n rhs (part 1 (parts (messageLayout 4 n n (n + rhs)) b)) (shareOf a)) ∷ []) ∷ []) []
     unfolding y1 f share sum target
     solver-sends-all a b ra rb got = rw (sends1 (a ∷ b ∷ got), sends3 a ra (b ∷ got), sends5 a b rb got)
 
@@ -197,7 +199,8 @@ module _ (session : SessionId) (tape : TapeId) (q n rhs : ℕ) (terms : TermsFit
     f1 = message-fits 1 t a ra
 
     after2 : List (List ℕ) → List (List ℕ)
-    after2 got = hearing got (λ a′ got. andThen (slot2 B (cut 1 a)) (blinderSecond (blinder2 B) (slot2 B (cut 1 a)) (over (coins B) (zeros (scratchSize t))) (incoming 3 t a′) (messageSize 4 t)) (λ x s. []))
+    after2 got = hearing got (λ a′ got. andThen (slot2 B (cut 1 a))
+        (blinderSecond (blinder2 B) (slot2 B (cut 1 a)) (over (coins B) (zeros (scratchSize t))) (incoming 3 t a′) (messageSize 4 t)) (λ x s. []))
 
     first-scratch : blinderFirstEffect t s (part 0 input) (part 1 input) (wordsFor q drawnCoins) (messageOf 1 t (cut 1 a)) .scratch ≡ coins B
     unfolding blinderFirstEffect coins

@@ -107,8 +107,19 @@ module _ (a : Message) (session : a .head .terms .session .0 < 2 ^ 32) (tape : a
   unfolding messageTests within
   words =
       let r = input-tests _ _ _ .0 (split {ts = termsTests (kindSort (a .head .kind)) (a .head .terms)} (rest fits) .1) in
-      let kind : a .head .kind ≤ 5 = leb-true _ _ (and-right _ _ known) in
-      (omega arith, (session, (tape, (omega (arith, terms .small), (sides .0, (sides .1, (sides .2, below-words (a .head .terms .q) (a .residues) (omega (arith, terms .small)) (residues-below r))))))))
+      let kind : a .head .kind ≤ 5 = leb-true _ _ (and-right _ _ known) in (
+        omega arith,
+        (
+          session,
+          (
+            tape,
+            (
+              omega (arith, terms .small),
+              (sides .0, (sides .1, (sides .2, below-words (a .head .terms .q) (a .residues) (omega (arith, terms .small)) (residues-below r)))),
+            ),
+          ),
+        ),
+      )
 
   pub message-line-short : length (messageLine a) ≤ 65536
   unfolding messageLine messageTests

@@ -332,7 +332,8 @@ module _ (kind : ℕ) (t : Terms) (a : Message) where
   unfolding dueTests
   same-head d =
       heads (eqb-true _ _ (here d)) (eqb-true _ _ (here (rest d))) (eqb-true _ _ (here (rest (rest d)))) (eqb-true _ _ (here (rest (rest (rest d)))))
-      (eqb-true _ _ (here (rest (rest (rest (rest d)))))) (eqb-true _ _ (here (rest (rest (rest (rest (rest d))))))) (eqb-true _ _ (here (rest (rest (rest (rest (rest (rest d))))))))
+      (eqb-true _ _ (here (rest (rest (rest (rest d)))))) (eqb-true _ _ (here (rest (rest (rest (rest (rest d)))))))
+      (eqb-true _ _ (here (rest (rest (rest (rest (rest (rest d))))))))
 
   pub message-facts : Pass (messageTests a) → Pass (dueTests kind t a) → MessageFits kind t a
   unfolding messageTests

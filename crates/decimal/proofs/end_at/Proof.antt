@@ -25,8 +25,12 @@ returns c =
     spoils (Value (c .before .before .before .before .args .value)) _ _ (h .0) (h .1) (λ p. c .if1 .taken (p ∙ sym (c .before .end-byte .ensures)))
 
 returns-2 : tie.Need-returns-2
-returns-2 c =
-    (spell-end (Value (c .before .before .before .before .args .value)) _ _ (c .before .before .before .before .pre .0) (c .if1 .left ∙ c .before .end-byte .ensures), omega arith, omega arith)
+returns-2 c = (
+  spell-end (Value (c .before .before .before .before .args .value)) _ _ (c .before .before .before .before .pre .0)
+      (c .if1 .left ∙ c .before .end-byte .ensures),
+  omega arith,
+  omega arith,
+)
 
 pub end-at-spec : {M : Type 1} → statement M
 end-at-spec =

@@ -52,7 +52,8 @@ returns-3 c =
     let e = pre .1 in
     let z : getD s at 0 - 48 ≡ 0 = omega arith in
     finds-first (Value 0) s at (at + 1) (c .end-at .result)
-    (first-digit s at h (c .before .before .before .if1 .left) (c .before .before .if2 .left) ∙ ap (λ (v : ℕ). spell (Value v) (drop (at + 1) s)) z) (omega arith) (c .end-at .ensures)
+    (first-digit s at h (c .before .before .before .if1 .left) (c .before .before .if2 .left) ∙ ap (λ (v : ℕ). spell (Value v) (drop (at + 1) s)) z)
+    (omega arith) (c .end-at .ensures)
 
 cast-t9 : tie.Need-cast-t9
 cast-t9 c = search needs
@@ -110,7 +111,9 @@ returns-5 c =
     let t = digits .result in
     let v : t .value < 2 ^ 32 = omega (arith, c .before .before .if4 .left) in
     finds-first (Value (t .value)) s at (t .next) (c .end-at2 .result)
-    (first-digit s at h (c .before .before .before .before .before .before .before .if1 .left) (c .before .before .before .before .before .before .if2 .left) ∙ d .reads ∙ ap (λ (f : Numeral). spell f (drop (t .next) s)) (seen-small (t .value) v)) (omega (arith, d .onward)) (c .end-at2 .ensures)
+    (first-digit s at h (c .before .before .before .before .before .before .before .if1 .left)
+    (c .before .before .before .before .before .before .if2 .left) ∙ d .reads
+    ∙ ap (λ (f : Numeral). spell f (drop (t .next) s)) (seen-small (t .value) v)) (omega (arith, d .onward)) (c .end-at2 .ensures)
 
 pub number-at-spec : {M : Type 1} → statement M
 number-at-spec =

@@ -29,7 +29,8 @@ returns c =
     let s = a .s .now in
     let out = a .out .now in
     let e = into-none (length out) s
-    (told-wrong (numbersOf s) (replicate 1 0) _ (c .before .before .before .load .result) (tallied 0 s _ _ _ (c .before .before .before .load .ensures .0) (c .before .before .before .load .ensures .1)) (c .enum-told .given .1)) in
+    (told-wrong (numbersOf s) (replicate 1 0) _ (c .before .before .before .load .result)
+    (tallied 0 s _ _ _ (c .before .before .before .load .ensures .0) (c .before .before .before .load .ensures .1)) (c .enum-told .given .1)) in
     rw e (refl, refl)
 
 returns-2 : tie.Need-returns-2
@@ -58,7 +59,11 @@ returns-3 c =
     (c .before .before .before .before .before .before .first .given .1) in
     let h : length (t .values) ≤ length out = omega (arith, t .count, c .before .before .before .before .if1 .left) in
     let e = into-done (length out) s (t .values) (t .reads) h in
-    rw e (ap (λ (n : ℕ). countReply (count.Words n)) (t .count), stored-behind 0 (numbersOf s) (t .values) out (c .before .before .load2 .last .1 .0) (c .before .before .load2 .result) (t .reads) (tallied 0 s _ _ _ (c .before .before .load2 .ensures .0) (c .before .before .load2 .ensures .1)) ∙ sets-over (t .values) out h)
+    rw e (
+      ap (λ (n : ℕ). countReply (count.Words n)) (t .count),
+      stored-behind 0 (numbersOf s) (t .values) out (c .before .before .load2 .last .1 .0) (c .before .before .load2 .result) (t .reads)
+          (tallied 0 s _ _ _ (c .before .before .load2 .ensures .0) (c .before .before .load2 .ensures .1)) ∙ sets-over (t .values) out h,
+    )
 
 pub numbers-spec : {M : Type 1} → statement M
 numbers-spec =

@@ -53,8 +53,14 @@ loop-again c =
     let l = c .before .before .before .before .before .loop in
     let h = c .before .before .before .before .loop-test .taken in
     let n = a .n in
-    let at = a .at in
-    (c .before .before .put-digit .ensures .1 ∙ ap (λ (o : List ℕ). sets o (l .p) (digitAt n (getD powers (l .i) 0))) (l .inv .0) ∙ power-stored n (l .i) h (a .out .now) at (l .p) (l .inv .1), omega (arith, power-length n (l .i) h, c .before .before .put-digit .ensures .0), omega arith, l .inv .3, l .inv .4)
+    let at = a .at in (
+      c .before .before .put-digit .ensures .1 ∙ ap (λ (o : List ℕ). sets o (l .p) (digitAt n (getD powers (l .i) 0))) (l .inv .0)
+          ∙ power-stored n (l .i) h (a .out .now) at (l .p) (l .inv .1),
+      omega (arith, power-length n (l .i) h, c .before .before .put-digit .ensures .0),
+      omega arith,
+      l .inv .3,
+      l .inv .4,
+    )
 
 same-length : tie.Need-same-length Inv-loop μ-loop
 same-length c =

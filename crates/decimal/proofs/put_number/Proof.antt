@@ -35,8 +35,12 @@ same-length c = search needs
 
 returns : tie.Need-returns
 returns c =
-    let a = c .before .before .before .before .before .args in
-    (omega arith, ap (λ (l : List ℕ). set (set l (c .before .before .put-high .result) (48 + a .n % 10)) (c .before .before .put-high .result + 1) (a .last)) (c .before .before .put-high .ensures .1) ∙ number-stored (a .out .now) (a .at) (a .n) (a .last) (c .before .before .put-high .result) (c .before .before .put-high .ensures .0))
+    let a = c .before .before .before .before .before .args in (
+      omega arith,
+      ap (λ (l : List ℕ). set (set l (c .before .before .put-high .result) (48 + a .n % 10)) (c .before .before .put-high .result + 1)
+          (a .last)) (c .before .before .put-high .ensures .1)
+          ∙ number-stored (a .out .now) (a .at) (a .n) (a .last) (c .before .before .put-high .result) (c .before .before .put-high .ensures .0),
+    )
 
 pub put-number-spec : {M : Type 1} → statement M
 put-number-spec =

@@ -12,7 +12,9 @@ use Rattle.decimal.proofs.put_numbers.Statement.{statement}
 use Rattle.decimal.proofs.put_numbers.Tie as tie
 
 abbrev Inv-loop : tie.InvT-loop
-Inv-loop xs more out₀ at p₀ j₀ out p j = (sets out p (lineBefore more (drop j xs)) ≡ sets out₀ at (lineBefore more xs)) × (p + length (lineBefore more (drop j xs)) ≡ at + length (lineBefore more xs)) × (length out ≡ length out₀) × (j ≤ length xs) × (at + length (lineBefore more xs) ≤ length out₀) × (length xs + more < 2 ^ 64)
+Inv-loop xs more out₀ at p₀ j₀ out p j = (sets out p (lineBefore more (drop j xs)) ≡ sets out₀ at (lineBefore more xs))
+    × (p + length (lineBefore more (drop j xs)) ≡ at + length (lineBefore more xs)) × (length out ≡ length out₀) × (j ≤ length xs)
+    × (at + length (lineBefore more xs) ≤ length out₀) × (length xs + more < 2 ^ 64)
 
 abbrev μ-loop : tie.MeasureT-loop
 μ-loop xs more out₀ at p₀ j₀ out p j = length xs - j
@@ -56,8 +58,16 @@ loop-again c =
     let more = a .more in
     let xs = a .xs .now in
     let l = c .before .before .before .before .before .before .before .loop in
-    let h = c .before .before .before .before .before .before .loop-test .taken in
-    (ap₂ (λ (d : List ℕ) (k : ℕ). sets d k (lineBefore more (drop (l .j + 1) xs))) (c .before .before .put-number .ensures .1) (c .before .before .put-number .ensures .0) ∙ part-turn more (l .out) xs (l .p) (l .j) _ h (c .before .before .before .before .end-byte .ensures) ∙ l .inv .0, omega (arith, before-length-step more xs (l .j) h), omega arith, omega arith, l .inv .4, l .inv .5)
+    let h = c .before .before .before .before .before .before .loop-test .taken in (
+      ap₂ (λ (d : List ℕ) (k : ℕ). sets d k (lineBefore more (drop (l .j + 1) xs))) (c .before .before .put-number .ensures .1)
+          (c .before .before .put-number .ensures .0) ∙ part-turn more (l .out) xs (l .p) (l .j) _ h (c .before .before .before .before .end-byte .ensures)
+          ∙ l .inv .0,
+      omega (arith, before-length-step more xs (l .j) h),
+      omega arith,
+      omega arith,
+      l .inv .4,
+      l .inv .5,
+    )
 
 same-length : tie.Need-same-length Inv-loop μ-loop
 same-length c = search needs

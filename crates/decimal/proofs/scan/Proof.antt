@@ -48,8 +48,12 @@ loop-less c =
 
 loop-again : tie.Need-loop-again Inv-loop μ-loop
 loop-again c =
-    let number-at = c .before .before .before .before .before .before .before .number-at in
-    (rw (c .before .before .put-behind .ensures) (found-number _ _ _ _ _ _ (c .before .before .before .before .before .before .before .before .before .loop .inv .0) (number-at .result) _ _ (number-at .ensures) (c .before .before .before .before .before .found .given .1)), c .before .before .before .before .before .before .before .before .before .loop .inv .1)
+    let number-at = c .before .before .before .before .before .before .before .number-at in (
+      rw (c .before .before .put-behind .ensures) (found-number _ _ _ _ _ _
+          (c .before .before .before .before .before .before .before .before .before .loop .inv .0) (number-at .result) _ _ (number-at .ensures)
+          (c .before .before .before .before .before .found .given .1)),
+      c .before .before .before .before .before .before .before .before .before .loop .inv .1,
+    )
 
 same-length-2 : tie.Need-same-length-2 Inv-loop μ-loop
 same-length-2 c = scan-same _ _ _ _ _ _ (c .before .loop .inv .0)

@@ -68,7 +68,8 @@ loop-again c =
     let h = c .before .before .before .before .before .before .before .before .pre in
     let limit = c .before .before .before .before .before .limit in
     ⊎-elim
-    (λ w. rw (w .2, w .3, w .1 .ensures) (drew-kept _ _ _ _ _ _ (c .before .before .before .loop .inv) (h .1) (search needs) (h .2) (kept-word (a .q) _ _ (limit .ensures) (w .0 .taken))))
+    (λ w. rw (w .2, w .3, w .1 .ensures) (drew-kept _ _ _ _ _ _ (c .before .before .before .loop .inv) (h .1) (search needs) (h .2)
+    (kept-word (a .q) _ _ (limit .ensures) (w .0 .taken))))
     (λ w. rw (w .1, w .2) (drew-thrown _ _ _ _ _ _ (c .before .before .before .loop .inv) (h .1) (search needs) (thrown-word (a .q) _ _ (limit .ensures) (w .0 .left))))
     (c .if1 .came)
 
@@ -76,8 +77,10 @@ same-length : tie.Need-same-length Inv-loop μ-loop
 same-length c = c .before .loop .inv .same
 
 returns : tie.Need-returns Inv-loop μ-loop
-returns c =
-    (drew-read _ _ _ _ _ _ (c .before .loop .inv) (search needs), drew-all _ _ _ _ _ _ (c .before .loop .inv) (search needs) (c .before .before .before .before .before .before .pre .1))
+returns c = (
+  drew-read _ _ _ _ _ _ (c .before .loop .inv) (search needs),
+  drew-all _ _ _ _ _ _ (c .before .loop .inv) (search needs) (c .before .before .before .before .before .before .pre .1),
+)
 
 pub draw-each-spec : {M : Type 1} → statement M
 draw-each-spec =

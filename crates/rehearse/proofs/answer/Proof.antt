@@ -36,13 +36,16 @@ returns c =
     let a = c .before .before .before .before .before .before .before .before .before .before .before .before .before .args in
     let p = c .before .before .before .before .before .before .before .before .before .before .before .before .before .pre in
     λ xs ys hx hy. refused-printed _ (numbers .result) (refusal-in .result) _ _ _
-    (numbers-refused (a .t) xs ys (a .dealer .now) (a .coins .now) (a .nx) (a .ny) (hx .count) (hy .count) (numbers .result) (numbers .ensures) (enum-told2 .given .1)) (enum-told2 .given .1) (refusal-in .ensures) (c .before .before .refusal .ensures .0) (c .before .before .refusal .ensures .1 .0) (c .before .before .refusal .ensures .1 .1)
+    (numbers-refused (a .t) xs ys (a .dealer .now) (a .coins .now) (a .nx) (a .ny) (hx .count) (hy .count) (numbers .result) (numbers .ensures)
+    (enum-told2 .given .1)) (enum-told2 .given .1) (refusal-in .ensures) (c .before .before .refusal .ensures .0)
+    (c .before .before .refusal .ensures .1 .0) (c .before .before .refusal .ensures .1 .1)
 
 slice-aggregate-judge-words : tie.Need-slice-aggregate-judge-words
 slice-aggregate-judge-words c =
     let a = c .before .before .before .before .before .before .before .before .before .args in
     let p = c .before .before .before .before .before .before .before .before .before .pre in
-    sym (length-take-le _ _ (room-x (a .t) (a .nx) (a .ny) (a .x .now) (a .y .now) (c .before .before .before .numbers .result) (c .before .before .before .numbers .ensures) (c .before .enum-told .given .1) (p .0) (p .1)))
+    sym (length-take-le _ _ (room-x (a .t) (a .nx) (a .ny) (a .x .now) (a .y .now) (c .before .before .before .numbers .result)
+    (c .before .before .before .numbers .ensures) (c .before .enum-told .given .1) (p .0) (p .1)))
 
 slice-aggregate-judge-words-2 : tie.Need-slice-aggregate-judge-words-2
 slice-aggregate-judge-words-2 c =

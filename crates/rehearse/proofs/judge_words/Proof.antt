@@ -37,13 +37,19 @@ returns c =
     let words = c .before .before .before .before .before .before .before .words in
     let a = c .before .before .before .before .before .before .before .before .before .before .before .before .before .args in
     refused-printed _ (words .result) (refusal-in .result) _ _ _
-    (words-refused (a .t) (a .x .now) (a .y .now) (a .dealer .now) (a .coins .now) (c .before .before .before .before .before .before .before .before .before .before .before .before .before .pre .0) (words .result) (words .ensures) (enum-told2 .given .1)) (enum-told2 .given .1) (refusal-in .ensures) (c .before .before .refusal .ensures .0) (c .before .before .refusal .ensures .1 .0) (c .before .before .refusal .ensures .1 .1)
+    (words-refused (a .t) (a .x .now) (a .y .now) (a .dealer .now) (a .coins .now)
+    (c .before .before .before .before .before .before .before .before .before .before .before .before .before .pre .0) (words .result) (words .ensures)
+    (enum-told2 .given .1)) (enum-told2 .given .1) (refusal-in .ensures) (c .before .before .refusal .ensures .0)
+    (c .before .before .refusal .ensures .1 .0) (c .before .before .refusal .ensures .1 .1)
 
 perform-requires : tie.Need-perform-requires
 perform-requires c κs =
     let h = c .before .before .before .before .before .before .before .before .before .pre in
-    let a = c .before .before .before .before .before .before .before .before .before .args in
-    (all-passed (a .t) (a .x .now) (a .y .now) (a .dealer .now) (a .coins .now) (h .0) (c .before .before .before .words .result) (c .before .before .before .words .ensures) (c .before .enum-told .given .1), h .1)
+    let a = c .before .before .before .before .before .before .before .before .before .args in (
+      all-passed (a .t) (a .x .now) (a .y .now) (a .dealer .now) (a .coins .now) (h .0) (c .before .before .before .words .result)
+          (c .before .before .before .words .ensures) (c .before .enum-told .given .1),
+      h .1,
+    )
 
 same-length-2 : tie.Need-same-length-2
 same-length-2 c = search needs
@@ -52,7 +58,10 @@ returns-2 : tie.Need-returns-2
 returns-2 c =
     let words = c .before .before .before .before .before .before .words in
     let a = c .before .before .before .before .before .before .before .before .before .before .before .before .args in
-    as-printed _ _ _ _ _ (judged-run (a .t) (a .x .now) (a .y .now) (a .dealer .now) (a .coins .now) (all-passed (a .t) (a .x .now) (a .y .now) (a .dealer .now) (a .coins .now) (c .before .before .before .before .before .before .before .before .before .before .before .before .pre .0) (words .result) (words .ensures) (c .before .before .before .before .enum-told .given .1))) (c .before .before .perform .ensures)
+    as-printed _ _ _ _ _ (judged-run (a .t) (a .x .now) (a .y .now) (a .dealer .now) (a .coins .now)
+    (all-passed (a .t) (a .x .now) (a .y .now) (a .dealer .now) (a .coins .now)
+    (c .before .before .before .before .before .before .before .before .before .before .before .before .pre .0) (words .result) (words .ensures)
+    (c .before .before .before .before .enum-told .given .1))) (c .before .before .perform .ensures)
 
 pub judge-words-spec : {M : Type 1} → statement M
 judge-words-spec =

@@ -57,7 +57,8 @@ array-share-prefix-pm c =
 slice-aggregate-has-inverse : tie.Need-slice-aggregate-has-inverse
 slice-aggregate-has-inverse c =
     let few = enough (c .before .before .before .before .before .before) in
-    sym (ap length (coins-part _ _ ((start (c .before .before .before .before .before .before)) .args .words .now) _ _ few (c .before .before .before .before .draw .ensures .1)) ∙ drawn-count _ _ _ few)
+    sym (ap length (coins-part _ _ ((start (c .before .before .before .before .before .before)) .args .words .now) _ _ few
+    (c .before .before .before .before .draw .ensures .1)) ∙ drawn-count _ _ _ few)
 
 has-inverse-requires-2 : tie.Need-has-inverse-requires-2
 has-inverse-requires-2 c κs =

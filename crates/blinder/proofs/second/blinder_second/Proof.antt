@@ -17,7 +17,8 @@ use Rattle.blinder.proofs.second.blinder_second.Tie as tie
 -- all tests passed, or the first that did not
 tests : (c : tie.After-check) →
     let a = c .before .before .before .before .before .before .args in
-    checked (c .check .result) ≡ judged (blinderSecondTests (a .s) (slotAt (a .pool .now) (a .at .size) (a .at .index)) (a .scratch .now) (messageWith (a .a) (a .residues .now)) (length (a .out .now)))
+    checked (c .check .result) ≡ judged (blinderSecondTests (a .s) (slotAt (a .pool .now) (a .at .size) (a .at .index)) (a .scratch .now)
+    (messageWith (a .a) (a .residues .now)) (length (a .out .now)))
 tests c =
     let a = c .before .before .before .before .before .before .args in
     (rw (c .before .has-room .ensures) at (c .check .ensures)) ∙ ap judged

@@ -75,7 +75,8 @@ returns c =
     let told = c .before .before .before .before .before .before .before .before in
     let a = (start told) .args in
     second-computed (a .s) (slotAt (a .pool .now) (a .at .size) (a .at .index)) (taken 3 (a .s .terms) (a .residues .now)) (known (start told))
-    (c .before .before .before .before .before .before .before .matrix .ensures) (c .before .before .before .before .before .before .matrix2 .ensures) (a .out .now) (told .before .times .ensures) (told .side-size .ensures)
+    (c .before .before .before .before .before .before .before .matrix .ensures) (c .before .before .before .before .before .before .matrix2 .ensures)
+    (a .out .now) (told .before .times .ensures) (told .side-size .ensures)
     (c .before .before .send .ensures)
 
 pub compute-spec : {M : Type 1} → statement M

@@ -40,7 +40,12 @@ side-size-requires c κs = search needs
 returns-5 : tie.Need-returns-5
 unfolding messageLayout sideSize
 returns-5 c =
-    rw (ne-eqb _ 1 (c .before .before .before .before .if1 .left), ne-eqb _ 2 (c .before .before .before .if2 .left), ne-eqb _ 3 (c .before .before .if3 .left), ne-eqb _ 4 (c .before .if4 .left))
+    rw (
+      ne-eqb _ 1 (c .before .before .before .before .if1 .left),
+      ne-eqb _ 2 (c .before .before .before .if2 .left),
+      ne-eqb _ 3 (c .before .before .if3 .left),
+      ne-eqb _ 4 (c .before .if4 .left),
+    )
     (c .side-size .ensures)
 
 pub first-part-spec : {M : Type 1} → statement M

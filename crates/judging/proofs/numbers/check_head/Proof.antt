@@ -47,7 +47,8 @@ returns-2 c =
     let a = c .before .before .before .before .before .before .before .args in
     let check-ids = c .before .before .before .before .check-ids in
     simp (c .need .ensures, c .before .message-size .ensures) refl ∙ sym
-    (head-phases (kindSort (a .a .kind)) (a .a) (a .count) ∙ goes-past (check-ids .result) (rw (c .before .before .before .before .before .kind-sides-fit .ensures) at (check-ids .ensures)) (c .before .before .enum-told .given .1))
+    (head-phases (kindSort (a .a .kind)) (a .a) (a .count) ∙ goes-past (check-ids .result)
+    (rw (c .before .before .before .before .before .kind-sides-fit .ensures) at (check-ids .ensures)) (c .before .before .enum-told .given .1))
 
 pub check-head-spec : {M : Type 1} → statement M
 check-head-spec =

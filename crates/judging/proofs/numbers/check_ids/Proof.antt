@@ -28,7 +28,14 @@ worst-requires-2 c κs = search needs
 returns : tie.Need-returns
 unfolding idTests
 returns c =
-    simp (c .worst2 .ensures, c .before .worst .ensures, c .before .before .before .before .before .need .ensures, c .before .before .before .before .need2 .ensures, c .before .before .need3 .ensures, judged-cons)
+    simp (
+      c .worst2 .ensures,
+      c .before .worst .ensures,
+      c .before .before .before .before .before .need .ensures,
+      c .before .before .before .before .need2 .ensures,
+      c .before .before .need3 .ensures,
+      judged-cons,
+    )
 
 pub check-ids-spec : {M : Type 1} → statement M
 check-ids-spec =

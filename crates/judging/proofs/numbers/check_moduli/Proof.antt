@@ -77,7 +77,8 @@ swapped kind s p q e = rw e (once (kindSort kind) s (within 1 5 kind) (within 2 
 -- what the code takes the worse of
 worse : (c : tie.After-worst2) → checked (c .worst2 .result)
     ≡ judged (tests.needs Form (within 1 5 (c .before .before .before .before .before .before .before .before .args .a .kind))
-    ∷ fieldTests (joint (kindSort (c .before .before .before .before .before .before .before .before .args .a .kind)) (sort (c .before .before .before .before .before .before .before .before .args .end)))
+    ∷ fieldTests (joint (kindSort (c .before .before .before .before .before .before .before .before .args .a .kind))
+    (sort (c .before .before .before .before .before .before .before .before .args .end)))
     (c .before .before .before .before .before .before .before .before .args .q))
 worse c =
     let a = c .before .before .before .before .before .before .before .before .args in

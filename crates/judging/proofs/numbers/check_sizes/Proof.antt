@@ -38,7 +38,8 @@ half-size-requires : tie.Need-half-size-requires
 unfolding numberTests idTests
 half-size-requires c κs =
     ids-fit (c .before .before .before .before .before .before .args .t) _
-    (sym (rw (c .before .before .before .before .before .sides-fit .ensures) at (c .before .before .before .before .check-ids .ensures)) ∙ ap checked (c .before .before .enum-told .given .1))
+    (sym (rw (c .before .before .before .before .before .sides-fit .ensures) at (c .before .before .before .before .check-ids .ensures))
+    ∙ ap checked (c .before .before .enum-told .given .1))
 
 need-requires-2 : tie.Need-need-requires-2
 need-requires-2 c κs = search needs
@@ -52,7 +53,13 @@ returns-2 c =
     let a = c .before .before .before .before .before .before .before .before .before .before .args in
     let check-ids = c .before .before .before .before .before .before .before .before .check-ids in
     let fit = c .before .before .before .before .before .before .before .before .before .sides-fit .ensures in
-    simp (c .worst .ensures, c .before .before .before .before .need .ensures, c .before .before .before .before .before .is-slot .ensures, c .before .need2 .ensures, c .before .before .before .half-size .ensures)
+    simp (
+      c .worst .ensures,
+      c .before .before .before .before .need .ensures,
+      c .before .before .before .before .before .is-slot .ensures,
+      c .before .need2 .ensures,
+      c .before .before .before .half-size .ensures,
+    )
     (sym (judged-cons _ _ _)) ∙ sym
     (sizes-phases (sort (a .end)) (role (a .end)) (a .t) (a .pool) (a .at .size) (a .at .index)
     ∙ goes-past (check-ids .result) (rw fit at (check-ids .ensures)) (c .before .before .before .before .before .before .enum-told .given .1))

@@ -41,7 +41,9 @@ returns : tie.Need-returns
 unfolding closedTests
 returns c =
     also _ _ (c .worst3 .ensures) (c .before .before .before .before .before .before .before .check-kind .ensures)
-    (also _ _ (c .before .worst2 .ensures) (c .before .before .before .before .before .before .check-head .ensures) (also (_ ∷ []) _ (c .before .before .worst .ensures) (rw (c .before .before .before .before .before .is-slot .ensures) at (c .before .before .before .before .need .ensures)) (c .before .before .before .need2 .ensures)))
+    (also _ _ (c .before .worst2 .ensures) (c .before .before .before .before .before .before .check-head .ensures)
+    (also (_ ∷ []) _ (c .before .before .worst .ensures)
+    (rw (c .before .before .before .before .before .is-slot .ensures) at (c .before .before .before .before .need .ensures)) (c .before .before .before .need2 .ensures)))
 
 pub check-closed-spec : {M : Type 1} → statement M
 check-closed-spec =

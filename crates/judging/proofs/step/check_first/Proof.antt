@@ -28,19 +28,23 @@ returns c =
 slot-requires : tie.Need-slot-requires
 slot-requires c κs =
     let a = c .before .before .before .before .args in
-    (numbers-placed (role (a .end)) (a .t) (a .pool .now) (a .at .size) (a .at .index) (sym (c .before .before .check-numbers .ensures) ∙ ap checked (c .enum-told .given .1))) .inside
+    (numbers-placed (role (a .end)) (a .t) (a .pool .now) (a .at .size) (a .at .index)
+    (sym (c .before .before .check-numbers .ensures) ∙ ap checked (c .enum-told .given .1))) .inside
 
 check-ready-requires : tie.Need-check-ready-requires
 check-ready-requires c κs =
     let a = c .before .before .before .before .before .args in
-    let p = numbers-placed (role (a .end)) (a .t) (a .pool .now) (a .at .size) (a .at .index) (sym (c .before .before .before .check-numbers .ensures) ∙ ap checked (c .before .enum-told .given .1)) in
+    let p = numbers-placed (role (a .end)) (a .t) (a .pool .now) (a .at .size) (a .at .index)
+    (sym (c .before .before .before .check-numbers .ensures) ∙ ap checked (c .before .enum-told .given .1)) in
     half-fits (role (a .end)) (a .t) (slotAt (a .pool .now) (a .at .size) (a .at .index)) p (c .slot .ensures)
 
 returns-2 : tie.Need-returns-2
 returns-2 c =
     let a = c .before .before .before .before .before .before .args in
     let n = c .before .before .before .before .check-numbers in
-    (rw (c .before .slot .ensures) at (c .check-ready .ensures)) ∙ sym (first-phases (role (a .end)) (a .t) (slotAt (a .pool .now) (a .at .size) (a .at .index)) ∙ goes-past (n .result) (n .ensures) (c .before .before .enum-told .given .1))
+    (rw (c .before .slot .ensures) at (c .check-ready .ensures))
+    ∙ sym (first-phases (role (a .end)) (a .t) (slotAt (a .pool .now) (a .at .size) (a .at .index))
+    ∙ goes-past (n .result) (n .ensures) (c .before .before .enum-told .given .1))
 
 pub check-first-spec : {M : Type 1} → statement M
 check-first-spec =

@@ -31,13 +31,15 @@ slot-requires : tie.Need-slot-requires
 unfolding firstReceived
 slot-requires c κs =
     let a = c .before .before .before .before .before .args in
-    (turn-placed (role (a .end)) (a .t) (a .a) _ (a .pool .now) (a .at .size) (a .at .index) _ (sym (c .before .before .check-first-numbers .ensures) ∙ ap checked (c .enum-told .given .1))) .inside
+    (turn-placed (role (a .end)) (a .t) (a .a) _ (a .pool .now) (a .at .size) (a .at .index) _
+    (sym (c .before .before .check-first-numbers .ensures) ∙ ap checked (c .enum-told .given .1))) .inside
 
 check-arrived-requires : tie.Need-check-arrived-requires
 unfolding firstReceived
 check-arrived-requires c κs =
     let a = c .before .before .before .before .before .before .args in
-    let p = turn-placed (role (a .end)) (a .t) (a .a) _ (a .pool .now) (a .at .size) (a .at .index) _ (sym (c .before .before .before .check-first-numbers .ensures) ∙ ap checked (c .before .enum-told .given .1)) in
+    let p = turn-placed (role (a .end)) (a .t) (a .a) _ (a .pool .now) (a .at .size) (a .at .index) _
+    (sym (c .before .before .before .check-first-numbers .ensures) ∙ ap checked (c .before .enum-told .given .1)) in
     half-fits (role (a .end)) (a .t) (slotAt (a .pool .now) (a .at .size) (a .at .index)) p (c .slot .ensures)
 
 returns-2 : tie.Need-returns-2

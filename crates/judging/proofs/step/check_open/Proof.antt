@@ -38,12 +38,14 @@ returns-2 c =
 slot-requires : tie.Need-slot-requires
 slot-requires c κs =
     let a = c .before .before .before .before .before .args in
-    (numbers-placed (role (a .end)) (a .t) (a .pool .now) (a .at .size) (a .at .index) (sym (c .before .before .check-numbers .ensures) ∙ ap checked (c .enum-told .given .1))) .inside
+    (numbers-placed (role (a .end)) (a .t) (a .pool .now) (a .at .size) (a .at .index)
+    (sym (c .before .before .check-numbers .ensures) ∙ ap checked (c .enum-told .given .1))) .inside
 
 check-tape-requires : tie.Need-check-tape-requires
 check-tape-requires c κs =
     let a = c .before .before .before .before .before .before .args in
-    let p = numbers-placed (role (a .end)) (a .t) (a .pool .now) (a .at .size) (a .at .index) (sym (c .before .before .before .check-numbers .ensures) ∙ ap checked (c .before .enum-told .given .1)) in
+    let p = numbers-placed (role (a .end)) (a .t) (a .pool .now) (a .at .size) (a .at .index)
+    (sym (c .before .before .before .check-numbers .ensures) ∙ ap checked (c .before .enum-told .given .1)) in
     header-fits (role (a .end)) (a .t) (slotAt (a .pool .now) (a .at .size) (a .at .index)) p (c .slot .ensures)
 
 returns-3 : tie.Need-returns-3

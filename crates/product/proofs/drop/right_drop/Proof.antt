@@ -36,7 +36,8 @@ returns c =
     let s = slotAt (a .pool .now) (a .at .size) (a .at .index) in
     let e = told .enum-told2 .given .1 in
     rw (c .answer-of .ensures, e)
-    (sym (refused-leaves (a .s) s [] [] [] _ (dropped (closedRight (a .s)) (wordsSpent right (a .s .terms) (slotWords s)) []) (sym (told .before .before .check-open .ensures) ∙ ap checked e)))
+    (sym (refused-leaves (a .s) s [] [] [] _ (dropped (closedRight (a .s)) (wordsSpent right (a .s .terms) (slotWords s)) [])
+    (sym (told .before .before .check-open .ensures) ∙ ap checked e)))
 
 spend-at-requires : tie.Need-spend-at-requires
 spend-at-requires c κs =

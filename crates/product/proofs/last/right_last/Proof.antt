@@ -70,7 +70,8 @@ returns-2 c =
     let told = c .before .before .before .before .before .before .before .before .before in
     let a = told .before .before .before .before .before .before .before .args in
     let s = slotAt (a .pool .now) (a .at .size) (a .at .index) in
-    step-leaves (a .s) s [] [] (a .share .now) _ (rightLastEffect (a .s) s (messageWith (a .a) (a .residues .now))) (sym (told .before .before .check .ensures) ∙ ap checked (told .enum-told .given .1))
+    step-leaves (a .s) s [] [] (a .share .now) _ (rightLastEffect (a .s) s (messageWith (a .a) (a .residues .now)))
+    (sym (told .before .before .check .ensures) ∙ ap checked (told .enum-told .given .1))
     (c .before .before .before .before .before .before .compute .ensures) (c .before .before .spend-at .ensures)
 
 pub right-last-spec : {M : Type 1} → statement M

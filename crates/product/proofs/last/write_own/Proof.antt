@@ -66,7 +66,11 @@ unfolding rightShare
 returns c =
     let at = c .before .before .before .before .before .before .before in
     let a = at .before .before .before .before .before .args in
-    rw (c .before .before .before .before .before .before .sides-of .ensures, at .times .ensures, tail-part (a .t .m * a .t .k) (a .residues .now)) at (c .before .before .write-share .ensures)
+    rw (
+      c .before .before .before .before .before .before .sides-of .ensures,
+      at .times .ensures,
+      tail-part (a .t .m * a .t .k) (a .residues .now),
+    ) at (c .before .before .write-share .ensures)
 
 pub write-own-spec : {M : Type 1} → statement M
 write-own-spec =

@@ -73,7 +73,8 @@ returns-2 c =
     let a = told .before .before .before .before .before .before .before .before .before .before .args in
     let s = slotAt (a .pool .now) (a .at .size) (a .at .index) in
     step-leaves tt s [] (a .out .now) (a .share .now) _ (leftEffect (a .t) s (a .x .now) (a .words .now) (messageWith (a .a) (a .residues .now)))
-    (sym (told .before .before .check .ensures) ∙ ap checked (told .enum-told .given .1)) (c .before .before .before .before .before .before .before .before .compute .ensures) (c .before .before .spend-at .ensures)
+    (sym (told .before .before .check .ensures) ∙ ap checked (told .enum-told .given .1))
+    (c .before .before .before .before .before .before .before .before .compute .ensures) (c .before .before .spend-at .ensures)
 
 pub left-step-spec : {M : Type 1} → statement M
 left-step-spec =

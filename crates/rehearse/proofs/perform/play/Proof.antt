@@ -121,8 +121,13 @@ result-requires c κs =
     let back = c .before .before .before .before .before in
     let lent = back .before .before .before .before .before .before .before .before .before .before in
     let counted = lent .before .before .before .before .before .before .before in
-    let f = few counted in
-    (counted .before .before .before .before .before .before .before .before .before .pre .1, take-few _ 2048 _ (f .0), take-few _ 3072 _ (f .1), take-few _ 1024 _ (f .2), take-few _ 1024 _ (f .2))
+    let f = few counted in (
+      counted .before .before .before .before .before .before .before .before .before .pre .1,
+      take-few _ 2048 _ (f .0),
+      take-few _ 3072 _ (f .1),
+      take-few _ 1024 _ (f .2),
+      take-few _ 1024 _ (f .2),
+    )
 
 same-length : tie.Need-same-length
 same-length c = search needs

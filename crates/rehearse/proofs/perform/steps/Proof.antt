@@ -44,7 +44,8 @@ returns c =
     let ask = reply .before .before .before .before .before .before .before .before .before .before .before in
     let a = ask .before .before .before .before .before .before .before .before .before .before .before .before .args in
     λ d p r. run-made (a .t) (a .x .now) (a .y .now) d (a .coins .now) (p .fits) (a .first .now) (a .second .now) p (a .y1 .now) _ _ _ _ _ (r .one)
-    (ask .right-first .ensures) (a .x1r1 .now) _ (a .u .now) _ _ _ _ (r .two) (r .left-share) (reply .left-step .ensures) (a .v .now) _ _ _ _ _ (r .right-share) (last .right-last .ensures)
+    (ask .right-first .ensures) (a .x1r1 .now) _ (a .u .now) _ _ _ _ (r .two) (r .left-share) (reply .left-step .ensures) (a .v .now) _ _ _ _ _
+    (r .right-share) (last .right-last .ensures)
 
 pub steps-spec : {M : Type 1} → statement M
 steps-spec =

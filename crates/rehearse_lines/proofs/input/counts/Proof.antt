@@ -44,7 +44,12 @@ enum-told-4 c = search needs
 
 returns-4 : tie.Need-returns-4
 returns-4 c =
-    rw (c .before .before .before .before .before .before .before .before .before .first .given .1, c .before .before .before .before .before .before .x .given .1, c .before .before .before .y .given .1, c .enum-told4 .given .1)
+    rw (
+      c .before .before .before .before .before .before .before .before .before .first .given .1,
+      c .before .before .before .before .before .before .x .given .1,
+      c .before .before .before .y .given .1,
+      c .enum-told4 .given .1,
+    )
 
 enum-known-left : tie.Need-enum-known-left
 enum-known-left c = search needs
@@ -54,15 +59,35 @@ enum-told-5 c = search needs
 
 returns-5 : tie.Need-returns-5
 returns-5 c =
-    rw (c .before .before .before .before .before .before .before .before .before .before .before .before .first .given .1, c .before .before .before .before .before .before .before .before .before .x .given .1, c .before .before .before .before .before .before .y .given .1, c .before .before .before .dealer .given .1, c .enum-told5 .given .1)
+    rw (
+      c .before .before .before .before .before .before .before .before .before .before .before .before .first .given .1,
+      c .before .before .before .before .before .before .before .before .before .x .given .1,
+      c .before .before .before .before .before .before .y .given .1,
+      c .before .before .before .dealer .given .1,
+      c .enum-told5 .given .1,
+    )
 
 returns-6 : tie.Need-returns-6
 returns-6 c =
-    rw (c .before .before .before .before .before .before .before .before .before .before .before .before .before .before .first .given .1, c .before .before .before .before .before .before .before .before .before .before .before .x .given .1, c .before .before .before .before .before .before .before .before .y .given .1, c .before .before .before .before .before .dealer .given .1, c .before .before .left .given .1, ne-eqb _ 6 (c .if1 .taken))
+    rw (
+      c .before .before .before .before .before .before .before .before .before .before .before .before .before .before .first .given .1,
+      c .before .before .before .before .before .before .before .before .before .before .before .x .given .1,
+      c .before .before .before .before .before .before .before .before .y .given .1,
+      c .before .before .before .before .before .dealer .given .1,
+      c .before .before .left .given .1,
+      ne-eqb _ 6 (c .if1 .taken),
+    )
 
 returns-7 : tie.Need-returns-7
 returns-7 c =
-    rw (c .before .before .before .before .before .before .before .before .before .before .before .before .before .before .first .given .1, c .before .before .before .before .before .before .before .before .before .before .before .x .given .1, c .before .before .before .before .before .before .before .before .y .given .1, c .before .before .before .before .before .dealer .given .1, c .before .before .left .given .1, eq-eqb _ 6 (c .if1 .left))
+    rw (
+      c .before .before .before .before .before .before .before .before .before .before .before .before .before .before .first .given .1,
+      c .before .before .before .before .before .before .before .before .before .before .before .x .given .1,
+      c .before .before .before .before .before .before .before .before .y .given .1,
+      c .before .before .before .before .before .dealer .given .1,
+      c .before .before .left .given .1,
+      eq-eqb _ 6 (c .if1 .left),
+    )
 
 pub counts-spec : {M : Type 1} → statement M
 counts-spec =

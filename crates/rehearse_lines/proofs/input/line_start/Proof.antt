@@ -37,8 +37,12 @@ loop-again c =
     let s = arg .s .now in
     let n = arg .n in
     let l = c .before .before .loop in
-    let z : suc (n - (l .i + 1)) ≡ n - l .i = omega arith in
-    (omega arith, omega (arith, c .line-end .ensures, first-fits s (l .at) (l .inv .1)), ap (λ (a : ℕ). lineAt (n - (l .i + 1)) (drop a s)) (c .line-end .ensures) ∙ sym (line-next s (n - (l .i + 1)) (l .at)) ∙ ap (λ (k : ℕ). lineAt k (drop (l .at) s)) z ∙ l .inv .2)
+    let z : suc (n - (l .i + 1)) ≡ n - l .i = omega arith in (
+      omega arith,
+      omega (arith, c .line-end .ensures, first-fits s (l .at) (l .inv .1)),
+      ap (λ (a : ℕ). lineAt (n - (l .i + 1)) (drop a s)) (c .line-end .ensures) ∙ sym (line-next s (n - (l .i + 1)) (l .at))
+          ∙ ap (λ (k : ℕ). lineAt k (drop (l .at) s)) z ∙ l .inv .2,
+    )
 
 returns : tie.Need-returns Inv-loop μ-loop
 returns c =

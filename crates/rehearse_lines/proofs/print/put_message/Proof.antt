@@ -27,8 +27,14 @@ returns : tie.Need-returns
 returns c =
     let put-run = c .before .before .before .before .before .before .put-run in
     let a = c .before .before .before .before .before .before .before .before .before .before .before .before .before .before .args in
-    let rs = a .residues .now in
-    (omega (arith, message-bytes (a .h) rs, put-run .ensures .0, c .before .before .put-run2 .ensures .0), (omega (arith, put-run .ensures .1 .0, c .before .before .put-run2 .ensures .1 .0), c .before .before .put-run2 .ensures .1 .1 ∙ ap (λ (l : List ℕ). sets l (put-run .result) (lineBefore 0 rs)) (put-run .ensures .1 .1) ∙ message-stored (a .h) rs (a .out .now) (a .at) (put-run .result) (put-run .ensures .0)))
+    let rs = a .residues .now in (
+      omega (arith, message-bytes (a .h) rs, put-run .ensures .0, c .before .before .put-run2 .ensures .0),
+      (
+        omega (arith, put-run .ensures .1 .0, c .before .before .put-run2 .ensures .1 .0),
+        c .before .before .put-run2 .ensures .1 .1 ∙ ap (λ (l : List ℕ). sets l (put-run .result) (lineBefore 0 rs)) (put-run .ensures .1 .1)
+            ∙ message-stored (a .h) rs (a .out .now) (a .at) (put-run .result) (put-run .ensures .0),
+      ),
+    )
 
 pub put-message-spec : {M : Type 1} → statement M
 put-message-spec =

@@ -24,8 +24,14 @@ returns : tie.Need-returns
 returns c =
     let put-text = c .before .before .before .before .before .before .put-text in
     let a = c .before .before .before .before .before .before .before .before .before .before .before .args in
-    let xs = a .xs .now in
-    (omega (arith, named-bytes (a .name .now) xs, put-text .ensures .0, c .before .before .put-run .ensures .0), (omega (arith, put-text .ensures .0, c .before .before .put-run .ensures .1 .0), c .before .before .put-run .ensures .1 .1 ∙ ap (λ (l : List ℕ). sets l (put-text .result) (lineBefore 0 xs)) (put-text .ensures .1) ∙ named-stored (a .name .now) xs (a .out .now) (a .at) (put-text .result) (put-text .ensures .0)))
+    let xs = a .xs .now in (
+      omega (arith, named-bytes (a .name .now) xs, put-text .ensures .0, c .before .before .put-run .ensures .0),
+      (
+        omega (arith, put-text .ensures .0, c .before .before .put-run .ensures .1 .0),
+        c .before .before .put-run .ensures .1 .1 ∙ ap (λ (l : List ℕ). sets l (put-text .result) (lineBefore 0 xs)) (put-text .ensures .1)
+            ∙ named-stored (a .name .now) xs (a .out .now) (a .at) (put-text .result) (put-text .ensures .0),
+      ),
+    )
 
 pub put-named-spec : {M : Type 1} → statement M
 put-named-spec = tie.close (tie.spec put-text-requires put-run-requires same-length returns)

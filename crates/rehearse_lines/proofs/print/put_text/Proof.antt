@@ -39,8 +39,12 @@ loop-less c = search needs
 loop-again : tie.Need-loop-again Inv-loop μ-loop
 loop-again c =
     let a = c .before .before .before .args in
-    let j = c .before .before .loop .j in
-    (ap (λ (l : List ℕ). set l (a .at + j) (getD (a .text .now) j 0)) (c .before .before .loop .inv .0) ∙ text-turn (a .out .now) (a .text .now) (a .at) j (c .before .loop-test .taken), omega arith, c .before .before .loop .inv .2)
+    let j = c .before .before .loop .j in (
+      ap (λ (l : List ℕ). set l (a .at + j) (getD (a .text .now) j 0)) (c .before .before .loop .inv .0)
+          ∙ text-turn (a .out .now) (a .text .now) (a .at) j (c .before .loop-test .taken),
+      omega arith,
+      c .before .before .loop .inv .2,
+    )
 
 add-result : tie.Need-add-result Inv-loop μ-loop
 add-result c = search needs

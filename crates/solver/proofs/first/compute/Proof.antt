@@ -47,7 +47,12 @@ same-length c = search needs
 
 returns : tie.Need-returns
 unfolding solverFirstEffect join over
-returns c = rw (c .accepted .ensures, c .before .session-of .ensures, c .before .before .before .before .write-y1 .ensures, c .before .before .before .before .before .before .matrix .ensures) (simp append-nil)
+returns c = rw (
+  c .accepted .ensures,
+  c .before .session-of .ensures,
+  c .before .before .before .before .write-y1 .ensures,
+  c .before .before .before .before .before .before .matrix .ensures,
+) (simp append-nil)
 
 pub compute-spec : {M : Type 1} → statement M
 compute-spec =

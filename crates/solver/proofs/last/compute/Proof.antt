@@ -94,7 +94,8 @@ find-t-requires c κs =
     let o = k .later .session-open in
     let n = last-counts (a .s) s (taken 4 (a .s .terms) (a .residues .now)) (length (a .out .now)) k in
     let r = sum-residues t _ (a .residues .now) (omega (arith, o .terms .big)) in
-    let e = over-part (at .times .result) (sumOf t _ (a .residues .now)) _ (c .before .before .before .before .before .write-joint .ensures) (r .size ∙ sym (at .times .ensures)) in (
+    let e = over-part (at .times .result) (sumOf t _ (a .residues .now)) _ (c .before .before .before .before .before .write-joint .ensures)
+    (r .size ∙ sym (at .times .ensures)) in (
       o .terms .field,
       o .terms .big,
       omega (arith, o .terms .small),

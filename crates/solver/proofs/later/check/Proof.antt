@@ -35,7 +35,8 @@ unfolding arriving roomTests
 returns c =
     let at = c .before .before in
     let a = at .before .before .before .before .before .before .before .args in
-    let arrived = also _ _ (at .worst .ensures) (at .before .before .before .check-later .ensures) (rw (at .before .before .has-room .ensures) at (at .before .check-room .ensures)) in
+    let arrived = also _ _ (at .worst .ensures) (at .before .before .before .check-later .ensures)
+    (rw (at .before .before .has-room .ensures) at (at .before .check-room .ensures)) in
     hands-on (at .worst .result) _ arrived (c .enum-told2 .given .1)
     ∙ sym (later-phases (a .kind) (a .sends) (a .s) (slotAt (a .pool .now) (a .at .size) (a .at .index)) (messageWith (a .a) (a .residues .now)) (a .room))
 
@@ -44,7 +45,8 @@ unfolding arriving roomTests
 check-kept-requires c κs =
     let at = c .before .before in
     let a = at .before .before .before .before .before .before .before .args in
-    let arrived = also _ _ (at .worst .ensures) (at .before .before .before .check-later .ensures) (rw (at .before .before .has-room .ensures) at (at .before .check-room .ensures)) in
+    let arrived = also _ _ (at .worst .ensures) (at .before .before .before .check-later .ensures)
+    (rw (at .before .before .has-room .ensures) at (at .before .check-room .ensures)) in
     arriving-known (a .kind) (a .sends) (a .s) (slotAt (a .pool .now) (a .at .size) (a .at .index)) (messageWith (a .a) (a .residues .now)) (a .room)
     (sym arrived ∙ ap checked (c .enum-told .given .1))
 
@@ -53,7 +55,8 @@ unfolding arriving roomTests
 returns-2 c =
     let at = c .before .before .before in
     let a = at .before .before .before .before .before .before .before .args in
-    let arrived = also _ _ (at .worst .ensures) (at .before .before .before .check-later .ensures) (rw (at .before .before .has-room .ensures) at (at .before .check-room .ensures)) in
+    let arrived = also _ _ (at .worst .ensures) (at .before .before .before .check-later .ensures)
+    (rw (at .before .before .has-room .ensures) at (at .before .check-room .ensures)) in
     c .check-kept .ensures
     ∙ sym (later-phases (a .kind) (a .sends) (a .s) (slotAt (a .pool .now) (a .at .size) (a .at .index)) (messageWith (a .a) (a .residues .now)) (a .room)
     ∙ goes-past (at .worst .result) arrived (c .before .enum-told .given .1))

@@ -72,7 +72,8 @@ array-share-prefix-share c =
     let a = start .args in
     let t = a .s .terms in
     let f = few t (known start .later .session-open .terms .sides) in
-    let l = share-length t (c .before .before .before .before .before .matrix .result .now) (c .before .before .before .before .matrix2 .result .now) (a .residues .now) (f .whole) in
+    let l = share-length t (c .before .before .before .before .before .matrix .result .now) (c .before .before .before .before .matrix2 .result .now)
+    (a .residues .now) (f .whole) in
     let z = after-over (shareOf t _ _ (a .residues .now)) _ (c .before .find-share .ensures) (omega (arith, l, f .mp)) in
     omega (arith, z, f .mp, at .times .ensures)
 
@@ -83,7 +84,8 @@ slice-aggregate-finish c =
     let a = start .args in
     let t = a .s .terms in
     let f = few t (known start .later .session-open .terms .sides) in
-    let l = share-length t (c .before .before .before .before .before .before .matrix .result .now) (c .before .before .before .before .before .matrix2 .result .now) (a .residues .now) (f .whole) in
+    let l = share-length t (c .before .before .before .before .before .before .matrix .result .now)
+    (c .before .before .before .before .before .matrix2 .result .now) (a .residues .now) (f .whole) in
     let z = after-over (shareOf t _ _ (a .residues .now)) _ (c .before .before .find-share .ensures) (omega (arith, l, f .mp)) in
     sym (length-take-le _ _ (omega (arith, z, f .mp, at .times .ensures)))
 

@@ -41,7 +41,12 @@ part-take-up-end c =
 take-up-requires : tie.Need-take-up-requires
 take-up-requires c κs =
     let a = c .before .before .before .before .args in
-    omega (arith, c .before .before .before .before .pre .room, half-body (role (a .end)) (a .t), slot-part-length (a .pool .now) (a .at .size) (a .at .index) (slot-room (a .pool .now) (a .at .size) (a .at .index) (c .before .before .before .before .pre .inside)))
+    omega (
+      arith,
+      c .before .before .before .before .pre .room,
+      half-body (role (a .end)) (a .t),
+      slot-part-length (a .pool .now) (a .at .size) (a .at .index) (slot-room (a .pool .now) (a .at .size) (a .at .index) (c .before .before .before .before .pre .inside)),
+    )
 
 same-length : tie.Need-same-length
 same-length c = search needs

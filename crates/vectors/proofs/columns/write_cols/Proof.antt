@@ -128,7 +128,8 @@ loop-again c =
       part-then (cols (l .i) (a .w) (a .s) (a .p) (a .a .now)) (firstWords (a .p) _) (a .out .now) (l .out) _ (l .i * a .p)
           (cols-length (l .i) (a .w) (a .s) (a .p) (a .a .now)) (search needs) (l .inv .1) (c .before .before .write-copy .ensures)
           ∙ ap (λ (r : List ℕ). over r (a .out .now))
-          (ap (λ (x : List ℕ). cols (l .i) (a .w) (a .s) (a .p) (a .a .now) ++ firstWords (a .p) x) (tail-part (l .i * a .w + a .s) (a .a .now)) ∙ cols-next (l .i) (a .w) (a .s) (a .p) (a .a .now)),
+          (ap (λ (x : List ℕ). cols (l .i) (a .w) (a .s) (a .p) (a .a .now) ++ firstWords (a .p) x) (tail-part (l .i * a .w + a .s) (a .a .now))
+          ∙ cols-next (l .i) (a .w) (a .s) (a .p) (a .a .now)),
       search needs,
     )
 
