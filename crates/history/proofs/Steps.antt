@@ -36,7 +36,10 @@ use Rattle.protocol.proofs.Residues.{input-residues}
 use Rattle.protocol.proofs.Tests.{Decides, TermsFit, OpenFits, MessageFits}
 use Rattle.protocol.proofs.StepTests as tests
 use Rattle.protocol.proofs.CompletionInputs.{taken-by-right, taken-by-left, taken-by-solver, taken-by-blinder}
-use Rattle.history.specs.Ends.{Session, leftEnd, rightEnd, solverEnd, blinderEnd, isBegun, dueIn, termsIn, roleIn, asRight, asSolver, asBlinder, First, right-first, left-only, solver-first, blinder-first, Later, right-last, solver-second, solver-last, blinder-second, blinder-last, right-drop, solver-drop, blinder-drop, kindOf, roleFirst, roleLater, asAny, runFirst, runLater, Step, begins, goes-on, runStep}
+use Rattle.history.specs.Ends.{Session, leftEnd, rightEnd, solverEnd, blinderEnd, isBegun, dueIn, termsIn, roleIn, asRight, asSolver, asBlinder, First}
+use Rattle.history.specs.Ends.{right-first, left-only, solver-first, blinder-first, Later, right-last, solver-second, solver-last, blinder-second}
+use Rattle.history.specs.Ends.{blinder-last, right-drop, solver-drop, blinder-drop, kindOf, roleFirst, roleLater, asAny, runFirst, runLater, Step, begins}
+use Rattle.history.specs.Ends.{goes-on, runStep}
 use Rattle.history.specs.Seen.{takenLater, viewLater, viewFirst}
 use Rattle.history.specs.Claim.{Closes, Ends}
 use Rattle.history.proofs.Replay.{y-sent, x-sent, y1-sent, x1-sent, f-sent, w-sent, t-sent, said-is, incoming-whole, solver-none, blinder-one, right-sends, left-sends, SolverBegan, y1-is, BlinderBegan, x1-is}

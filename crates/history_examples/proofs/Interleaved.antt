@@ -32,7 +32,9 @@ use Rattle.protocol.specs.System.{scratchSize, coinsOf, scratchParts}
 use Rattle.protocol.specs.View.{View, facing}
 use Rattle.protocol.specs.Completion.{said, Taken}
 use Rattle.history.specs.Ends.{Session, Step, dueIn, right-first, left-only, solver-first, blinder-first, right-last, solver-second, solver-last, blinder-second, blinder-last, solver-drop, begins, goes-on, runStep, First, Later}
-use Rattle.history.specs.Log.{Party, first, second, opposite, Call, dealing, beginning, continuing, tryStep, begunIn, Dealing, Did, Entry, dealt, did, World, slotOf, advanceDealing, advanceStep, advance, run, halfRole, holds, Premises, choose, party-eq, roleBy, Place, untouched, place, WasDone, lentTo}
+use Rattle.history.specs.Log.{Party, first, second, opposite, Call, dealing, beginning, continuing, tryStep, begunIn, Dealing, Did, Entry, dealt, did, World}
+use Rattle.history.specs.Log.{slotOf, advanceDealing, advanceStep, advance, run, halfRole, holds, Premises, choose, party-eq, roleBy, Place, untouched, place}
+use Rattle.history.specs.Log.{WasDone, lentTo}
 use Rattle.history.specs.Contents.{half}
 use Rattle.history.specs.Seen.{view}
 use Rattle.history.specs.Right.{newest, result, Paired, AddTo, OnlySolution, Demand2, DealtNow, HasServed, TakenNow, TermsOf, SentTo, FairLater, SoFar, Stood}

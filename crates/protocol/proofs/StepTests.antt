@@ -24,7 +24,11 @@ use Rattle.protocol.specs.Tape.{Slot, slotWords, left, right, blinder, s
 use Rattle.protocol.specs.Message.{Message, kindSort, messageSize, messageTests, dueTests}
 use Rattle.protocol.specs.Step.{isOpen}
 use Rattle.protocol.specs.Product.{closedRight, rightFirstEffect, rightFirstTests, rightFirst, leftEffect, leftTests, leftStep, rightLastEffect, rightLastTests, rightLast}
-use Rattle.protocol.specs.System.{closedSolver, closedBlinder, sideSize, keptS, keptM, keptY, scratchSize, scratchParts, regularTests, keptTests, blinderTests, solverTests, coinsOf, solverFirstEffect, solverFirstTests, solverFirst, blinderFirstEffect, blinderFirstTests, blinderFirst, solverSecondEffect, solverSecondTests, solverSecond, blinderSecondEffect, blinderSecondTests, blinderSecond, solverLastEffect, solverLastTests, solverLast, blinderLastEffect, blinderLastTests, blinderLast}
+use Rattle.protocol.specs.System.{closedSolver, closedBlinder, sideSize, keptS, keptM, keptY, scratchSize, scratchParts, regularTests, keptTests}
+use Rattle.protocol.specs.System.{blinderTests, solverTests, coinsOf, solverFirstEffect, solverFirstTests, solverFirst, blinderFirstEffect}
+use Rattle.protocol.specs.System.{blinderFirstTests, blinderFirst, solverSecondEffect, solverSecondTests, solverSecond, blinderSecondEffect}
+use Rattle.protocol.specs.System.{blinderSecondTests, blinderSecond, solverLastEffect, solverLastTests, solverLast, blinderLastEffect, blinderLastTests}
+use Rattle.protocol.specs.System.{blinderLast}
 use Rattle.protocol.specs.Drop.{dropped, dropRight, dropSolver, dropBlinder}
 use Rattle.protocol.proofs.Judge.{Pass, _also_, _next_, nothing, split, here, pass-given, given-pass}
 use Rattle.protocol.proofs.Tests.{Decides, decides, TermsFit, product-of-system, FirstFits, first-tests, open-due, OpenFits, open-tests, LaterFits, later-tests, MessageFits, message-facts, message-own, message-due, input-tests, room-tests, draw-tests}

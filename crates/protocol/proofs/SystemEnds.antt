@@ -34,7 +34,9 @@ use Rattle.protocol.specs.Drawing.{residuesOf}
 use Rattle.protocol.specs.Bounds.{system, columns, allBelow}
 use Rattle.protocol.specs.Tape.{Slot, slotWords, blinder, solver, READY, IN-USE}
 use Rattle.protocol.specs.Message.{noMessage, messageOf, messageLayout, messageSize}
-use Rattle.protocol.specs.System.{padded, sideSize, keptS, keptM, keptY, scratchLayout, scratchSize, scratchParts, coinsOf, jointSum, solverFirstEffect, solverFirst, blinderFirstEffect, blinderFirst, solverSecondEffect, solverSecond, blinderSecondEffect, blinderSecond, solverLastEffect, solverLast, blinderLastEffect, blinderLast}
+use Rattle.protocol.specs.System.{padded, sideSize, keptS, keptM, keptY, scratchLayout, scratchSize, scratchParts, coinsOf, jointSum, solverFirstEffect}
+use Rattle.protocol.specs.System.{solverFirst, blinderFirstEffect, blinderFirst, solverSecondEffect, solverSecond, blinderSecondEffect, blinderSecond}
+use Rattle.protocol.specs.System.{solverLastEffect, solverLast, blinderLastEffect, blinderLast}
 use Rattle.protocol.proofs.Slots.{written}
 use Rattle.protocol.proofs.Residues.{residues-below, residues-drawn, take-over, parts-over, over-length, zeros-below}
 use Rattle.protocol.proofs.Tests.{TermsFit, draw-tests}

@@ -51,9 +51,13 @@ worst-requires-4 c κs = search needs
 returns : tie.Need-returns
 unfolding sizeTests
 returns c =
-    also (_ ∷ []) _ (c .worst4 .ensures)
-    (c .before .before .before .before .before .before .before .before .before .before .before .before .need .ensures)
-    (also (_ ∷ []) _ (c .before .worst3 .ensures) (rw (c .before .before .before .before .before .before .before .before .before .before .before .sides-fit .ensures) at (c .before .before .before .before .before .before .before .before .before .before .need2 .ensures)) (also (_ ∷ []) _ (c .before .before .worst2 .ensures) (c .before .before .before .before .before .before .before .before .need3 .ensures) (also (_ ∷ []) _ (c .before .before .before .worst .ensures) (rw (c .before .before .before .before .before .before .before .times .ensures) at (c .before .before .before .before .before .before .need4 .ensures)) (rw (c .before .before .before .before .before .times2 .ensures) at (c .before .before .before .before .need5 .ensures)))))
+    let inner = c .before .before .before .before in
+    let sides = rw (inner .before .before .before .before .before .before .before .sides-fit .ensures) at (inner .before .before .before .before .before .before .need2 .ensures) in
+    let x = rw (inner .before .before .before .times .ensures) at (inner .before .before .need4 .ensures) in
+    let y = rw (inner .before .times2 .ensures) at (inner .need5 .ensures) in
+    let both = also (_ ∷ []) _ (c .before .before .before .worst .ensures) x y in
+    let rest = also (_ ∷ []) _ (c .before .before .worst2 .ensures) (inner .before .before .before .before .need3 .ensures) both in
+    also (_ ∷ []) _ (c .worst4 .ensures) (inner .before .before .before .before .before .before .before .before .need .ensures) (also (_ ∷ []) _ (c .before .worst3 .ensures) sides rest)
 
 pub check-sizes-spec : {M : Type 1} → statement M
 check-sizes-spec =
