@@ -10,14 +10,17 @@
 #include <string.h>
 
 #define POOL 8192
-#define WORDS 6000
+#define WORDS 8192
+#define TURNS 64
 
 size_t bench_deal_product(uint32_t *first, size_t n_first, uint32_t *second, size_t n_second, size_t size, size_t index, uint32_t tape, uint32_t q,
                           uint32_t m, uint32_t k, uint32_t p, const uint32_t *words, size_t n_words);
 size_t bench_deal_system(uint32_t *first, size_t n_first, uint32_t *second, size_t n_second, size_t size, size_t index, uint32_t tape, uint32_t q,
                          uint32_t n, const uint32_t *words, size_t n_words);
 
-static uint32_t first[POOL], second[POOL], words[WORDS], q;
+static uint32_t first[POOL], second[POOL], words[TURNS * WORDS], q;
+static uint32_t turns = 1; // after how many turns the same words are drawn from again
+static const uint32_t *raw;
 static size_t m, k, p, size;
 static nmod_mat_t x0, y0, a0, b0, blind, r, g, v;
 
@@ -27,7 +30,7 @@ static int draw(nmod_mat_t a, size_t *at) {
     for (slong i = 0; i < a->r; i++)
         for (slong j = 0; j < a->c;) {
             if (*at == WORDS) return 0;
-            uint32_t w = words[(*at)++];
+            uint32_t w = raw[(*at)++];
             if (w >= below) continue;
             nmod_mat_entry(a, i, j++) = w % q;
         }
@@ -90,10 +93,18 @@ static uint64_t looked_at(size_t read, uint32_t i) {
     return sum;
 }
 
-static uint64_t our_product(uint32_t i) { return looked_at(bench_deal_product(first, POOL, second, POOL, size, 1, i + 1, q, m, k, p, words, WORDS), i); }
-static uint64_t flint_product(uint32_t i) { return looked_at(deal_product(1, i + 1), i); }
+static void turn(uint32_t i) { raw = words + i % turns * WORDS; }
 
-static uint64_t our_system(uint32_t i) { return looked_at(bench_deal_system(first, POOL, second, POOL, size, 1, i + 1, q, m, words, WORDS), i) + second[size * 2 - 1]; }
+static uint64_t our_product(uint32_t i) {
+    turn(i);
+    return looked_at(bench_deal_product(first, POOL, second, POOL, size, 1, i + 1, q, m, k, p, raw, WORDS), i);
+}
+static uint64_t flint_product(uint32_t i) {
+    turn(i);
+    return looked_at(deal_product(1, i + 1), i);
+}
+
+static uint64_t our_system(uint32_t i) { return looked_at(bench_deal_system(first, POOL, second, POOL, size, 1, i + 1, q, m, raw, WORDS), i) + second[size * 2 - 1]; }
 static uint64_t flint_system(uint32_t i) { return looked_at(deal_system(1, i + 1, n_is_prime(q)), i) + second[size * 2 - 1]; }
 static uint64_t divided_system(uint32_t i) { return looked_at(deal_system(1, i + 1, by_division(q)), i) + second[size * 2 - 1]; }
 
@@ -103,13 +114,13 @@ static void product(uint32_t modulo, size_t rows, size_t sides, size_t columns) 
     size = 7 + (m > p ? m * k : k * p) + m * p;
     memset(first, 0, sizeof first), memset(second, 0, sizeof second);
     nmod_mat_init(x0, m, k, q), nmod_mat_init(y0, k, p, q), nmod_mat_init(a0, m, p, q), nmod_mat_init(b0, m, p, q);
-    snprintf(name, sizeof name, "%zu x %zu x %zu, q %u: FLINT", m, k, p, q);
+    snprintf(name, sizeof name, "%zu x %zu x %zu, q %u%s: FLINT", m, k, p, q, turns > 1 ? ", new words" : "");
     row(name, our_product, flint_product, 200, 1.50);
     nmod_mat_clear(x0), nmod_mat_clear(y0), nmod_mat_clear(a0), nmod_mat_clear(b0);
 }
 
 static void draw_words(void) {
-    for (size_t i = 0; i < WORDS; i++) words[i] = random32();
+    for (size_t i = 0; i < TURNS * WORDS; i++) words[i] = random32();
 }
 
 static void system_of(uint32_t modulo, size_t n) {
@@ -138,12 +149,16 @@ static void stacks(void) {
 }
 
 int main(void) {
-    static const uint32_t moduli[] = {7, 65537, 2147483647};
+    // Of 16777259 some raw words are thrown away, of 1073741827 a quarter; else next to none.
+    static const uint32_t moduli[] = {7, 65537, 16777259, 1073741827, 2147483647};
     draw_words();
     heading("dealing a product beside");
-    for (int i = 0; i < 3; i++) product(moduli[i], 1, 2048, 1), product(moduli[i], 32, 64, 32);
+    for (int i = 0; i < 5; i++) product(moduli[i], 1, 2048, 1), product(moduli[i], 32, 64, 32);
+    turns = TURNS; // a processor learns which words are thrown away, where they stay the same
+    product(1073741827, 1, 2048, 1);
+    turns = 1, turn(0);
     heading("dealing a system beside");
-    system_of(7, 16), system_of(257, 16), system_of(65537, 16), system_of(2147483647, 16);
+    system_of(7, 16), system_of(257, 16), system_of(65537, 16), system_of(1073741827, 16), system_of(2147483647, 16);
     printf("\n");
     stacks();
     return 0;

@@ -4,16 +4,15 @@
 --   made-written   a matrix that was made in a buffer and is copied from there
 -- Assumes nothing.
 use mathlib.Core.Path.{_≡_, refl, sym, ap, _∙_}
-use mathlib.Core.List.{List, [], _∷_, _++_, append-assoc}
-use Prim.Native.Nat.{ℕ, zero, suc, _+_, _-_, _≤_}
-use native.Mathlib.Nat.{le-of-suc-le-suc}
+use mathlib.Core.List.{List, _++_, append-assoc}
+use Prim.Native.Nat.{ℕ, _+_, _-_, _≤_}
 use native.Mathlib.Omega.{arith}
 use lib.ListN.{length, take, drop}
 use lib.Seq.{take-append-add, drop-append-add, take-at, drop-at, drop-drop, length-take-le}
 use borrow.Rule.Slice.PartMut.{midOf, putMid}
-use Rattle.algebra.specs.Matrix.{tabulate}
 use Rattle.algebra.specs.Words.{over, writtenAt}
 use Rattle.vectors.specs.Fill.{firstWords}
+use Rattle.vectors.proofs.Fill.{first-words}
 use Rattle.vectors.proofs.Written.{over-part, over-then, part-written}
 
 -- a write behind x
@@ -66,12 +65,6 @@ module _ (make : List ℕ → List ℕ → List ℕ → List ℕ) (f s nx ny na 
 
 -- ---- buffers
 
-copied : (n : ℕ) (a : List ℕ) → n ≤ length a → firstWords n a ≡ take n a
-unfolding firstWords tabulate
-copied zero a h = refl
-copied (suc n) [] h = absurd (omega arith)
-copied (suc n) (x ∷ a) h = ap (λ (l : List ℕ). x ∷ l) (copied n a (le-of-suc-le-suc h))
-
 pub made-written : (n at : ℕ) (x d buffer second ys : List ℕ) → length x ≡ n → n ≤ length buffer → at ≤ length second → buffer ≡ over x d
     → ys ≡ over (firstWords n buffer) (midOf at (length second - at) second) → putMid at (length second - at) second ys ≡ writtenAt at x second
-made-written n at x d buffer second ys e room h o f = part-written at x second ys h (rw (copied n buffer room ∙ over-part n x d o e) at f)
+made-written n at x d buffer second ys e room h o f = part-written at x second ys h (rw (first-words n buffer room ∙ over-part n x d o e) at f)

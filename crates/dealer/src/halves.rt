@@ -31,7 +31,7 @@ ghost use Rattle.dealer.specs.Dealt.{firstHalfWords, secondHalfWords};
 
 // n residues, drawn from the word at `from` on, over the words from `at` on. The answer is where the next drawing begins.
 fn draw_next(q: u32, n: usize, words: &[u32], from: usize, out: &mut [u32], at: usize) -> usize
-    requires { ⌜ (0 < q) × (from ≤ length (now words)) × (n ≤ length (residuesOf q (drop from (now words)))) × (at + n ≤ length (now out)) ⌝ }
+    requires { ⌜ ((0 < q) × (q < 2147483648)) × (from ≤ length (now words)) × (n ≤ length (residuesOf q (drop from (now words)))) × (at + n ≤ length (now out)) ⌝ }
     ensures { λ r. ⌜ r ≡ from + wordsRead q n (drop from (now (words .entry))) ⌝ }
     ensures { λ _. ⌜ now (out .exit) ≡ writtenAt at (drawn q n (drop from (now (words .entry)))) (now (out .entry)) ⌝ }
 {
@@ -52,7 +52,7 @@ fn draw_three(
     second: &mut [u32],
     second_at: usize,
 ) -> usize
-    requires { ⌜ (0 < q) × (a + (b + c) ≤ length (residuesOf q (now words)))
+    requires { ⌜ ((0 < q) × (q < 2147483648)) × (a + (b + c) ≤ length (residuesOf q (now words)))
         × («first_at» + a + c ≤ length (now first)) × («second_at» + b ≤ length (now second)) ⌝ }
     ensures { λ r. ⌜ r ≡ wordsRead q (a + (b + c)) (now (words .entry)) ⌝ }
     ensures { λ _. ⌜ now (first .exit) ≡ writtenAt «first_at» (firstAndThird a b c (residuesOf q (now (words .entry)))) (now (first .entry)) ⌝ }

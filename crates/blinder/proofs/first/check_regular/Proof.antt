@@ -35,7 +35,7 @@ slice-aggregate-draw c = search needs
 draw-requires : tie.Need-draw-requires
 draw-requires c κs =
     let told = start (c .before) in (
-      told .pre .0 .some-q,
+      (told .pre .0 .some-q, told .pre .0 .small-q),
       enough (c .before),
       omega (arith, c .before .times .ensures, square-bound (told .args .t) (told .pre .0 .sides), length-replicate {A = ℕ} 256 0),
     )

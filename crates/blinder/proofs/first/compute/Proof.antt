@@ -27,7 +27,7 @@ draw-requires : tie.Need-draw-requires
 draw-requires c κs =
     let f = known (c .before .before .before .before .before .before .before .before .before) in
     let size = c .before .scratch-size .ensures in
-    (omega (arith, f .first .terms .big), omega (arith, size, f .enough), omega (arith, size, f .scratch-room))
+    ((omega (arith, f .first .terms .big), omega (arith, f .first .terms .small)), omega (arith, size, f .enough), omega (arith, size, f .scratch-room))
 
 matrix-requires : tie.Need-matrix-requires
 matrix-requires c κs = (first-placed blinder _ _ (known (start (c .before .before)) .first), omega arith)

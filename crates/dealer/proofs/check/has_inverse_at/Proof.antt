@@ -34,7 +34,7 @@ draw-requires c κs =
     let h = c .before .before .before .before .pre in
     let a = c .before .before .before .before .args in
     let times = c .before .before .times in
-    (h .1 .some-q, rw (tail-part (a .at) (a .words .now), times .ensures) (h .3), omega (arith, times .ensures, square-few (a .n) (h .1 .few-n)))
+    ((h .1 .some-q, h .1 .small-q), rw (tail-part (a .at) (a .words .now), times .ensures) (h .3), omega (arith, times .ensures, square-few (a .n) (h .1 .few-n)))
 
 array-share-prefix-mask : tie.Need-array-share-prefix-mask
 array-share-prefix-mask c =

@@ -45,7 +45,7 @@ draw-requires c κs =
     let f = left-known (a .t) s (a .x .now) (a .words .now) (taken 1 (a .t) (a .residues .now)) (length (a .out .now)) (length (a .share .now)) (start .pre) in
     let enough = f .enough in
     let n = c .before .times .ensures in
-    (omega (arith, f .first .terms .big), omega (arith, enough, n), omega (arith, f .share-room, n))
+    ((omega (arith, f .first .terms .big), omega (arith, f .first .terms .small)), omega (arith, enough, n), omega (arith, f .share-room, n))
 
 slice-reshare-prefix-write-message : tie.Need-slice-reshare-prefix-write-message
 slice-reshare-prefix-write-message c =
