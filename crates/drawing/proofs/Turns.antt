@@ -1,5 +1,5 @@
 -- One turn of a loop over raw words.
--- Gathers, gathers-..  the loop that gathers the words kept
+-- Collects, collects-..  the loop that collects the words kept
 -- drawn-filled         their residues are what is drawn
 -- Passed, passed-..  the loop that counts the words to read
 -- kept-gives, kept-read, all-read  where none of the words is thrown away
@@ -24,7 +24,7 @@ use Rattle.algebra.proofs.Lists.{length-tabulate}
 use Rattle.vectors.specs.Fill.{filled, firstWords}
 use Rattle.vectors.proofs.Fill.{filled-new, filled-over, filled-length, tabulate-ext, first-words}
 use Rattle.drawing.specs.declared.Reading.the-variants.{Enough, Dry}
-use Rattle.drawing.specs.Extent.{readFor, residueAt, Kept, Gathered}
+use Rattle.drawing.specs.Extent.{readFor, residueAt, Kept, Collected}
 
 pub kept-word : (q w below : ℕ) → below ≡ q * (4294967296 / q) → w < below → isKept q w ≡ true
 unfolding isKept
@@ -68,9 +68,9 @@ module _ (q : ℕ) (words : List ℕ) (i : ℕ) (inside : i < length words) wher
   unfolding wordsRead
   read-thrown n h k = rw (add-one, drop-cons words i 0, k, ne-eqb n 0 (λ e. omega arith))
 
--- ---- gathering: of n kept words j stand at the start of what was d, from the first i words
+-- ---- collecting: of n kept words j stand at the start of what was d, from the first i words
 
-pub record Gathers (q n : ℕ) (words d : List ℕ) (i j : ℕ) (out : List ℕ) : Type 0 where
+pub record Collects (q n : ℕ) (words d : List ℕ) (i j : ℕ) (out : List ℕ) : Type 0 where
   pub few : j ≤ n
   pub rest : residuesOf q (drop i words) ≡ drop j (residuesOf q words)
   pub read : i + wordsRead q (n - j) (drop i words) ≡ wordsRead q n words
@@ -85,15 +85,15 @@ next-at [] (suc j) x l e = absurd (let z : _≡_ {A = ℕ} 0 1 = cc in omega ari
 next-at (y ∷ r) zero x l e = (cc, cc, omega arith)
 next-at (y ∷ r) (suc j) x l e = let o = next-at r j x l e in (o .0, o .1, omega (arith, o .2))
 
-pub gathers-start : (q n : ℕ) (words d : List ℕ) → Gathers q n words d 0 0 d
-gathers-start q n words d =
+pub collects-start : (q n : ℕ) (words d : List ℕ) → Collects q n words d 0 0 d
+collects-start q n words d =
     let all : n - 0 ≡ n = omega arith in
     record { few = omega arith; rest = refl; read = rw all (omega arith); gives = λ t h. absurd (omega arith); past = refl; same = refl }
 
-module _ (q n : ℕ) (words d : List ℕ) (i j : ℕ) {out : List ℕ} (s : Gathers q n words d i j out) (enough : n ≤ length (residuesOf q words)) (more : j < n) where
+module _ (q n : ℕ) (words d : List ℕ) (i j : ℕ) {out : List ℕ} (s : Collects q n words d i j out) (enough : n ≤ length (residuesOf q words)) (more : j < n) where
   -- a word is left
-  pub gathers-inside : i < length words
-  gathers-inside =
+  pub collects-inside : i < length words
+  collects-inside =
       omega (arith, ap length (s .rest), length-drop j (residuesOf q words), residues-few q (drop i words), length-drop i words)
 
   -- the words before the one that is written
@@ -101,13 +101,13 @@ module _ (q n : ℕ) (words d : List ℕ) (i j : ℕ) {out : List ℕ} (s : Gath
   unfolding residueAt
   before w t h = rw (getD-set-other out j t w 0 (λ e. omega arith)) (s .gives t h)
 
-  gathers-kept : n ≤ length d → isKept q (getD words i 0) ≡ true → Gathers q n words d (i + 1) (j + 1) (set out j (getD words i 0))
+  collects-kept : n ≤ length d → isKept q (getD words i 0) ≡ true → Collects q n words d (i + 1) (j + 1) (set out j (getD words i 0))
   unfolding residueAt
-  gathers-kept fits k =
+  collects-kept fits k =
       let w : ℕ = getD words i 0 in
-      let at = next-at (residuesOf q words) j _ _ (sym (s .rest) ∙ residues-kept q words i gathers-inside k) in
+      let at = next-at (residuesOf q words) j _ _ (sym (s .rest) ∙ residues-kept q words i collects-inside k) in
       let less : n - j - 1 ≡ n - (j + 1) = omega arith in
-      let read = read-kept q words i gathers-inside (n - j) (omega arith) k in
+      let read = read-kept q words i collects-inside (n - j) (omega arith) k in
       let here : residueOf q (getD (set out j w) j 0) ≡ getD (residuesOf q words) j 0 =
       rw (getD-set-same out j w 0 (omega (arith, s .same))) (sym (at .0)) in
       record {
@@ -119,33 +119,33 @@ module _ (q n : ℕ) (words d : List ℕ) (i j : ℕ) {out : List ℕ} (s : Gath
         same = simp length-set (s .same);
       }
 
-  gathers-thrown : isKept q (getD words i 0) ≡ false → Gathers q n words d (i + 1) j (set out j (getD words i 0))
-  gathers-thrown k = record {
+  collects-thrown : isKept q (getD words i 0) ≡ false → Collects q n words d (i + 1) j (set out j (getD words i 0))
+  collects-thrown k = record {
     few = s .few;
-    rest = sym (residues-thrown q words i gathers-inside k) ∙ s .rest;
-    read = omega (arith, s .read, read-thrown q words i gathers-inside (n - j) (omega arith) k);
+    rest = sym (residues-thrown q words i collects-inside k) ∙ s .rest;
+    read = omega (arith, s .read, read-thrown q words i collects-inside (n - j) (omega arith) k);
     gives = before (getD words i 0);
     past = drop-set-lt n out j (getD words i 0) more ∙ s .past;
     same = simp length-set (s .same);
   }
 
-  pub gathers-next : n ≤ length d → (b : Bool) → isKept q (getD words i 0) ≡ b → Gathers q n words d (i + 1) (j + bit b) (set out j (getD words i 0))
-  gathers-next fits true k = gathers-kept fits k
-  gathers-next fits false k = let z : j + 0 ≡ j = omega arith in rw z (gathers-thrown k)
+  pub collects-next : n ≤ length d → (b : Bool) → isKept q (getD words i 0) ≡ b → Collects q n words d (i + 1) (j + bit b) (set out j (getD words i 0))
+  collects-next fits true k = collects-kept fits k
+  collects-next fits false k = let z : j + 0 ≡ j = omega arith in rw z (collects-thrown k)
 
 pub read-none : (q : ℕ) (ws : List ℕ) → wordsRead q 0 ws ≡ 0
 unfolding wordsRead
 read-none q [] = refl
 read-none q (w ∷ ws) = refl
 
-module _ (q n : ℕ) (words d : List ℕ) (i j : ℕ) {out : List ℕ} (s : Gathers q n words d i j out) (end : n ≤ j) where
-  pub gathers-read : i ≡ wordsRead q n words
-  gathers-read =
+module _ (q n : ℕ) (words d : List ℕ) (i j : ℕ) {out : List ℕ} (s : Collects q n words d i j out) (end : n ≤ j) where
+  pub collects-read : i ≡ wordsRead q n words
+  collects-read =
       let none : n - j ≡ 0 = omega (arith, s .few) in
       omega (arith, rw none at (s .read), read-none q (drop i words))
 
-  pub gathered : Gathered q n words d out
-  gathered = record { gives = λ t h. s .gives t (omega arith); past = s .past; same = s .same }
+  pub collected : Collected q n words d out
+  collected = record { gives = λ t h. s .gives t (omega arith); past = s .past; same = s .same }
 
 -- ---- residues written over the first n words
 
@@ -211,10 +211,10 @@ kept-gives q (suc n) (w ∷ words) fits all zero h = rw (all 0 h)
 kept-gives q (suc n) (w ∷ words) fits all (suc t) h =
     rw (all 0 (omega arith)) (kept-gives q n words (le-of-suc-le-suc fits) (λ j l. all (suc j) (omega arith)) t (le-of-suc-le-suc h))
 
-pub kept-gathered : (q n : ℕ) (words d : List ℕ) {out : List ℕ} → n ≤ length words → n ≤ length d → Kept q n words
-    → out ≡ over (firstWords n words) d → Gathered q n words d out
+pub kept-collected : (q n : ℕ) (words d : List ℕ) {out : List ℕ} → n ≤ length words → n ≤ length d → Kept q n words
+    → out ≡ over (firstWords n words) d → Collected q n words d out
 unfolding residueAt firstWords
-kept-gathered q n words d {out} fits room all e =
+kept-collected q n words d {out} fits room all e =
     let f : ℕ → ℕ = λ j. getD words j 0 in
     let o : out ≡ filled n f d = e ∙ sym (filled-over f d n) in
     record {

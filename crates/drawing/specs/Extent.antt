@@ -1,6 +1,6 @@
 -- How far raw words are read, as an answer, and what the loops of drawing leave. Assumes nothing.
 --   readFor          how many words are read
---   Kept, Gathered   which words are kept, and that they stand together
+--   Kept, Collected   which words are kept, and that they stand together
 --   residueAt        the residue of a word at a place
 use mathlib.Core.Path.{_≡_}
 use mathlib.Core.Bool.{true, cond}
@@ -24,7 +24,7 @@ unfoldable pub residueAt : ℕ → List ℕ → ℕ → ℕ
 residueAt q a j = residueOf q (getD a j 0)
 
 -- the first n words of `out` give the first n residues of `words`, and those past n are d's
-pub record Gathered (q n : ℕ) (words d out : List ℕ) : Type 0 where
+pub record Collected (q n : ℕ) (words d out : List ℕ) : Type 0 where
   pub gives : (j : ℕ) → j < n → residueAt q out j ≡ getD (residuesOf q words) j 0
   pub past : drop n out ≡ drop n d
   pub same : length out ≡ length d

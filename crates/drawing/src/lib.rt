@@ -17,7 +17,7 @@ ghost use Rattle.protocol.specs.Drawing.{residuesOf, drawn, wordsRead};
 ghost use Rattle.algebra.specs.Count.{bit};
 ghost use Rattle.algebra.specs.Words.{over};
 ghost use Rattle.vectors.specs.Fill.{filled};
-ghost use Rattle.drawing.specs.Extent.{readFor, residueAt, Kept, Gathered};
+ghost use Rattle.drawing.specs.Extent.{readFor, residueAt, Kept, Collected};
 
 // Words below c are kept. It is 2^32 where q divides that.
 fn limit(q: u32) -> u64
@@ -90,10 +90,10 @@ fn kept(below: u64, w: u32) -> usize
 }
 
 // Word by word: one thrown away is written too, and the next word over it, so that none decides.
-fn gather_each(q: u32, n: usize, words: &[u32], out: &mut [u32]) -> usize
+fn collect_each(q: u32, n: usize, words: &[u32], out: &mut [u32]) -> usize
     requires { ⌜ (0 < q) × (n ≤ length (residuesOf q (now words))) × (n ≤ length (now out)) ⌝ }
     ensures { λ r. ⌜ r ≡ wordsRead q n (now (words .entry)) ⌝ }
-    ensures { λ _. ⌜ Gathered q n (now (words .entry)) (now (out .entry)) (now (out .exit)) ⌝ }
+    ensures { λ _. ⌜ Collected q n (now (words .entry)) (now (out .entry)) (now (out .exit)) ⌝ }
 {
     let below = limit(q);
     let mut i = 0;
@@ -108,16 +108,16 @@ fn gather_each(q: u32, n: usize, words: &[u32], out: &mut [u32]) -> usize
 }
 
 // The first n words kept, over the start of `out`; the answer is how many were read.
-fn gather(q: u32, n: usize, words: &[u32], out: &mut [u32]) -> usize
+fn collect(q: u32, n: usize, words: &[u32], out: &mut [u32]) -> usize
     requires { ⌜ (0 < q) × (n ≤ length (residuesOf q (now words))) × (n ≤ length (now out)) ⌝ }
     ensures { λ r. ⌜ r ≡ wordsRead q n (now (words .entry)) ⌝ }
-    ensures { λ _. ⌜ Gathered q n (now (words .entry)) (now (out .entry)) (now (out .exit)) ⌝ }
+    ensures { λ _. ⌜ Collected q n (now (words .entry)) (now (out .entry)) (now (out .exit)) ⌝ }
 {
     if all_kept(q, n, words) {
         write_copy(n, words, out);
         return n;
     }
-    gather_each(q, n, words, out)
+    collect_each(q, n, words, out)
 }
 
 // The first n words modulo q, in place.
@@ -137,7 +137,7 @@ pub fn draw(q: u32, n: usize, words: &[u32], out: &mut [u32]) -> usize
     ensures { λ r. ⌜ r ≡ wordsRead q n (now (words .entry)) ⌝ }
     ensures { λ _. ⌜ now (out .exit) ≡ over (drawn q n (now (words .entry))) (now (out .entry)) ⌝ }
 {
-    let read = gather(q, n, words, out);
+    let read = collect(q, n, words, out);
     reduce_words(q, n, out);
     read
 }

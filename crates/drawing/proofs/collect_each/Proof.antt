@@ -1,15 +1,15 @@
--- `drawing::gather_each` meets its contract: each turn keeps or throws away one word. Assumes nothing.
+-- `drawing::collect_each` meets its contract: each turn keeps or throws away one word. Assumes nothing.
 use Prim.Native.Nat.{_-_}
 use native.Mathlib.Omega.{arith}
 use lib.Dec.{ltb}
 use lib.ListN.{length, getD}
 use borrow.Author.Needs.{needs}
-use Rattle.drawing.proofs.Turns.{Gathers, kept-by, bit-few, gathers-start, gathers-inside, gathers-next, gathers-read, gathered}
-use Rattle.drawing.proofs.gather_each.Statement.{statement}
-use Rattle.drawing.proofs.gather_each.Tie as tie
+use Rattle.drawing.proofs.Turns.{Collects, kept-by, bit-few, collects-start, collects-inside, collects-next, collects-read, collected}
+use Rattle.drawing.proofs.collect_each.Statement.{statement}
+use Rattle.drawing.proofs.collect_each.Tie as tie
 
 abbrev Inv-loop : tie.InvT-loop
-Inv-loop q n words out₀ below i₀ j₀ out i j = Gathers q n words out₀ i j out
+Inv-loop q n words out₀ below i₀ j₀ out i j = Collects q n words out₀ i j out
 
 abbrev μ-loop : tie.MeasureT-loop
 μ-loop q n words out₀ below i₀ j₀ out i j = length words - i
@@ -18,16 +18,16 @@ limit-requires : tie.Need-limit-requires Inv-loop μ-loop
 limit-requires c κs = search needs
 
 loop-holds : tie.Need-loop-holds Inv-loop μ-loop
-loop-holds c = gathers-start _ _ _ _
+loop-holds c = collects-start _ _ _ _
 
 mul-w : tie.Need-mul-w Inv-loop μ-loop
 mul-w c =
-    let h = gathers-inside _ _ _ _ _ _ (c .before .loop .inv) (c .before .before .before .before .before .pre .1) (search needs) in
+    let h = collects-inside _ _ _ _ _ _ (c .before .loop .inv) (c .before .before .before .before .before .pre .1) (search needs) in
     search needs
 
 shared-slice-read-w : tie.Need-shared-slice-read-w Inv-loop μ-loop
 shared-slice-read-w c =
-    let h = gathers-inside _ _ _ _ _ _ (c .before .before .loop .inv) (c .before .before .before .before .before .before .pre .1) (search needs) in
+    let h = collects-inside _ _ _ _ _ _ (c .before .before .loop .inv) (c .before .before .before .before .before .before .pre .1) (search needs) in
     search needs
 
 mul-out : tie.Need-mul-out Inv-loop μ-loop
@@ -48,28 +48,28 @@ add-j c =
 
 add-i : tie.Need-add-i Inv-loop μ-loop
 add-i c =
-    let h = gathers-inside _ _ _ _ _ _ (c .before .before .before .loop .inv) (c .before .before .before .before .before .before .before .pre .1) (search needs) in
+    let h = collects-inside _ _ _ _ _ _ (c .before .before .before .loop .inv) (c .before .before .before .before .before .before .before .pre .1) (search needs) in
     search needs
 
 loop-less : tie.Need-loop-less Inv-loop μ-loop
 loop-less c =
-    let h = gathers-inside _ _ _ _ _ _ (c .before .before .before .loop .inv) (c .before .before .before .before .before .before .before .pre .1) (search needs) in
+    let h = collects-inside _ _ _ _ _ _ (c .before .before .before .loop .inv) (c .before .before .before .before .before .before .before .pre .1) (search needs) in
     search needs
 
 loop-again : tie.Need-loop-again Inv-loop μ-loop
 loop-again c =
     let start = c .before .before .before .before .before .before .before in
-    rw (c .kept .ensures) (gathers-next _ _ _ _ _ _ (c .before .before .before .loop .inv) (start .pre .1) (search needs) (start .pre .2) _
+    rw (c .kept .ensures) (collects-next _ _ _ _ _ _ (c .before .before .before .loop .inv) (start .pre .1) (search needs) (start .pre .2) _
     (kept-by (start .args .q) _ _ (c .before .before .before .before .limit .ensures)))
 
 same-length : tie.Need-same-length Inv-loop μ-loop
 same-length c = c .before .loop .inv .same
 
 returns : tie.Need-returns Inv-loop μ-loop
-returns c = (gathers-read _ _ _ _ _ _ (c .before .loop .inv) (search needs), gathered _ _ _ _ _ _ (c .before .loop .inv) (search needs))
+returns c = (collects-read _ _ _ _ _ _ (c .before .loop .inv) (search needs), collected _ _ _ _ _ _ (c .before .loop .inv) (search needs))
 
-pub gather-each-spec : {M : Type 1} → statement M
-gather-each-spec =
+pub collect-each-spec : {M : Type 1} → statement M
+collect-each-spec =
     tie.close
     (tie.spec
     Inv-loop

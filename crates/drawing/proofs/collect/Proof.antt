@@ -1,11 +1,11 @@
--- `drawing::gather` meets its contract: both of its ways do. Assumes nothing.
+-- `drawing::collect` meets its contract: both of its ways do. Assumes nothing.
 use Prim.Native.Nat.{_≤_}
 use native.Mathlib.Omega.{arith}
 use lib.ListN.{length}
 use borrow.Author.Needs.{needs}
-use Rattle.drawing.proofs.Turns.{residues-few, kept-read, kept-gathered}
-use Rattle.drawing.proofs.gather.Statement.{statement}
-use Rattle.drawing.proofs.gather.Tie as tie
+use Rattle.drawing.proofs.Turns.{residues-few, kept-read, kept-collected}
+use Rattle.drawing.proofs.collect.Statement.{statement}
+use Rattle.drawing.proofs.collect.Tie as tie
 
 all-kept-requires : tie.Need-all-kept-requires
 all-kept-requires c κs =
@@ -27,12 +27,12 @@ returns c =
     let fits : a .n ≤ length (a .words .now) = omega (arith, start .pre .1, residues-few (a .q) (a .words .now)) in
     let all = c .before .before .before .before .before .all-kept .ensures (c .before .before .before .before .if1 .taken) in (
       kept-read (a .q) (a .n) (a .words .now) fits all,
-      kept-gathered (a .q) (a .n) (a .words .now) (a .out .now) fits (start .pre .2) all
+      kept-collected (a .q) (a .n) (a .words .now) (a .out .now) fits (start .pre .2) all
           (c .before .before .write-copy .ensures),
     )
 
-gather-each-requires : tie.Need-gather-each-requires
-gather-each-requires c κs = search needs
+collect-each-requires : tie.Need-collect-each-requires
+collect-each-requires c κs = search needs
 
 same-length-2 : tie.Need-same-length-2
 same-length-2 c = search needs
@@ -40,14 +40,14 @@ same-length-2 c = search needs
 returns-2 : tie.Need-returns-2
 returns-2 c = search needs
 
-pub gather-spec : {M : Type 1} → statement M
-gather-spec =
+pub collect-spec : {M : Type 1} → statement M
+collect-spec =
     tie.close
     (tie.spec
     all-kept-requires
     write-copy-requires
     same-length
     returns
-    gather-each-requires
+    collect-each-requires
     same-length-2
     returns-2)
