@@ -7,9 +7,10 @@ use vectors::write_copy;
 use vectors::write_difference;
 use vectors::write_negative;
 ghost use mathlib.Core.Path.{_≡_};
-ghost use Prim.Native.Nat.{_*_, _≤_};
-ghost use lib.ListN.{length};
+ghost use Prim.Native.Nat.{_+_, _*_, _≤_};
+ghost use lib.ListN.{length, take, drop};
 ghost use Rattle.algebra.specs.Matrix.{matAdd, matSub, matMul};
+ghost use Rattle.algebra.specs.Product.{rightShare};
 ghost use Rattle.algebra.specs.Words.{over};
 ghost use Rattle.rows.specs.Shape.{Shape};
 
@@ -60,4 +61,15 @@ pub fn write_share(s: Sides, x: &[u32], y: &[u32], r: &[u32], b: &[u32], out: &m
     let n = s.m * s.p;
     write_difference(s.q, n, r, b, out);
     add_product(s, x, y, out);
+}
+
+// The same, x and r being the two parts of one message.
+pub fn write_share_of(s: Sides, message: &[u32], y: &[u32], b: &[u32], out: &mut [u32])
+    requires { ⌜ Shape (s .q) (s .m) (s .k) (s .p) (length (now message)) (length (now y)) (length (now out))
+        × (s .m * s .k + s .m * s .p ≤ length (now message)) × (s .m * s .p ≤ length (now b)) ⌝ }
+    ensures { λ _. ⌜ now (out .exit) ≡ over (rightShare (s .q) (s .m) (s .k) (s .p) (take (s .m * s .k) (now (message .entry))) (now (y .entry))
+        (drop (s .m * s .k) (now (message .entry))) (now (b .entry))) (now (out .entry)) ⌝ }
+{
+    let n = s.m * s.k;
+    write_share(s, &message[..n], y, &message[n..], b, out);
 }

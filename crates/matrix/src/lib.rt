@@ -16,6 +16,7 @@ pub use formula::write_deal;
 pub use formula::write_masked;
 pub use formula::write_reply;
 pub use formula::write_share;
+pub use formula::write_share_of;
 pub use inner::inner_product;
 pub use product::write_product;
 pub use sides::Sides;

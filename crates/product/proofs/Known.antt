@@ -1,6 +1,6 @@
 -- What is known where tests passed.
 --   first-known, left-known, last-known, drop-known   a step, and a drop, that is accepted
---   answering, sharing                                what the writers ask
+--   answering                                         what the writer of step 2 asks
 --   first-part, second-part                           the parts of a message of kind 2
 -- Assumes nothing.
 use mathlib.Core.Path.{_≡_, refl, sym, _∙_}
@@ -23,10 +23,10 @@ use Rattle.protocol.proofs.StepTests.{RightFirstFits, right-first, LeftFits, le
 use Rattle.protocol.proofs.CompletionLaws.{first-of}
 use Rattle.judging.specs.InOrder.{judged}
 use Rattle.judging.proofs.InOrder.{accepted-by}
-use Rattle.judging.proofs.Fits.{first-placed, open-placed}
+use Rattle.judging.proofs.Fits.{first-placed}
 use Rattle.tape.proofs.Matrices.{matrix-length}
 use Rattle.judging.proofs.KindLaws.{size-1, size-2}
-use Rattle.product.specs.Shape.{Answering, Sharing}
+use Rattle.product.specs.Shape.{Answering}
 
 -- ---- a step that is accepted
 
@@ -47,7 +47,7 @@ last-known x s a share h = right-last x s a share .means (accepted-by (rightLast
 pub drop-known : (due : ℕ) (t : Terms) (s : Slot) → judged (openTests right due t s) ≡ done tt → OpenFits right due t s
 drop-known due t s h = open-tests right due t s .0 (record { all = passed (openTests right due t s) h .0 })
 
--- ---- what the writers ask
+-- ---- what the writer of step 2 asks
 
 pub answering : (t : Terms) (s : Slot) (x words : List ℕ) (a : Message) (room share : ℕ) {u : ℕ} → LeftFits t s x words a room share → u ≡ t .m * t .p
     → Answering t x (part 0 (matrices left t (slotWords s))) (length (a .residues)) u (length (part 1 (matrices left t (slotWords s)))) room
@@ -63,22 +63,6 @@ answering t s x words a room share f e =
       full-u = e;
       full-a = matrix-length left t 1 s p;
       room = omega (arith, f .message-room, size-2 t);
-    }
-
-pub sharing : (x : RightSession) (s : Slot) (a : Message) (share : ℕ) → RightLastFits x s a share
-    → Sharing (x .terms) (length (a .residues)) (length (part 0 (matrices right (x .terms) (slotWords s))))
-    (length (part 1 (matrices right (x .terms) (slotWords s)))) share
-sharing x s a share f =
-    let o = f .later .session-open in
-    let p = open-placed right (x .terms) s o in
-    record {
-      sides = p .sides;
-      some-q = omega (arith, o .terms .big);
-      small-q = omega (arith, o .terms .small);
-      full = f .message .residues .size ∙ sym (size-2 (x .terms));
-      full-y = matrix-length right (x .terms) 0 s p;
-      full-b = matrix-length right (x .terms) 1 s p;
-      room = f .share-room;
     }
 
 -- ---- a message's parts

@@ -1,6 +1,4 @@
--- What the writers of the steps ask. Assumes nothing.
---   Answering  at step 2
---   Sharing    at step 3
+-- What the writer of step 2 asks. Assumes nothing.
 use mathlib.Core.Path.{_≡_}
 use mathlib.Core.Bool.{true}
 use mathlib.Core.List.{List}
@@ -20,13 +18,3 @@ pub record Answering (t : Terms) (x x0 : List ℕ) (y1 u a0 out : ℕ) : Type 0 
   pub full-u : u ≡ t .m * t .p
   pub full-a : a0 ≡ t .m * t .p
   pub room : t .m * t .k + t .m * t .p ≤ out
-
--- of the message's residues, Y0, B0 and the share's slice: their lengths
-pub record Sharing (t : Terms) (residues y0 b0 share : ℕ) : Type 0 where
-  pub sides : sidesFit product (t .m) (t .k) (t .p) ≡ true
-  pub some-q : 0 < t .q
-  pub small-q : t .q < 2147483648
-  pub full : residues ≡ t .m * t .k + t .m * t .p
-  pub full-y : y0 ≡ t .k * t .p
-  pub full-b : b0 ≡ t .m * t .p
-  pub room : t .m * t .p ≤ share

@@ -8,10 +8,9 @@ use judging::step::check_later;
 use judging::step::check_room;
 use judging::worst;
 use matrix::sides_of;
-use matrix::write_share;
+use matrix::write_share_of;
 use protocol::Head;
 use protocol::RightSession;
-use protocol::Terms;
 use tape::End;
 use tape::Place;
 use tape::change::spend_at;
@@ -19,16 +18,12 @@ use tape::half::matrix;
 use vectors::times;
 ghost use mathlib.Core.Path.{_≡_};
 ghost use mathlib.Core.List.{[]};
-ghost use Prim.Native.Nat.{_*_};
-ghost use lib.ListN.{length, take, drop};
-ghost use Rattle.algebra.specs.Words.{over};
-ghost use Rattle.algebra.specs.Product.{rightShare};
+ghost use lib.ListN.{length};
 ghost use Rattle.protocol.specs.Judge.{done};
 ghost use Rattle.protocol.specs.Product.{rightLastEffect, rightLastTests, rightLast};
 ghost use Rattle.tape.specs.Placed.{slotIn};
 ghost use Rattle.judging.specs.InOrder.{checked, judged};
 ghost use Rattle.judging.specs.Leaves.{leaves, leaving, computed, computing, taken};
-ghost use Rattle.product.specs.Shape.{Sharing};
 
 fn check(pool: &[u32], at: Place, s: RightSession, a: Head, residues: &[u32], share: usize) -> Check
     ensures { λ r. ⌜ checked r ≡ judged (rightLastTests s (slotIn (now (pool .entry)) at) (record { head = a; residues = now (residues .entry) }) share) ⌝ }
@@ -37,16 +32,6 @@ fn check(pool: &[u32], at: Place, s: RightSession, a: Head, residues: &[u32], sh
     let later = check_later(End::Right, 2, s.due, t, a, residues, pool, at);
     let own = check_room(s.due, times(t.m, t.p) <= share);
     worst(later, own)
-}
-
-// X1 × Y0 + R1 − B0, of a message's residues.
-fn write_own(t: Terms, residues: &[u32], y0: &[u32], b0: &[u32], share: &mut [u32])
-    requires { ⌜ Sharing t (length (now residues)) (length (now y0)) (length (now b0)) (length (now share)) ⌝ }
-    ensures { λ _. ⌜ now (share .exit) ≡ over (rightShare (t .q) (t .m) (t .k) (t .p) (take (t .m * t .k) (now (residues .entry))) (now (y0 .entry))
-        (drop (t .m * t .k) (now (residues .entry))) (now (b0 .entry))) (now (share .entry)) ⌝ }
-{
-    let mk = times(t.m, t.k);
-    write_share(sides_of(t), &residues[..mk], y0, &residues[mk..], b0, share);
 }
 
 // The share goes into its slice, and the session closes.
@@ -64,7 +49,7 @@ fn compute(
     let t = s.terms;
     let y0 = matrix(End::Right, t, 0, pool, at);
     let b0 = matrix(End::Right, t, 1, pool, at);
-    write_own(t, residues, y0, b0, share);
+    write_share_of(sides_of(t), residues, y0, b0, share);
     accepted(RightSession { terms: t, due: 0 }, no_head())
 }
 

@@ -1,18 +1,19 @@
 -- What the code wrote is what the definitions' formulas say.
 --   y0-size, b0-size, r-size, v-size   the matrices of a half that has its place
 --   y1-sent                            what step 1 sends
---   x1-part, r1-part, w-part, c-part   a message's parts, as slices of its residues
---   share-found, f-sent, kept-column   S, F and s; share-length
+--   w-part, c-part                     a message's parts, as slices of its residues
+--   shareOf, share-length, share-found S; f-sent, kept-column: F and s
 --   joint-sum, joint-side              W + V and c + s; sum-residues, side-residues
 --   last-left                          what step 5 computes, by whether W + V has an inverse
 -- Assumes nothing.
 use mathlib.Core.Path.{_≡_, refl, sym, ap, _∙_}
 use mathlib.Core.Bool.{Bool, true, false, cond}
 use mathlib.Core.List.{List, [], append-nil}
-use Prim.Native.Nat.{ℕ, suc, _+_, _-_, _*_, _<_}
+use Prim.Native.Nat.{ℕ, _+_, _-_, _*_, _≤_, _<_}
 use native.Mathlib.Omega.{arith}
-use lib.ListN.{length, getD, take, drop, length-take, length-drop}
-use Rattle.algebra.specs.Matrix.{zeros, Residues, matAdd, matSub, matMul}
+use lib.ListN.{length, take, drop, length-drop}
+use lib.Seq.{take-all}
+use Rattle.algebra.specs.Matrix.{zeros, Residues, matAdd, matSub}
 use Rattle.algebra.specs.Count.{part, parts, join}
 use Rattle.algebra.specs.Elimination.{regular, solution}
 use Rattle.algebra.specs.Product.{sendY, rightShare}
@@ -26,10 +27,12 @@ use Rattle.protocol.specs.Tape.{Slot, slotWords, solver, matrices}
 use Rattle.protocol.specs.Message.{Message, messageLayout, messageParts}
 use Rattle.protocol.specs.System.{padded, sideSize, keptS, jointSum, solverLastEffect}
 use Rattle.protocol.specs.Step.{answerReply}
+use Rattle.vectors.proofs.Written.{after-over, over-part}
 use Rattle.tape.specs.Placed.{Placed}
 use Rattle.tape.proofs.Matrices.{matrix-length}
 use Rattle.judging.specs.Leaves.{Computed, computed}
-use Rattle.solver.specs.Formulas.{sentPart, shareOf, sumOf, sideOf, lastAnswer, lastHead, closedTerms}
+use Rattle.solver.specs.Formulas.{sentPart, sumOf, sideOf, lastAnswer, lastHead, closedTerms}
+use Rattle.solver.proofs.Known.{Few}
 
 -- ---- the matrices of a half that has its place
 
@@ -56,16 +59,6 @@ y1-sent q m p size b y0 out e f h = e ∙ rw (f, h) refl
 -- ---- a message's parts
 
 module _ (t : Terms) (residues : List ℕ) (n : ℕ) (e : n ≡ t .m * t .k) where
-  pub x1-part : take n residues ≡ sentPart 2 t 0 residues
-  unfolding sentPart messageLayout parts
-  x1-part = ap (λ (i : ℕ). take i residues) e
-
-  pub r1-part : length residues ≡ t .m * t .k + t .m * t .p → take (length residues - n) (drop n residues) ≡ sentPart 2 t 1 residues
-  unfolding sentPart messageLayout parts
-  r1-part h =
-      let z : length residues - n ≡ t .m * t .p = omega arith in
-      rw (z, e) refl
-
   pub w-part : take n residues ≡ sentPart 4 t 0 residues
   unfolding sentPart messageLayout parts
   w-part = ap (λ (i : ℕ). take i residues) e
@@ -78,15 +71,26 @@ module _ (t : Terms) (residues : List ℕ) (n : ℕ) (e : n ≡ t .m * t .k) whe
 
 -- ---- step 3
 
-pub share-found : (q m k p rhs : ℕ) {x y r b : List ℕ} (x1 y0 r1 b0 out : List ℕ) {found : List ℕ}
-    → found ≡ over (matSub q (m * p) (matAdd q (m * p) (matMul q m k p x y) r) b) out → x ≡ x1 → y ≡ y0 → r ≡ r1 → b ≡ b0 → k ≡ m → m + rhs ≡ p
-    → found ≡ over (solverShare q m rhs x1 y0 r1 b0) out
-unfolding solverShare rightShare
-share-found q m k p rhs x1 y0 r1 b0 out e ex ey er eb s w = e ∙ rw (ex, ey, er, eb, s, w) refl
+-- S = X1 × Y0 + R1 − B0, by the half's matrices and the message
+unfoldable pub shareOf : Terms → Slot → Message → List ℕ
+shareOf t s a = solverShare (t .q) (t .m) (columns (t .m) (t .p)) (part 0 (messageParts 2 t a)) (part 0 (matrices solver t (slotWords s)))
+    (part 1 (messageParts 2 t a)) (part 1 (matrices solver t (slotWords s)))
 
-pub share-length : (t : Terms) (y0 b0 residues : List ℕ) → t .m + columns (t .m) (t .p) ≡ t .p → length (shareOf t y0 b0 residues) ≡ t .m * t .p
-unfolding shareOf solverShare rightShare matSub
-share-length t y0 b0 residues w = length-tabulate (t .m * (t .m + columns (t .m) (t .p))) _ ∙ ap (λ (n : ℕ). t .m * n) w
+module _ (t : Terms) (s : Slot) (a : Message) (f : Few t) where
+  pub share-length : length (shareOf t s a) ≡ t .m * t .p
+  unfolding shareOf solverShare rightShare matSub
+  share-length = length-tabulate (t .m * (t .m + columns (t .m) (t .p))) _ ∙ ap (λ (n : ℕ). t .m * n) (f .whole)
+
+  -- an array that S was written over, and its first words
+  pub share-found : (n : ℕ) (out : List ℕ) {found : List ℕ} → n ≡ t .m * t .p → n ≤ length out → length (a .residues) ≡ t .m * t .k + t .m * t .p
+      → found ≡ over (rightShare (t .q) (t .m) (t .k) (t .p) (take (t .m * t .k) (a .residues)) (part 0 (matrices solver t (slotWords s)))
+      (drop (t .m * t .k) (a .residues)) (part 1 (matrices solver t (slotWords s)))) out
+      → (n ≤ length found) × (take n found ≡ shareOf t s a)
+  unfolding shareOf messageParts messageLayout parts solverShare
+  share-found n out {found} size room h w =
+      let r1 = take-all (t .m * t .p) (drop (t .m * t .k) (a .residues)) (omega (arith, length-drop (t .m * t .k) (a .residues))) in
+      let e : found ≡ over (shareOf t s a) out = w ∙ rw (r1, f .whole, f .square) refl in
+      (omega (arith, after-over (shareOf t s a) out e (omega (arith, share-length))), over-part n (shareOf t s a) out e (share-length ∙ sym size))
 
 pub f-sent : (q m p rhs size : ℕ) {c : List ℕ} (r share out : List ℕ) {sent : List ℕ}
     → sent ≡ over (matSub q size r c) out → size ≡ m * m → c ≡ cols m p 0 m share → m + rhs ≡ p → sent ≡ over (sendF q m rhs r share) out

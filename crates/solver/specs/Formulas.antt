@@ -1,6 +1,5 @@
--- What the solver computes at its later steps, by its matrices and a message's residues. Assumes nothing.
+-- What the solver computes at its last step, by its matrices and a message's residues. Assumes nothing.
 --   sentPart                           a part of a message, by its residues
---   shareOf                            S = X1 × Y0 + R1 − B0
 --   sumOf, sideOf                      W + V, and c + s
 --   lastAnswer, lastHead, closedTerms  what the last step answers, by whether W + V has an inverse
 use mathlib.Core.Bool.{Bool, cond}
@@ -9,22 +8,18 @@ use Prim.Native.Nat.{ℕ}
 use lib.ListN.{take}
 use Rattle.algebra.specs.Matrix.{zeros, matAdd}
 use Rattle.algebra.specs.Count.{part, parts}
-use Rattle.algebra.specs.System.{solverShare, sumMatrix}
+use Rattle.algebra.specs.System.{sumMatrix}
 use Rattle.protocol.specs.declared.Terms.{Terms}
 use Rattle.protocol.specs.declared.Head.{Head}
 use Rattle.protocol.specs.declared.Answer.{Answer}
 use Rattle.protocol.specs.declared.Answer.the-variants.{Accepted, Refused}
 use Rattle.protocol.specs.declared.Refusal.the-variants.{Singular}
 use Rattle.protocol.specs.declared.SolverSession.{SolverSession}
-use Rattle.protocol.specs.Bounds.{columns}
 use Rattle.protocol.specs.Message.{noMessage, messageLayout}
 use Rattle.protocol.specs.System.{sideSize}
 
 unfoldable pub sentPart : (kind : ℕ) → Terms → (j : ℕ) (residues : List ℕ) → List ℕ
 sentPart kind t j residues = part j (parts (messageLayout kind (t .m) (t .k) (t .p)) residues)
-
-unfoldable pub shareOf : Terms → (y0 b0 residues : List ℕ) → List ℕ
-shareOf t y0 b0 residues = solverShare (t .q) (t .m) (columns (t .m) (t .p)) (sentPart 2 t 0 residues) y0 (sentPart 2 t 1 residues) b0
 
 unfoldable pub sumOf : Terms → (v residues : List ℕ) → List ℕ
 sumOf t v residues = sumMatrix (t .q) (t .m) (sentPart 4 t 0 residues) v

@@ -1,5 +1,5 @@
 // Step 3: the solver finds S = X1 × Y0 + R1 − B0, keeps its last column s, and sends F = R − S', S' being its other columns.
-//   compute         the message and the session, by find_share and finish
+//   compute         the message and the session, by write_share_of and finish
 //   solver_second   the step
 use crate::SolverAnswer;
 use crate::accepted;
@@ -7,7 +7,7 @@ use crate::later::check;
 use crate::refused;
 use judging::Check;
 use matrix::sides_of;
-use matrix::write_share;
+use matrix::write_share_of;
 use protocol::Head;
 use protocol::SolverSession;
 use protocol::Terms;
@@ -20,7 +20,7 @@ use vectors::write_difference;
 ghost use mathlib.Core.Path.{_≡_};
 ghost use mathlib.Core.Bool.{true};
 ghost use mathlib.Core.List.{[]};
-ghost use Prim.Native.Nat.{_+_, _*_, _≤_, _<_};
+ghost use Prim.Native.Nat.{_*_, _≤_, _<_};
 ghost use lib.ListN.{length};
 ghost use Rattle.algebra.specs.System.{lastCols, sendF};
 ghost use Rattle.algebra.specs.Words.{over};
@@ -31,17 +31,6 @@ ghost use Rattle.protocol.specs.System.{padded, solverSecondEffect, solverSecon
 ghost use Rattle.tape.specs.Placed.{slotIn};
 ghost use Rattle.judging.specs.InOrder.{judged};
 ghost use Rattle.judging.specs.Leaves.{leaves, leaving, computed, computing, taken};
-ghost use Rattle.solver.specs.Formulas.{shareOf};
-
-// S, by the message's residues, Y0 and B0.
-fn find_share(t: Terms, residues: &[u32], y0: &[u32], b0: &[u32], out: &mut [u32])
-    requires { ⌜ (0 < t .q) × (t .q < 2147483648) × (sidesFit system (t .m) (t .k) (t .p) ≡ true) × (length (now residues) ≡ t .m * t .k + t .m * t .p)
-        × (length (now y0) ≡ t .k * t .p) × (length (now b0) ≡ t .m * t .p) × (t .m * t .p ≤ length (now out)) ⌝ }
-    ensures { λ _. ⌜ now (out .exit) ≡ over (shareOf t (now (y0 .entry)) (now (b0 .entry)) (now (residues .entry))) (now (out .entry)) ⌝ }
-{
-    let x1 = times(t.m, t.k);
-    write_share(sides_of(t), &residues[..x1], y0, &residues[x1..], b0, out);
-}
 
 // F, by R and S.
 fn write_f(t: Terms, r: &[u32], share: &[u32], out: &mut [u32])
@@ -105,7 +94,7 @@ fn compute(
     let b0 = matrix(End::Solver, t, 1, pool, at);
     let r = matrix(End::Solver, t, 2, pool, at);
     let mut share = [0u32; 272];
-    find_share(t, residues, y0, b0, &mut share);
+    write_share_of(sides_of(t), residues, y0, b0, &mut share);
     finish(t, r, &share[..n], out)
 }
 
