@@ -74,7 +74,7 @@ static void control(const char *which) {
 
 int main(int count, char **given) {
     static const uint32_t shapes[][3] = {{1, 366, 1}, {4, 8, 5}, {3, 5, 7}, {4, 9, 6}, {16, 16, 17}, {1, 2048, 1}, {8, 7, 1}, {32, 64, 32}};
-    static const uint32_t moduli[] = {2, 7, 367, 1024, 1031, 65537, 67108859, 2147483647};
+    static const uint32_t moduli[] = {2, 7, 367, 1024, 1031, 65537, 67108859, 1073741827, 2147483647};
     size_t n_shapes = sizeof shapes / sizeof *shapes, n_moduli = sizeof moduli / sizeof *moduli, sessions = 0;
     if (count < 2 || strlen(given[1]) < 4) return 2;
     const char *kind = given[1];
