@@ -3,7 +3,7 @@
 --   holds, no-message                    what loading told
 --   parse-wrong, read-wrong              a line that is no message's
 --   form-held, form-short, read-phases   the tests of a line that was loaded
---   parse-room, read-room                a message that passed has room
+--   parse-room, read-room, read-few      a message that passed has room, and one that is read at most 3,072 residues
 --   parse-judged, read-judged, refuses, takes   what the entries answer and leave
 -- Assumes nothing.
 use mathlib.Core.Path.{_≡_, refl, sym, ap, ap₂, subst, _∙_}
@@ -38,7 +38,7 @@ use Rattle.line.specs.declared.Loaded.{Loaded}
 use Rattle.line.specs.declared.Loaded.the-variants as loaded
 use Rattle.line.specs.Entries.{noArrival, receivedReply, arrivedOf, residuesAfter, receivedBy}
 use Rattle.line.specs.Reading.{Holds, NoMessage, Loads, restTests}
-use Rattle.line.proofs.Fits.{has-room}
+use Rattle.line.proofs.Fits.{message-few, has-room}
 
 -- room and residues are tested where head and count passed
 pub message-phases : (h : Head) (rs : List ℕ) (size room : ℕ) → judged (messageTests (messageWith h rs) ++ roomTests size room)
@@ -128,6 +128,11 @@ module _ {s words : List ℕ} {h : Head} {n : ℕ} (l : Holds s h n words) (room
   read-room e =
       let own : List Test = needs Form (leb 7 (length (l .values))) ∷ messageTests (messageFrom (l .values)) in
       omega (arith, l .count, has-room own (length (drop 7 (l .values))) room e .1)
+
+  pub read-few : judged (readTests room (l .values)) ≡ done tt → n ≤ 3072
+  read-few e =
+      let own : List Test = needs Form (leb 7 (length (l .values))) ∷ messageTests (messageFrom (l .values)) in
+      omega (arith, l .count, message-few (messageFrom (l .values)) (has-room own (length (drop 7 (l .values))) room e .0 .1))
 
   -- ---- what the entries answer and leave
 

@@ -183,7 +183,7 @@ pub fn read(s: &[u8], out: &mut [u32]) -> Received
     let Check::Passed = check else {
         return refused(check);
     };
-    store(s, &words, count, out);
+    put_residues(&words, count, out);
     Received::Message(head, count)
 }
 

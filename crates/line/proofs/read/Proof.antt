@@ -1,11 +1,17 @@
 -- `line::read` meets its contract: the line is loaded, its message checked, and only then stored. Assumes nothing.
 use mathlib.Core.Path.{refl, sym, ap, _∙_}
+use mathlib.Core.List.{List}
+use Prim.Native.Nat.{ℕ}
 use lib.ListN.{length}
+use Rattle.algebra.specs.Words.{over}
 use Rattle.judging.specs.InOrder.{checked}
-use Rattle.line.proofs.Judged.{holds, no-message, read-wrong, read-room, read-judged, refuses, takes}
+use Rattle.line.proofs.Judged.{holds, no-message, read-wrong, read-room, read-few, read-judged, refuses, takes}
 use borrow.Author.Needs.{needs}
 use Rattle.line.proofs.read.Statement.{statement}
 use Rattle.line.proofs.read.Tie as tie
+
+abbrev start : tie.After-words2 → tie.Start
+start c = c .before .before .before .before .before
 
 slice-aggregate-load : tie.Need-slice-aggregate-load
 slice-aggregate-load c = search needs
@@ -46,14 +52,16 @@ returns-2 c =
     let check = c .before .before .before .check-read in
     refuses l _ (read-judged l _) _ (check .result) (check .ensures _ l) (c .before .enum-told3 .given .1) (c .refused .ensures)
 
-slice-aggregate-store : tie.Need-slice-aggregate-store
-slice-aggregate-store c = search needs
+slice-aggregate-put-residues : tie.Need-slice-aggregate-put-residues
+slice-aggregate-put-residues c = search needs
 
-store-requires : tie.Need-store-requires
-store-requires c κs =
+put-residues-requires : tie.Need-put-residues-requires
+put-residues-requires c κs =
     let load = c .before .before .before .before .before .before .before .before .before .before .load .ensures in
     let l = holds _ _ load (c .before .before .before .before .before .before .before .loaded .given .1) in
-    (search needs, read-room l _ (sym (c .before .before .before .before .check-read .ensures _ l) ∙ ap checked (c .before .before .enum-told2 .given .1)))
+    let passed = sym (c .before .before .before .before .check-read .ensures _ l) ∙ ap checked (c .before .before .enum-told2 .given .1) in
+    let few = read-few l _ passed in
+    (search needs, read-room l _ passed)
 
 same-length : tie.Need-same-length
 same-length c = search needs
@@ -63,8 +71,11 @@ returns-3 c =
     let load = c .before .before .before .before .before .before .before .before .before .before .before .before .before .load .ensures in
     let l = holds _ _ load (c .before .before .before .before .before .before .before .before .before .before .loaded .given .1) in
     let check = c .before .before .before .before .before .before .before .check-read in
-    takes l _ (read-judged l _) _ (check .result) (check .ensures _ l)
-    (c .before .before .before .before .before .enum-told2 .given .1) (c .before .before .store .ensures _ l)
+    let told = c .before .before .before .before .before .enum-told2 .given .1 in
+    let out = start (c .before .before .before .before .before .before .before .before .before .before .before .before) .args .out .now in
+    let few = read-few l _ (sym (check .ensures _ l) ∙ ap checked told) in
+    takes l _ (read-judged l _) _ (check .result) (check .ensures _ l) told
+    (c .before .before .put-residues .ensures ∙ ap (λ (r : List ℕ). over r out) (l .residues few))
 
 pub read-spec : {M : Type 1} → statement M
 read-spec =
@@ -81,7 +92,7 @@ read-spec =
     enum-told-3
     refused-requires
     returns-2
-    slice-aggregate-store
-    store-requires
+    slice-aggregate-put-residues
+    put-residues-requires
     same-length
     returns-3)
