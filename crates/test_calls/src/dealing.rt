@@ -6,6 +6,7 @@ use judging::message::no_head;
 use protocol::Answer;
 use protocol::Terms;
 use tape::Place;
+use test_memory::records;
 
 fn deal(c: u32, first: &mut [u32], second: &mut [u32], at: Place, t: Terms, raw: &[u32]) -> Answer {
     let id = t.tape;
@@ -27,10 +28,10 @@ pub extern "C" fn call_deal(
     raw: &[u32],
     report: &mut [u32],
 ) -> u32 {
-    if words::is_short(c, terms.len(), 0, 0, report.len()) {
+    if records::is_short(c, terms.len(), 0, 0, report.len()) {
         return 99;
     }
     let at = Place { size, index };
-    let a = deal(c, first, second, at, words::terms_of(terms), raw);
+    let a = deal(c, first, second, at, records::terms_of(terms), raw);
     words::report_of(a, no_head(), report)
 }

@@ -16,6 +16,7 @@ use solver::solver_first;
 use solver::solver_last;
 use solver::solver_second;
 use tape::Place;
+use test_memory::records;
 
 // What a call is asked: its number, its slot, its terms, and the head of the message that it takes.
 pub struct Asked {
@@ -55,7 +56,7 @@ fn right(
     if q.call == 12 {
         return words::right_done(right_first(pool, q.at, t, y, out));
     }
-    let s = words::right_of(session);
+    let s = records::right_of(session);
     if q.call == 14 {
         return words::right_done(right_last(pool, q.at, s, a, residues, share));
     }
@@ -77,7 +78,7 @@ fn solver(
     if q.call == 15 {
         return words::solver_done(solver_first(pool, q.at, t, l, x, out));
     }
-    let s = words::solver_of(session);
+    let s = records::solver_of(session);
     if q.call == 16 {
         return words::solver_done(solver_second(pool, q.at, s, a, residues, out));
     }
@@ -116,7 +117,7 @@ fn blinder(
             out,
         ));
     }
-    let s = words::blinder_of(session);
+    let s = records::blinder_of(session);
     if q.call == 19 {
         return words::blinder_done(blinder_second(pool, q.at, scratch, s, a, residues, out));
     }

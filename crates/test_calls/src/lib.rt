@@ -1,6 +1,6 @@
 // Calls of the engine on numbers and slices of words alone: for programs that replay calls, and for a harness that compares them with
 // another implementation. None of these is for hosts.
-//   words      terms, heads, sessions and answers as words
+//   words      what a call answers, as words
 //   dealing    call_deal
 //   ends       the steps and drops of each end
 //   steps      call_step: a step or a drop of any end

@@ -6,6 +6,7 @@ use line::Received;
 use line::Written;
 use protocol::Answer;
 use protocol::Head;
+use test_memory::records;
 
 struct Reply {
     answer: Answer,
@@ -51,10 +52,10 @@ pub extern "C" fn call_write(
     bytes: &mut [u8],
     report: &mut [u32],
 ) -> u32 {
-    if words::is_short(24, 0, head.len(), 0, report.len()) {
+    if records::is_short(24, 0, head.len(), 0, report.len()) {
         return 99;
     }
-    let w = line::write(words::head_of(head), residues, bytes);
+    let w = line::write(records::head_of(head), residues, bytes);
     words::report_of(written(w), no_head(), report)
 }
 
@@ -71,7 +72,7 @@ fn line(c: u32, bytes: &[u8], out: &mut [u32]) -> Reply {
 // 25 parse, 26 read, 27 numbers.
 #[no_mangle]
 pub extern "C" fn call_line(c: u32, bytes: &[u8], out: &mut [u32], report: &mut [u32]) -> u32 {
-    if words::is_short(c, 0, 0, 0, report.len()) {
+    if records::is_short(c, 0, 0, 0, report.len()) {
         return 99;
     }
     let r = line(c, bytes, out);

@@ -3,6 +3,7 @@ use crate::ends;
 use crate::ends::Asked;
 use crate::words;
 use tape::Place;
+use test_memory::records;
 ghost use mathlib.Core.Path.{_≡_};
 ghost use mathlib.Core.Logic.{_⊎_, _≢_};
 
@@ -27,11 +28,11 @@ pub extern "C" fn call_step(
 ) -> u32
     ensures { λ r. ⌜ ((c ≡ 12) ⊎ (c ≡ 15) ⊎ (c ≡ 18) → r ≢ 0 → now (session .exit) ≡ now (session .entry)) ⌝ }
 {
-    if words::is_short(c, terms.len(), head.len(), session.len(), report.len()) {
+    if records::is_short(c, terms.len(), head.len(), session.len(), report.len()) {
         return 99;
     }
-    let t = words::terms_of(terms);
-    let a = words::head_of(head);
+    let t = records::terms_of(terms);
+    let a = records::head_of(head);
     let q = Asked {
         call: c,
         at: Place { size, index },
@@ -54,6 +55,6 @@ pub extern "C" fn call_step(
     let sent = done.head;
     let left = done.words;
     let answered = words::report_of(answer, sent, report);
-    words::put_back(c, answered, &left, session);
+    records::put_back(c, answered, &left, session);
     answered
 }

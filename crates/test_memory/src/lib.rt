@@ -1,5 +1,7 @@
 // The memory of the machine that replays calls (crate `test_machine`): words from seeds, copies, parts, bytes, and sums.
+//   records   terms, heads and sessions as words
 // No function here is for hosts.
+pub mod records;
 
 ghost use mathlib.Core.Path.{_≡_};
 ghost use Prim.Native.Nat.{_≤_};

@@ -1,8 +1,8 @@
 -- A refused first step leaves the session's words as they were. Assumes nothing.
 use mathlib.Core.Logic.{⊎-elim}
 use borrow.Author.Needs.{needs}
-use Rattle.test_calls.proofs.words.put_back.Statement.{statement}
-use Rattle.test_calls.proofs.words.put_back.Tie as tie
+use Rattle.test_memory.proofs.records.put_back.Statement.{statement}
+use Rattle.test_memory.proofs.records.put_back.Tie as tie
 
 session-words-requires : tie.Need-session-words-requires
 session-words-requires c κs = search needs
