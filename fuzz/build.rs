@@ -1,8 +1,11 @@
-//! Links the static library of the crate `test_calls`.
+//! Links the static library of the crate `host`.
 
 fn main() {
+    if std::env::var("CARGO_FEATURE_ALONE").is_ok() {
+        return;
+    }
     let root = std::env::var("CARGO_MANIFEST_DIR").unwrap();
     println!("cargo:rustc-link-search=native={root}/../target/staticlib");
-    println!("cargo:rustc-link-lib=static=test_calls");
-    println!("cargo:rerun-if-changed=../target/staticlib/libtest_calls.a");
+    println!("cargo:rustc-link-lib=static=host");
+    println!("cargo:rerun-if-changed=../target/staticlib/libhost.a");
 }

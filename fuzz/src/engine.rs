@@ -1,29 +1,87 @@
-//! The engine's calls. A slice is handed over as its pointer and its length.
+//! The engine's entries on bytes, as an app declares them. A slice is handed over as its pointer and its length.
 
-use reference::calls::{Calls, Slot, Taken};
-use reference::machine::{
-    BLINDER_DROP, BLINDER_FIRST, BLINDER_LAST, BLINDER_SECOND, DEAL_PRODUCT, DEAL_SYSTEM, LEFT_STEP, NUMBERS, PARSE, READ, RIGHT_DROP,
-    RIGHT_FIRST, RIGHT_LAST, SOLVER_DROP, SOLVER_FIRST, SOLVER_LAST, SOLVER_SECOND,
-};
+use reference::entries::{Deal, Dropping, Entries, First, Next, Reply, Residue, Score};
 
-macro_rules! engine {
-    ($($name:ident($($argument:ident: $kind:ty),*);)*) => {
-        extern "C" {
-            $(fn $name($($argument: $kind),*) -> u32;)*
-        }
-    };
-}
-
-type W = *const u32;
-type M = *mut u32;
+type In = *const u8;
+type Out = *mut u8;
 type N = usize;
 
-engine! {
-    call_deal(call: u32, first: M, n0: N, second: M, n1: N, size: N, index: N, terms: W, n2: N, raw: W, n3: N, report: M, n4: N);
-    call_step(call: u32, pool: M, n0: N, size: N, index: N, scratch: M, n1: N, terms: W, n2: N, one: W, n3: N, two: W, n4: N, raw: W, n5: N,
-        head: W, n6: N, residues: W, n7: N, out: M, n8: N, share: M, n9: N, session: M, n10: N, report: M, n11: N);
-    call_write(head: W, n0: N, residues: W, n1: N, bytes: *mut u8, n2: N, report: M, n3: N);
-    call_line(call: u32, bytes: *const u8, n0: N, out: M, n1: N, report: M, n2: N);
+extern "C" {
+    #[rustfmt::skip]
+    fn yuthsaok_deal(
+        sort: u32,
+        first: Out,
+        n0: N,
+        second: Out,
+        n1: N,
+        size: usize,
+        index: usize,
+        tape: u32,
+        q: u32,
+        m: u32,
+        k: u32,
+        p: u32,
+        words: In,
+        n2: N,
+    ) -> Reply;
+    #[rustfmt::skip]
+    fn yuthsaok_first(
+        record: Out,
+        n0: N,
+        end: u32,
+        pool: Out,
+        n1: N,
+        size: usize,
+        index: usize,
+        session: u32,
+        tape: u32,
+        q: u32,
+        m: u32,
+        k: u32,
+        p: u32,
+        input: In,
+        n2: N,
+        words: In,
+        n3: N,
+        scratch: Out,
+        n4: N,
+        message: In,
+        n5: N,
+        line: Out,
+        n6: N,
+        result: Out,
+        n7: N,
+    ) -> Reply;
+    #[rustfmt::skip]
+    fn yuthsaok_next(
+        record: Out,
+        n0: N,
+        pool: Out,
+        n1: N,
+        size: usize,
+        index: usize,
+        scratch: Out,
+        n2: N,
+        message: In,
+        n3: N,
+        line: Out,
+        n4: N,
+        result: Out,
+        n5: N,
+    ) -> Reply;
+    fn yuthsaok_drop(record: Out, n0: N, pool: Out, n1: N, size: usize, index: usize, scratch: Out, n2: N) -> Reply;
+    fn yuthsaok_version() -> u32;
+    fn yuthsaok_record_words() -> usize;
+    fn yuthsaok_tape_words(end: u32, m: u32, k: u32, p: u32) -> usize;
+    fn yuthsaok_scratch_words(end: u32, m: u32, k: u32, p: u32) -> usize;
+    fn yuthsaok_line_bytes(kind: u32, q: u32, m: u32, k: u32, p: u32) -> usize;
+    fn yuthsaok_coin_count(end: u32, m: u32, k: u32, p: u32) -> usize;
+    fn yuthsaok_deal_count(sort: u32, m: u32, k: u32, p: u32) -> usize;
+    fn yuthsaok_is_prime(n: u32) -> u32;
+    fn yuthsaok_has_inverse(q: u32, n: u32, matrix: In, n0: N) -> u32;
+    fn yuthsaok_to_residue(q: u32, score: i32) -> Residue;
+    fn yuthsaok_to_score(q: u32, residue: u32) -> Score;
+    fn yuthsaok_refusal_word(number: u32, word: Out, n0: N) -> usize;
 }
 
 /// Calls with each slice taken apart.
@@ -41,125 +99,76 @@ macro_rules! call {
     ($name:ident: $($rest:tt)*) => { call!(@ $name [] $($rest)*) };
 }
 
-/// All that a step may be lent beside its slot and its report; what a call does not name is empty.
-#[derive(Default)]
-struct Lent<'a> {
-    scratch: &'a mut [u32],
-    terms: &'a [u32],
-    one: &'a [u32],
-    two: &'a [u32],
-    raw: &'a [u32],
-    head: &'a [u32],
-    residues: &'a [u32],
-    out: &'a mut [u32],
-    share: &'a mut [u32],
-    session: &'a mut [u32],
-}
-
-fn taken<'a>(a: Taken<'a>, session: &'a mut [u32]) -> Lent<'a> {
-    Lent { head: a.head, residues: a.residues, session, ..Lent::default() }
-}
-
-fn step(call: u32, s: Slot, l: Lent, report: &mut [u32]) -> u32 {
-    call!(call_step: = call, mut s.pool, = s.size, = s.index, mut l.scratch, &l.terms, &l.one, &l.two, &l.raw, &l.head, &l.residues,
-        mut l.out, mut l.share, mut l.session, mut report,)
-}
-
-fn deal(call: u32, s: Slot, second: &mut [u32], terms: &[u32], raw: &[u32], report: &mut [u32]) -> u32 {
-    call!(call_deal: = call, mut s.pool, mut second, = s.size, = s.index, &terms, &raw, mut report,)
-}
-
-fn line(call: u32, bytes: &[u8], out: &mut [u32], report: &mut [u32]) -> u32 {
-    call!(call_line: = call, &bytes, mut out, mut report,)
-}
-
 #[derive(Clone, PartialEq, Eq)]
 pub struct Engine;
 
-impl Calls for Engine {
-    fn deal_product(s: Slot, second: &mut [u32], terms: &[u32], raw: &[u32], report: &mut [u32]) -> u32 {
-        deal(DEAL_PRODUCT, s, second, terms, raw, report)
+impl Entries for Engine {
+    fn deal(c: Deal) -> Reply {
+        let (s, t) = (c.slot, c.terms);
+        call!(yuthsaok_deal: = c.sort, mut s.pool, mut c.second, = s.size, = s.index, = t.tape, = t.q, = t.m, = t.k, = t.p, &c.words,)
     }
 
-    fn deal_system(s: Slot, second: &mut [u32], terms: &[u32], raw: &[u32], report: &mut [u32]) -> u32 {
-        deal(DEAL_SYSTEM, s, second, terms, raw, report)
+    fn first(c: First) -> Reply {
+        let (s, t) = (c.slot, c.terms);
+        call!(yuthsaok_first: mut c.record, = c.end, mut s.pool, = s.size, = s.index, = t.session, = t.tape, = t.q, = t.m, = t.k, = t.p,
+            &c.input, &c.words, mut c.scratch, &c.message, mut c.line, mut c.result,)
     }
 
-    fn right_first(s: Slot, terms: &[u32], y: &[u32], out: &mut [u32], session: &mut [u32], report: &mut [u32]) -> u32 {
-        step(RIGHT_FIRST, s, Lent { terms, one: y, out, session, ..Lent::default() }, report)
+    fn next(c: Next) -> Reply {
+        let s = c.slot;
+        call!(yuthsaok_next: mut c.record, mut s.pool, = s.size, = s.index, mut c.scratch, &c.message, mut c.line, mut c.result,)
     }
 
-    fn left_step(s: Slot, terms: &[u32], x: &[u32], raw: &[u32], a: Taken, out: &mut [u32], share: &mut [u32], report: &mut [u32]) -> u32 {
-        step(LEFT_STEP, s, Lent { terms, one: x, raw, out, share, ..taken(a, &mut []) }, report)
+    fn drop(c: Dropping) -> Reply {
+        let s = c.slot;
+        call!(yuthsaok_drop: mut c.record, mut s.pool, = s.size, = s.index, mut c.scratch,)
     }
 
-    fn right_last(s: Slot, session: &mut [u32], a: Taken, share: &mut [u32], report: &mut [u32]) -> u32 {
-        step(RIGHT_LAST, s, Lent { share, ..taken(a, session) }, report)
+    fn version() -> u32 {
+        call!(yuthsaok_version:)
     }
 
-    fn right_drop(s: Slot, session: &mut [u32], report: &mut [u32]) -> u32 {
-        step(RIGHT_DROP, s, Lent { session, ..Lent::default() }, report)
+    fn record_words() -> usize {
+        call!(yuthsaok_record_words:)
     }
 
-    fn solver_first(s: Slot, terms: &[u32], l: &[u32], x: &[u32], out: &mut [u32], session: &mut [u32], report: &mut [u32]) -> u32 {
-        step(SOLVER_FIRST, s, Lent { terms, one: l, two: x, out, session, ..Lent::default() }, report)
+    fn tape_words(end: u32, m: u32, k: u32, p: u32) -> usize {
+        call!(yuthsaok_tape_words: = end, = m, = k, = p,)
     }
 
-    fn solver_second(s: Slot, session: &mut [u32], a: Taken, out: &mut [u32], report: &mut [u32]) -> u32 {
-        step(SOLVER_SECOND, s, Lent { out, ..taken(a, session) }, report)
+    fn scratch_words(end: u32, m: u32, k: u32, p: u32) -> usize {
+        call!(yuthsaok_scratch_words: = end, = m, = k, = p,)
     }
 
-    fn solver_last(s: Slot, session: &mut [u32], a: Taken, out: &mut [u32], report: &mut [u32]) -> u32 {
-        step(SOLVER_LAST, s, Lent { out, ..taken(a, session) }, report)
+    fn line_bytes(kind: u32, q: u32, m: u32, k: u32, p: u32) -> usize {
+        call!(yuthsaok_line_bytes: = kind, = q, = m, = k, = p,)
     }
 
-    fn solver_drop(s: Slot, session: &mut [u32], report: &mut [u32]) -> u32 {
-        step(SOLVER_DROP, s, Lent { session, ..Lent::default() }, report)
+    fn coin_count(end: u32, m: u32, k: u32, p: u32) -> usize {
+        call!(yuthsaok_coin_count: = end, = m, = k, = p,)
     }
 
-    fn blinder_first(
-        s: Slot,
-        scratch: &mut [u32],
-        terms: &[u32],
-        m: &[u32],
-        y: &[u32],
-        raw: &[u32],
-        a: Taken,
-        out: &mut [u32],
-        session: &mut [u32],
-        report: &mut [u32],
-    ) -> u32 {
-        step(BLINDER_FIRST, s, Lent { scratch, terms, one: m, two: y, raw, out, ..taken(a, session) }, report)
+    fn deal_count(sort: u32, m: u32, k: u32, p: u32) -> usize {
+        call!(yuthsaok_deal_count: = sort, = m, = k, = p,)
     }
 
-    fn blinder_second(s: Slot, scratch: &[u32], session: &mut [u32], a: Taken, out: &mut [u32], report: &mut [u32]) -> u32 {
-        let mut kept = scratch.to_vec();
-        let answer = step(BLINDER_SECOND, s, Lent { scratch: &mut kept, out, ..taken(a, session) }, report);
-        assert_eq!(kept, scratch, "the scratch after the blinder's second step");
-        answer
+    fn is_prime(n: u32) -> u32 {
+        call!(yuthsaok_is_prime: = n,)
     }
 
-    fn blinder_last(s: Slot, scratch: &mut [u32], session: &mut [u32], a: Taken, out: &mut [u32], report: &mut [u32]) -> u32 {
-        step(BLINDER_LAST, s, Lent { scratch, share: out, ..taken(a, session) }, report)
+    fn has_inverse(q: u32, n: u32, matrix: &[u8]) -> u32 {
+        call!(yuthsaok_has_inverse: = q, = n, &matrix,)
     }
 
-    fn blinder_drop(s: Slot, scratch: &mut [u32], session: &mut [u32], report: &mut [u32]) -> u32 {
-        step(BLINDER_DROP, s, Lent { scratch, session, ..Lent::default() }, report)
+    fn to_residue(q: u32, score: i32) -> Residue {
+        call!(yuthsaok_to_residue: = q, = score,)
     }
 
-    fn parse(bytes: &[u8], out: &mut [u32], report: &mut [u32]) -> u32 {
-        line(PARSE, bytes, out, report)
+    fn to_score(q: u32, residue: u32) -> Score {
+        call!(yuthsaok_to_score: = q, = residue,)
     }
 
-    fn read(bytes: &[u8], out: &mut [u32], report: &mut [u32]) -> u32 {
-        line(READ, bytes, out, report)
-    }
-
-    fn write(a: Taken, out: &mut [u8], report: &mut [u32]) -> u32 {
-        call!(call_write: &a.head, &a.residues, mut out, mut report,)
-    }
-
-    fn numbers(bytes: &[u8], out: &mut [u32], report: &mut [u32]) -> u32 {
-        line(NUMBERS, bytes, out, report)
+    fn refusal_word(number: u32, word: &mut [u8]) -> usize {
+        call!(yuthsaok_refusal_word: = number, mut word,)
     }
 }

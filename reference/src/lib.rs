@@ -1,10 +1,11 @@
 //! The rules (docs/RULES.md) once more, in plain Rust: what the engine's answers are compared with.
 //!
-//! It is written from the rules, not from the engine. Matrices are rows of `u64`, every call first gathers its faults, first of the list first,
-//! and nothing is done for speed.
+//! It is written from the rules, not from the engine. Matrices are rows of `u64`, every call first gathers its faults, first of the list
+//! first, and nothing is done for speed.
 
-pub mod calls;
+pub mod answers;
 pub mod dealer;
+pub mod entries;
 pub mod faults;
 pub mod line;
 pub mod machine;
@@ -12,9 +13,11 @@ pub mod matrix;
 pub mod message;
 pub mod pool;
 pub mod product;
+pub mod record;
 pub mod rehearsal;
 pub mod scores;
 pub mod script;
+pub mod sizes;
 pub mod system;
 pub mod words;
 
@@ -60,7 +63,7 @@ pub struct Message {
     pub residues: Vec<u32>,
 }
 
-/// What a call answers, beside what it changes.
+/// What a dealing or a step answers, beside what it changes.
 #[derive(Clone, Debug, Default, PartialEq, Eq)]
 pub struct Reply {
     /// 0, or the number of the refusal list.

@@ -85,7 +85,7 @@ fn check_drawn(t: Terms, mm: &[u32], words: &[u32]) -> Check
     check_regular(t, mm, words)
 }
 
-fn check(
+pub fn check(
     pool: &[u32],
     at: Place,
     scratch: usize,

@@ -10,7 +10,7 @@
 //   drawn_p, drawn_u0     P and U0, which stand in the scratch
 // For hosts: blinder_first, blinder_second, blinder_last, blinder_drop.
 mod drop;
-mod first;
+pub mod first;
 mod formula;
 mod last;
 mod later;

@@ -8,7 +8,7 @@
 // For hosts: deal_product, deal_system.
 mod check;
 mod halves;
-mod sort;
+pub mod sort;
 
 use check::check;
 use halves::write_halves;
@@ -33,7 +33,7 @@ ghost use Rattle.dealer.specs.Sorts.{sort, request};
 ghost use Rattle.dealer.specs.Dealt.{Pools, pools};
 
 // One slot size and one index serve both pools. The session's number in the terms is of no account.
-fn deal(
+pub fn deal(
     s: Sort,
     t: Terms,
     first: &mut [u32],

@@ -1,7 +1,7 @@
 -- A number by its powers of ten.
 --   upto-turn     one power lower: the digits above it, and its own
 --   decimal-high  the digits of a number are those above the last one, and the last one
---   digits-between  how many digits a number has
+--   digits-between  how many digits a number has; length-le: a larger one has no fewer
 -- Assumes nothing.
 use Prim.Native.Nat.{ℕ, zero, suc, _+_, _*_, _/_, _%_, _^_, _≤_, _<_}
 use mathlib.Core.Path.{_≡_, refl, sym, ap, _∙_}
@@ -21,7 +21,7 @@ use Rattle.decimal.specs.Writing.{digitAt, high}
 use Rattle.decimal.proofs.Stores.{sets-then}
 
 -- a larger number has no fewer digits
-length-le : (m n : ℕ) → m ≤ n → length (decimal m) ≤ length (decimal n)
+pub length-le : (m n : ℕ) → m ≤ n → length (decimal m) ≤ length (decimal n)
 length-le m n = by-digits (λ k. (j : ℕ) → j ≤ k → length (decimal j) ≤ length (decimal k)) small large n m
   where
     small : (k : ℕ) → k < 10 → (j : ℕ) → j ≤ k → length (decimal j) ≤ length (decimal k)

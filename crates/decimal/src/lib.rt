@@ -4,7 +4,7 @@
 //   load         a line's numbers into the engine's own words, in one pass over the bytes, up to the first fault
 //   load_behind  the same without the first numbers
 //   put_numbers  a run of numbers as bytes, in one pass over the numbers
-//   line_length  how many bytes a run of numbers takes
+//   line_length  how many bytes a run of numbers takes; digit_count: the digits of one
 use protocol::Refusal;
 ghost use mathlib.Core.Path.{_≡_};
 ghost use mathlib.Core.List.{[], _∷_, _++_};
@@ -278,7 +278,7 @@ pub fn put_numbers(xs: &[u32], more: usize, out: &mut [u8], at: usize) -> usize
 }
 
 // How many digits n has.
-fn digit_count(n: u32) -> usize
+pub fn digit_count(n: u32) -> usize
     ensures { λ r. ⌜ r ≡ length (decimal n) ⌝ }
 {
     if 1000000000 <= n {

@@ -1,13 +1,16 @@
 // Residues drawn from raw words. No other crate knows how a word becomes a residue.
 //   read  how many words are read for n residues, or that they are too few
 //   draw  the residues, over the start of a lent slice
-// Mostly no word is thrown away. Both first look whether so, where it is to be expected, and take several words at a time then, since none
+//   sift  the words kept, as they are, from bytes
+// Mostly no word is thrown away. All three first look whether so, where it is to be expected, and take several words at a time then, since none
 // decides.
 // No function here is for hosts.
 use reduction::prepare;
 use reduction::times;
 use vectors::all_below;
 use vectors::write_copy;
+use words::get_words;
+use words::word_at;
 ghost use mathlib.Core.Path.{_≡_};
 ghost use mathlib.Core.Bool.{true};
 ghost use Prim.Native.Nat.{_*_, _/_, _%_, _<_, _≤_};
@@ -17,7 +20,9 @@ ghost use Rattle.protocol.specs.Drawing.{residuesOf, drawn, wordsRead};
 ghost use Rattle.algebra.specs.Count.{bit};
 ghost use Rattle.algebra.specs.Words.{over};
 ghost use Rattle.vectors.specs.Fill.{filled};
+ghost use Rattle.entry.specs.Bytes.{wordsOf};
 ghost use Rattle.drawing.specs.Extent.{readFor, residueAt, Kept, Collected};
+ghost use Rattle.drawing.specs.Sift.{SiftedTo};
 
 // Words below c are kept. It is 2^32 where q divides that.
 fn limit(q: u32) -> u64
@@ -140,4 +145,47 @@ pub fn draw(q: u32, n: usize, words: &[u32], out: &mut [u32]) -> usize
     let read = collect(q, n, words, out);
     reduce_words(q, n, out);
     read
+}
+
+// How many words were kept, and how many were read up to and with the last one kept; all of them, where too few are kept.
+pub struct Sifted {
+    pub kept: usize,
+    pub read: usize,
+}
+
+// Word by word, as in `collect_each`, until n are kept or none is left.
+fn sift_each(q: u32, n: usize, bytes: &[u8], out: &mut [u32]) -> Sifted
+    requires { ⌜ (0 < q) × (n ≤ length (now out)) ⌝ }
+    ensures { λ r. ⌜ SiftedTo q n (wordsOf (now (bytes .entry))) (now (out .entry)) (now (out .exit)) r ⌝ }
+{
+    let below = limit(q);
+    let many = bytes.len() / 4;
+    let mut i = 0;
+    let mut j = 0;
+    while i < many {
+        if n <= j {
+            return Sifted { kept: j, read: i };
+        }
+        let word = word_at(bytes, i * 4);
+        out[j] = word;
+        j += kept(below, word);
+        i += 1;
+    }
+    Sifted { kept: j, read: i }
+}
+
+// The first n words kept, over the start of `out`: a step that draws from them draws what it would draw from all. Where there are fewer,
+// other words may stand behind them, up to n.
+pub fn sift(q: u32, n: usize, bytes: &[u8], out: &mut [u32]) -> Sifted
+    requires { ⌜ (0 < q) × (n ≤ length (now out)) ⌝ }
+    ensures { λ r. ⌜ SiftedTo q n (wordsOf (now (bytes .entry))) (now (out .entry)) (now (out .exit)) r ⌝ }
+{
+    if bytes.len() / 4 < n {
+        return sift_each(q, n, bytes, out);
+    }
+    get_words(n, bytes, out);
+    if all_kept(q, n, out) {
+        return Sifted { kept: n, read: n };
+    }
+    sift_each(q, n, bytes, out)
 }

@@ -35,7 +35,7 @@ pub enum Received {
 }
 
 // A line that was loaded: a message's head and how many residues follow; wrong where it has a fault or fewer than seven numbers.
-enum Loaded {
+pub enum Loaded {
     Message(Head, usize),
     Wrong,
 }
@@ -68,7 +68,7 @@ fn head_of(words: &[u32]) -> Head
 }
 
 // The numbers of a line, stored as far as there is room.
-fn load(s: &[u8], words: &mut [u32]) -> Loaded
+pub fn load(s: &[u8], words: &mut [u32]) -> Loaded
     requires { ⌜ length (now words) ≡ 3079 ⌝ }
     ensures { λ r. ⌜ Loads (now (s .entry)) (now (words .exit)) r ⌝ }
 {
@@ -200,7 +200,7 @@ fn head_words(h: Head) -> [u32; 7]
 }
 
 // How many bytes the line has.
-fn message_length(h: Head, residues: &[u32]) -> usize
+pub fn message_length(h: Head, residues: &[u32]) -> usize
     requires { ⌜ length (now residues) ≤ mostSent ⌝ }
     ensures { λ r. ⌜ r ≡ length (messageLine (messageWith h (now (residues .entry)))) ⌝ }
 {
@@ -220,7 +220,7 @@ fn check_write(h: Head, residues: &[u32], room: usize) -> Check
 }
 
 // The line of a message, stored.
-fn put_message(h: Head, residues: &[u32], out: &mut [u8]) -> usize
+pub fn put_message(h: Head, residues: &[u32], out: &mut [u8]) -> usize
     requires { ⌜ (length (now residues) ≤ mostSent) × (length (messageLine (messageWith h (now residues))) ≤ length (now out)) ⌝ }
     ensures place { λ r. ⌜ r ≡ length (messageLine (messageWith h (now (residues .entry)))) ⌝ }
     ensures contents { λ _. ⌜ now (out .exit) ≡ over (messageLine (messageWith h (now (residues .entry)))) (now (out .entry)) ⌝ }

@@ -39,7 +39,7 @@ fn check_own(t: Terms, y: &[u32], room: usize) -> Check
     worst(input, sent)
 }
 
-fn check(pool: &[u32], at: Place, t: Terms, y: &[u32], room: usize) -> Check
+pub fn check(pool: &[u32], at: Place, t: Terms, y: &[u32], room: usize) -> Check
     ensures { λ r. ⌜ checked r ≡ judged (rightFirstTests t (slotIn (now (pool .entry)) at) (now (y .entry)) room) ⌝ }
 {
     let first = check_first(End::Right, t, pool, at);

@@ -47,7 +47,7 @@ fn check_own(t: Terms, x: &[u32], room: usize, share: usize) -> Check
     worst(input, worst(sent, result))
 }
 
-fn check(
+pub fn check(
     pool: &[u32],
     at: Place,
     t: Terms,

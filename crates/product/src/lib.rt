@@ -7,9 +7,9 @@
 // A step judges everything (`check`), computes what it sends and gives from what it was lent (`compute`), and changes its tape.
 // For hosts: right_first, left_step, right_last, right_drop.
 mod drop;
-mod first;
+pub mod first;
 mod last;
-mod left;
+pub mod left;
 
 pub use drop::RightDropped;
 pub use drop::right_drop;

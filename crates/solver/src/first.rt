@@ -56,7 +56,7 @@ fn check_inputs(pool: &[u32], at: Place, t: Terms, l: &[u32], x: &[u32], room: u
     worst(worst(worst(shared, matrix), vector), sent)
 }
 
-fn check(pool: &[u32], at: Place, t: Terms, l: &[u32], x: &[u32], room: usize) -> Check
+pub fn check(pool: &[u32], at: Place, t: Terms, l: &[u32], x: &[u32], room: usize) -> Check
     ensures { λ r. ⌜ checked r ≡ judged (solverFirstTests t (slotIn (now (pool .entry)) at) (now (l .entry)) (now (x .entry)) room) ⌝ }
 {
     let inputs = check_inputs(pool, at, t, l, x, room);

@@ -9,7 +9,7 @@
 // residues; and last the slice that it writes.
 // For hosts: solver_first, solver_second, solver_last, solver_drop.
 mod drop;
-mod first;
+pub mod first;
 mod last;
 mod later;
 mod second;

@@ -2,7 +2,7 @@
 
 use std::io::{Read, Write};
 
-use reference::calls::Reference;
+use reference::answers::Reference;
 use reference::machine::Machine;
 
 fn main() -> std::io::Result<()> {

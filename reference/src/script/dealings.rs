@@ -1,8 +1,8 @@
 //! Dealings at the edges of what is taken.
 //!
-//! A row: the sort (0 product, 1 system), q, m, k, p, the tape's number, size and index of the slot, how many words of either pool are
-//! lent, the marks that stand in the slot before the dealing, the seed of the raw words and their count. A size or an index of 2^31 or more
-//! stands for the number that is as far below 2^64 as it is below 2^32. A system's k and p are not looked at.
+//! A row: the sort (0 product, 1 system, or none), q, m, k, p, the tape's number, size and index of the slot, how many words of either pool
+//! are lent, the marks that stand in the slot before the dealing, the seed of the raw words and their count. A size or an index of 2^31 or
+//! more stands for the number that is as far below 2^64 as it is below 2^32. A system's k and p of 0 stand for m and m + 1.
 
 use super::writer::Writer;
 use crate::machine::*;
@@ -18,15 +18,32 @@ struct Group {
     rows: &'static [Row],
 }
 
-/// Deals each row, over pools of raw words.
+/// Deals each row, over pools of raw words; and one row with slices that are not whole words.
 pub fn dealings(writer: &mut Writer) {
     for group in GROUPS {
         for (i, row) in group.rows.iter().enumerate() {
             if i == 0 || !group.goes_on {
-                writer.say(&[1, FIRST as u32, 0, FILLED, 1, 0]);
-                writer.say(&[1, SECOND as u32, 0, FILLED, 2, 0]);
+                writer.say(&[1, ONE as u32, 0, FILLED, 1, 0]);
+                writer.say(&[1, TWO as u32, 0, FILLED, 2, 0]);
             }
             dealing(writer, row);
+        }
+    }
+    odd(writer);
+}
+
+/// Bytes more or fewer than whole words: of the pools, also past the slot, and of the raw words, also past those that are needed.
+fn odd(writer: &mut Writer) {
+    for (sort, k, p) in [(0, 1, 1), (1, 1, 2), (2, 1, 1)] {
+        for (register, more) in [(1, 1), (1, 2), (1, 3), (2, 1), (2, -1), (27, 1), (27, 2), (27, 3), (27, -1)] {
+            writer.put(ONE, 20, &[0]);
+            writer.put(TWO, 20, &[3]);
+            let mut r: Registers = [0; REGISTERS];
+            r[1..12].copy_from_slice(&[240, 240, 20, 1, 0, 9, 7, 1, k, p, sort]);
+            r[26..28].copy_from_slice(&[3, 80]);
+            r[register] = r[register].wrapping_add_signed(more);
+            r[31] = 1;
+            writer.call(DEAL, &r);
         }
     }
 }
@@ -34,19 +51,17 @@ pub fn dealings(writer: &mut Writer) {
 fn dealing(writer: &mut Writer, row: &Row) {
     let [sort, q, m, k, p, tape, size, index, first, second, one, two, seed, count] = *row;
     let at = u64::from(size) * u64::from(index);
-    for (pool, length, mark) in [(FIRST, first, one), (SECOND, second, two)] {
+    for (pool, length, mark) in [(ONE, first, one), (TWO, second, two)] {
         if at < u64::from(length) {
             writer.put(pool, at as usize, &[mark]);
         }
     }
+    let (k, p) = if sort == 1 && (k, p) == (0, 0) { (m, m.wrapping_add(1)) } else { (k, p) };
     let mut r = [0; REGISTERS];
-    r[1..11].copy_from_slice(&[first, second, size, index, 0, tape, q, m, k, p]);
-    r[11] = 6;
-    r[12] = 8;
-    r[28] = seed;
-    r[29] = count;
+    r[1..12].copy_from_slice(&[4 * first, 4 * second, size, index, 0, tape, q, m, k, p, sort]);
+    r[26..28].copy_from_slice(&[seed, 4 * count]);
     r[31] = 1;
-    writer.call(if sort == 0 { DEAL_PRODUCT } else { DEAL_SYSTEM }, &r);
+    writer.call(DEAL, &r);
 }
 
 const GROUPS: &[Group] = &[
@@ -264,6 +279,25 @@ const GROUPS: &[Group] = &[
             [1, 7, 2, 0, 0, 9, 45, 1, 95, 95, 1, 1, 3, 5200],
             [1, 2147483647, 1, 0, 0, 10, 45, 1, 95, 95, 3, 3, 3, 5200],
             [0, 65536, 2, 2, 2, 11, 45, 1, 95, 95, 3, 3, 8, 5200],
+        ],
+    },
+    // A system's other sides that are refused, and sorts that are none.
+    Group {
+        goes_on: false,
+        rows: &[
+            [1, 7, 1, 1, 2, 9, 13, 0, 40, 40, 0, 3, 3, 5200],
+            [1, 7, 1, 2, 2, 9, 13, 0, 40, 40, 0, 3, 3, 5200],
+            [1, 7, 1, 1, 1, 9, 13, 0, 40, 40, 0, 3, 3, 5200],
+            [1, 7, 1, 1, 4294967295, 9, 13, 0, 40, 40, 0, 3, 3, 5200],
+            [1, 7, 2, 2, 2, 9, 40, 0, 40, 40, 0, 3, 3, 5200],
+            [1, 6, 2, 1, 3, 9, 40, 0, 40, 40, 0, 3, 3, 5200],
+            [1, 1, 2, 1, 3, 9, 40, 0, 40, 40, 0, 3, 3, 5200],
+            [1, 7, 4294967295, 4294967295, 0, 9, 40, 0, 40, 40, 0, 3, 3, 5200],
+            [2, 7, 1, 1, 1, 9, 20, 0, 40, 40, 0, 3, 3, 5200],
+            [2, 1, 1, 1, 1, 9, 20, 0, 40, 40, 0, 3, 3, 5200],
+            [3, 6, 1, 1, 2, 9, 20, 0, 40, 40, 1, 3, 3, 0],
+            [256, 7, 1, 1, 1, 9, 20, 0, 40, 40, 0, 3, 3, 5200],
+            [4294967295, 7, 1, 1, 1, 9, 20, 0, 40, 40, 0, 3, 3, 5200],
         ],
     },
 ];

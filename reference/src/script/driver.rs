@@ -1,11 +1,10 @@
 //! Sessions with damaged calls between the right ones.
 
-use super::damage::{single, Damage};
-use super::plan::{matrix_seed, sends, tape_size, Layout, Plan};
+use super::damage::single;
+use super::plan::{matrix_seed, tape_size, Layout, Plan, Step};
 use super::random::Random;
 use super::writer::Writer;
 use crate::machine::*;
-use crate::message::count;
 use crate::Terms;
 
 /// How often a call is damaged before it is made, and how.
@@ -17,10 +16,6 @@ pub struct Habit {
     pub taken: u64,
     /// One call in so many is a drop instead.
     pub dropped: u64,
-    /// Records are lent in slices that are too short, too.
-    pub short: bool,
-    /// One message in so many goes over a line of bytes.
-    pub posted: u64,
 }
 
 /// A session under way.
@@ -54,104 +49,88 @@ pub fn system_terms(random: &mut Random, large: bool) -> Terms {
 impl Writer {
     /// Both pools filled with words, and mark 0 at each slot.
     pub fn lay(&mut self, random: &mut Random, layout: Layout) {
-        for pool in [FIRST, SECOND] {
-            let lent = layout.size * layout.slots + layout.tail;
-            self.say(&[1, pool as u32, 0, lent as u32, random.from(1, 60_000), 0]);
+        for pool in [ONE, TWO] {
+            self.say(&[1, pool as u32, 0, layout.words() as u32, random.from(1, 60_000), 0]);
             for slot in 0..layout.slots {
                 self.put(pool, slot * layout.size, &[0]);
             }
         }
     }
 
-    /// The call that is due, as it should be.
-    pub fn right(&mut self, plan: &Plan, call: u32) -> u32 {
-        self.call(call, &plan.registers(call))
-    }
-
-    /// A damaged call; where it is refused, its words are put back.
-    pub fn damaged(&mut self, damage: &Damage) -> u32 {
-        let old: Vec<u32> = damage.pokes.iter().map(|(array, at, _)| self.word(*array, *at)).collect();
-        for (array, at, value) in &damage.pokes {
-            self.put(*array, *at, &[*value]);
+    /// The call that is due, as it should be. A plan that is not generous has just the room for its line.
+    pub fn right(&mut self, plan: &Plan, step: Step) -> u32 {
+        let mut registers = plan.registers(step);
+        if !plan.generous && step.sends() {
+            registers[19] = self.line_length(step.call(), &registers);
         }
-        let answer = self.call(damage.call, &damage.registers);
-        if answer != 0 {
-            for ((array, at, _), value) in damage.pokes.iter().zip(old).rev() {
-                self.put(*array, *at, &[value]);
-            }
-        }
-        answer
+        self.call(step.call(), &registers)
     }
 
     /// One of the damages of a call, or two at once.
-    fn damage(&mut self, random: &mut Random, habit: Habit, plan: &Plan, call: u32) {
-        let mut all = single(plan, call, &self.machine);
-        all.retain(|damage| habit.short || damage.has_whole_records());
+    fn damage(&mut self, random: &mut Random, habit: Habit, plan: &Plan, step: Step) {
+        let all = single(plan, step, self);
         let taken = random.once_in(habit.taken);
         for _ in 0..6 {
             let mut damage = random.one_of(&all).clone();
             if plan.is_system && random.once_in(8) {
                 if let Some(seed) = matrix_seed(random, plan.terms.q, plan.terms.rows(), false) {
-                    damage.registers[24] = seed;
+                    damage.registers[22] = seed;
                 }
+            }
+            if step.draws() && random.once_in(8) {
+                let bytes = *random.one_of(&[4 * 9000, damage.registers[27] / 8 * 4]);
+                damage.registers[26..28].copy_from_slice(&[random.from(1, 60_000), bytes]);
             }
             if random.once_in(3) {
                 let other = random.one_of(&all);
-                if other.call == call {
-                    damage = damage.and(other, &plan.registers(call));
+                if other.call == damage.call {
+                    damage = damage.and(other, &plan.registers(step));
                 }
             }
-            if taken || self.tried(damage.call, &damage.registers, &damage.pokes) != 0 {
+            if taken || self.tried(&damage).number != 0 {
                 self.damaged(&damage);
                 return;
             }
         }
     }
 
-    /// Both ends that have an open session drop it.
-    fn drop_all(&mut self, plan: &Plan) {
-        let drops: &[u32] = if plan.is_system { &[SOLVER_DROP, BLINDER_DROP] } else { &[RIGHT_DROP] };
-        for drop in drops {
-            self.call(*drop, &plan.registers(*drop));
+    /// Both ends drop, whether they have an open session or not.
+    fn drop_all(&mut self, random: &mut Random, habit: Habit, plan: &Plan) {
+        for drop in plan.drops() {
+            if random.once_in(habit.damaged) {
+                self.damage(random, habit, plan, *drop);
+            }
+            self.right(plan, *drop);
         }
     }
 
-    /// Marks that would stop a dealing are set to 3.
+    /// Marks that would stop a dealing are set to 3, and records that would stop a first step are closed.
     pub fn free(&mut self, plan: &Plan) {
         let at = plan.index * plan.layout.size;
-        for pool in [FIRST, SECOND] {
+        for pool in [ONE, TWO] {
             if !matches!(self.word(pool, at), 0 | 3) {
                 self.put(pool, at, &[3]);
+            }
+        }
+        for place in [plan.index, 4 + plan.index] {
+            if self.word(RECORDS, place * PLACE + 7) != 0 {
+                self.put(RECORDS, place * PLACE + 7, &[0]);
             }
         }
     }
 
     /// The next call of a session. False where it is over.
     pub fn advance(&mut self, random: &mut Random, habit: Habit, live: &mut Live) -> bool {
-        let Some(call) = live.plan.calls().get(live.stage).copied() else { return false };
+        let Some(step) = live.plan.steps().get(live.stage).copied() else { return false };
         if random.once_in(habit.damaged) {
-            self.damage(random, habit, &live.plan, call);
+            self.damage(random, habit, &live.plan, step);
         }
         if live.stage > 1 && random.once_in(habit.dropped) {
-            self.drop_all(&live.plan);
+            self.drop_all(random, habit, &live.plan);
             return false;
         }
         live.stage += 1;
-        let taken = self.right(&live.plan, call) == 0;
-        if taken && sends(call) != 0 && random.once_in(habit.posted) {
-            self.post(&live.plan, call);
-        }
-        taken
-    }
-
-    /// The message that a call has sent is written as a line and read back.
-    fn post(&mut self, plan: &Plan, call: u32) {
-        let mut r = plan.registers(call);
-        r[20] = count(sends(call), &plan.terms) as u32;
-        r[30] = BYTES as u32;
-        self.call(WRITE, &r);
-        r[30] = self.machine.report[0];
-        self.call(READ, &r);
+        self.right(&live.plan, step) == 0
     }
 
     /// Sessions in the slots of a layout, several at a time, until so many have been begun.

@@ -1,8 +1,9 @@
-//! Calls with any numbers, on whatever the machine holds, and lines of any bytes.
+//! Calls with any numbers, on whatever the machine holds, and messages of any bytes.
 
 use super::driver::{product_terms, system_terms};
 use super::random::Random;
 use super::writer::Writer;
+use crate::entries::RECORD;
 use crate::line;
 use crate::machine::*;
 use crate::message::count;
@@ -13,7 +14,7 @@ fn number(random: &mut Random) -> u32 {
         0 => 0,
         1 => random.from(1, 7),
         2 => random.from(1, 40),
-        3 => *random.one_of(&[16, 17, 23, 32, 33, 256, 279, 528, 2048, 2049, 3072, 3193, 65_536]),
+        3 => *random.one_of(&[16, 17, 23, 32, 33, 256, 279, 528, 1119, 1120, 1121, 2048, 2049, 3072, 65_536]),
         4 => *random.one_of(&[u32::MAX, 1 << 31, (1 << 31) - 1, u32::MAX - 7]),
         5 => 1 << random.below(32),
         _ => random.next() as u32,
@@ -23,31 +24,34 @@ fn number(random: &mut Random) -> u32 {
 impl Writer {
     /// A call with some registers changed and some words of what it may be lent.
     pub fn any_call(&mut self, random: &mut Random) {
-        let call = random.from(DEAL_PRODUCT, BLINDER_DROP);
-        let mut r = self.machine.registers();
+        let call = random.from(DEAL, DROP);
+        let mut r = self.machine.registers;
+        // a record of another length, an end that is none, odd bytes and empty boxes are refused at once
+        if random.once_in(2) {
+            r[11] = if call == DEAL { random.from(0, 1) } else { random.from(1, 4) };
+            (r[12], r[13]) = (RECORD as u32, random.from(0, 7));
+            (r[16], r[17]) = (random.from(0, SPARE), u32::MAX);
+            [1, 2, 15, 20, 25, 27].into_iter().for_each(|i| r[i] &= !3);
+        }
         for _ in 0..random.below(6) {
-            let i = random.below(30) as usize;
-            // too short a record is answered at once
-            if !(11..15).contains(&i) || random.once_in(10) {
-                r[i] = number(random);
-            }
+            r[random.below(29) as usize] = number(random);
         }
         for _ in 0..random.below(3) {
-            let array = random.below(5) as usize;
+            let array = random.below(4) as usize;
             let near = match array {
-                FIRST | SECOND => (r[3] as usize).wrapping_mul(r[4] as usize),
-                LENT => r[16] as usize,
-                SESSIONS => r[15].min(7) as usize * SESSION,
-                _ => r[19].min(3) as usize * MESSAGE,
+                ONE | TWO => (r[3] as usize).wrapping_mul(r[4] as usize),
+                SCRATCHES => r[14] as usize,
+                _ => r[13].min(7) as usize * PLACE,
             };
-            let at = near.wrapping_add(random.below(12) as usize) % self.machine.arrays[array].len();
+            let words = [POOL, POOL, 3 * SCRATCH, 8 * PLACE][array];
+            let at = near.wrapping_add(random.below(12) as usize) % words;
             let value = number(random);
             self.put(array, at, &[value]);
         }
         self.call(call, &r);
     }
 
-    /// A message as it should be, or with one number changed.
+    /// A message as it should be, or with one number changed; of the terms that the registers have, or of others.
     fn any_message(&mut self, random: &mut Random) -> Message {
         let large = random.once_in(30);
         let is_system = random.once_in(2);
@@ -67,13 +71,7 @@ impl Writer {
         message
     }
 
-    /// The registers, with the message that is written at another place.
-    fn elsewhere(mut r: [u32; REGISTERS]) -> [u32; REGISTERS] {
-        r[21] = (r[21].min(3) + 1) % 4;
-        r
-    }
-
-    /// A line, as it should be or damaged, parsed, read and taken as numbers; and the message at a place written.
+    /// A line, as it should be or damaged, that arrives at any first or later step.
     pub fn any_line(&mut self, random: &mut Random) {
         let mut bytes = line::write(&self.any_message(random)).into_bytes();
         for _ in 0..[0, 0, 1, 1, 2, 5][random.below(6) as usize] {
@@ -89,24 +87,44 @@ impl Writer {
                 bytes.push(byte);
             }
         }
-        for (i, part) in bytes.chunks(60).enumerate() {
-            let mut said = vec![4, 60 * i as u32];
-            said.extend(part.iter().map(|b| u32::from(*b)));
-            self.say(&said);
+        self.post(SPARE, &bytes);
+        if random.once_in(20) {
+            self.lengthen(random);
         }
-        let mut r = self.machine.registers();
-        r[30] = bytes.len() as u32;
-        r[22] = if random.once_in(3) { random.from(0, 60) } else { 3193 };
-        r[12] = if random.once_in(20) { random.from(0, 8) } else { 8 };
-        r[13] = if random.once_in(20) { random.from(0, 7) } else { 7 };
-        for call in [PARSE, READ] {
+        let mut r = self.machine.registers;
+        (r[11], r[12], r[13], r[16], r[17]) = (random.from(0, 4), RECORD as u32, random.from(0, 7), SPARE, u32::MAX);
+        for call in [FIRST, NEXT] {
             self.call(call, &r);
         }
-        let read = self.machine.report[0];
-        self.call(NUMBERS, &Self::elsewhere(r));
-        r[19] = r[21];
-        r[20] = if random.once_in(4) { random.from(0, 40) } else { read };
-        r[30] = if random.once_in(3) { random.from(0, 80) } else { BYTES as u32 };
-        self.call(WRITE, &r);
+    }
+
+    /// What is in the spare box with zeros behind it, to the longest line or some bytes less or more.
+    fn lengthen(&mut self, random: &mut Random) {
+        let text = self.machine.mail[SPARE as usize].len() as u32 - 1;
+        let zeros = (random.from(65_530, 65_540) - text) / 2 * 2;
+        self.say(&[5, SPARE, text, zeros, 44, 48]);
+        self.say(&[4, SPARE, text + zeros, 10]);
+    }
+
+    /// A small entry with numbers near those of the registers, or any.
+    pub fn any_small(&mut self, random: &mut Random) {
+        let call = random.from(VERSION, REFUSAL_WORD);
+        let is_system = random.once_in(2);
+        let large = random.once_in(4);
+        let t = if is_system { system_terms(random, large) } else { product_terms(random, large) };
+        let mut r = self.machine.registers;
+        r[7..11].copy_from_slice(&[t.q, t.m, t.k, t.p]);
+        r[11] = random.from(0, 5);
+        r[19] = random.from(0, 12);
+        (r[21], r[22], r[23], r[25]) = (t.q, random.from(0, 60_000), t.m * t.m, 4 * t.m * t.m);
+        r[28] = match call {
+            REFUSAL_WORD => random.from(0, 12),
+            _ if random.once_in(2) => (random.next() as u32 % t.q).wrapping_sub(t.q / 2 * random.from(0, 1)),
+            _ => number(random),
+        };
+        if random.once_in(4) {
+            r[*random.one_of(&[7, 8, 9, 10, 21, 25, 28])] = number(random);
+        }
+        self.call(call, &r);
     }
 }

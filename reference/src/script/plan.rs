@@ -1,6 +1,7 @@
 //! The calls of a session that keeps to the rules.
 
 use super::random::Random;
+use crate::entries::RECORD;
 use crate::machine::*;
 use crate::matrix::Matrix;
 use crate::message::count;
@@ -8,6 +9,89 @@ use crate::pool::{End, HEADER};
 use crate::system::scratch_size;
 use crate::words::draw;
 use crate::Terms;
+
+/// What the entries stand for.
+#[derive(Clone, Copy, Debug, PartialEq, Eq)]
+pub enum Step {
+    Deal,
+    RightFirst,
+    Left,
+    RightLast,
+    RightDrop,
+    SolverFirst,
+    BlinderFirst,
+    SolverSecond,
+    BlinderSecond,
+    SolverLast,
+    BlinderLast,
+    SolverDrop,
+    BlinderDrop,
+}
+
+const PRODUCT: [Step; 4] = [Step::Deal, Step::RightFirst, Step::Left, Step::RightLast];
+const SYSTEM: [Step; 7] =
+    [Step::Deal, Step::SolverFirst, Step::BlinderFirst, Step::SolverSecond, Step::BlinderSecond, Step::SolverLast, Step::BlinderLast];
+
+impl Step {
+    /// The number of the call.
+    pub fn call(self) -> u32 {
+        match self {
+            Step::Deal => DEAL,
+            Step::RightFirst | Step::Left | Step::SolverFirst | Step::BlinderFirst => FIRST,
+            Step::RightDrop | Step::SolverDrop | Step::BlinderDrop => DROP,
+            _ => NEXT,
+        }
+    }
+
+    /// A dealing has none.
+    pub fn end(self) -> Option<End> {
+        match self {
+            Step::Deal => None,
+            Step::Left => Some(End::Left),
+            Step::RightFirst | Step::RightLast | Step::RightDrop => Some(End::Right),
+            Step::SolverFirst | Step::SolverSecond | Step::SolverLast | Step::SolverDrop => Some(End::Solver),
+            _ => Some(End::Blinder),
+        }
+    }
+
+    /// The kind of the message that is taken, 0 for none.
+    pub fn takes(self) -> u32 {
+        match self {
+            Step::Left | Step::BlinderFirst => 1,
+            Step::RightLast | Step::SolverSecond => 2,
+            Step::BlinderSecond => 3,
+            Step::SolverLast => 4,
+            Step::BlinderLast => 5,
+            _ => 0,
+        }
+    }
+
+    pub fn sends(self) -> bool {
+        !matches!(self, Step::Deal | Step::RightLast | Step::BlinderLast) && self.call() != DROP
+    }
+
+    /// The words of the result.
+    pub fn result(self, t: &Terms) -> usize {
+        match self {
+            Step::Left | Step::RightLast => t.rows() * t.columns(),
+            Step::BlinderLast => t.rows(),
+            _ => 0,
+        }
+    }
+
+    /// The words of the scratch.
+    pub fn scratch(self, t: &Terms) -> usize {
+        if self.end() == Some(End::Blinder) {
+            scratch_size(t.rows())
+        } else {
+            0
+        }
+    }
+
+    pub fn draws(self) -> bool {
+        matches!(self, Step::Deal | Step::Left | Step::BlinderFirst)
+    }
+}
 
 /// Slots of one size in both pools, which begin at 0.
 #[derive(Clone, Copy)]
@@ -18,16 +102,23 @@ pub struct Layout {
     pub tail: usize,
 }
 
+impl Layout {
+    /// The words of a pool.
+    pub fn words(&self) -> usize {
+        self.size * self.slots + self.tail
+    }
+}
+
 #[derive(Clone)]
 pub struct Plan {
     pub is_system: bool,
     pub terms: Terms,
     pub layout: Layout,
-    /// The slot, and the places of its sessions, its scratch and its messages.
+    /// The slot, and the places of its records, its scratch and its messages.
     pub index: usize,
     /// The pool of the left or the blinder's half.
     pub pool: u32,
-    /// Slices that are written have more room than they need.
+    /// Slices that are written have more room than they need, and those without use are not empty.
     pub generous: bool,
     pub detail: u32,
     /// Seeds and counts of raw words: the dealer's; left's or the blinder's.
@@ -35,37 +126,6 @@ pub struct Plan {
     pub coins: (u32, u32),
     /// Seeds of the inputs: of right or the solver, of left or the blinder.
     pub inputs: [(u32, u32); 2],
-}
-
-const PRODUCT: [u32; 4] = [DEAL_PRODUCT, RIGHT_FIRST, LEFT_STEP, RIGHT_LAST];
-const SYSTEM: [u32; 7] = [DEAL_SYSTEM, SOLVER_FIRST, BLINDER_FIRST, SOLVER_SECOND, BLINDER_SECOND, SOLVER_LAST, BLINDER_LAST];
-
-/// The kind of the message that a call takes, 0 for none.
-pub fn takes(call: u32) -> u32 {
-    match call {
-        LEFT_STEP | BLINDER_FIRST => 1,
-        RIGHT_LAST | SOLVER_SECOND => 2,
-        BLINDER_SECOND => 3,
-        SOLVER_LAST => 4,
-        BLINDER_LAST => 5,
-        _ => 0,
-    }
-}
-
-/// The kind of the message that a call sends, 0 for none.
-pub fn sends(call: u32) -> u32 {
-    match call {
-        RIGHT_FIRST | SOLVER_FIRST => 1,
-        LEFT_STEP | BLINDER_FIRST => 2,
-        SOLVER_SECOND => 3,
-        BLINDER_SECOND => 4,
-        SOLVER_LAST => 5,
-        _ => 0,
-    }
-}
-
-pub fn is_blinder(call: u32) -> bool {
-    matches!(call, BLINDER_FIRST | BLINDER_SECOND | BLINDER_LAST | BLINDER_DROP)
 }
 
 /// The words of the larger half.
@@ -118,7 +178,7 @@ impl Plan {
         l.plus(&m).is_regular()
     }
 
-    pub fn calls(&self) -> &'static [u32] {
+    pub fn steps(&self) -> &'static [Step] {
         if self.is_system {
             &SYSTEM
         } else {
@@ -126,46 +186,77 @@ impl Plan {
         }
     }
 
-    /// The registers for a call.
-    pub fn registers(&self, call: u32) -> [u32; REGISTERS] {
+    pub fn drops(&self) -> &'static [Step] {
+        if self.is_system {
+            &[Step::SolverDrop, Step::BlinderDrop]
+        } else {
+            &[Step::RightDrop]
+        }
+    }
+
+    /// The registers for a step, with all room for its line.
+    pub fn registers(&self, step: Step) -> Registers {
         let (t, at) = (&self.terms, self.index as u32);
-        let room = |needed: usize, most: u32| if self.generous { most } else { needed as u32 };
-        let first = matches!(call, LEFT_STEP | DEAL_PRODUCT | DEAL_SYSTEM) || is_blinder(call);
-        let lent = (self.layout.size * self.layout.slots + self.layout.tail) as u32;
+        let room = |needed: usize, most: usize| if self.generous { most as u32 } else { needed as u32 };
+        let lent = 4 * self.layout.words() as u32;
         let mut r = [0; REGISTERS];
-        r[0] = if first { self.pool } else { 1 - self.pool };
+        r[0] = if self.is_first(step) { self.pool } else { 1 - self.pool };
         r[1..5].copy_from_slice(&[lent, lent, self.layout.size as u32, at]);
         r[5..11].copy_from_slice(&[t.session, t.tape, t.q, t.m, t.k, t.p]);
-        r[11..15].copy_from_slice(&[6, 8, 7, SESSION as u32]);
-        r[15] = if is_blinder(call) { 4 + at } else { at };
-        r[16] = 600 * at;
-        r[17] = room(if self.is_system { scratch_size(t.rows()) } else { 0 }, 600);
-        r[18] = t.q;
-        r[19] = at;
-        r[20] = if takes(call) == 0 { 0 } else { count(takes(call), t) as u32 };
-        r[21] = at;
-        r[22] = room(if sends(call) == 0 { 0 } else { count(sends(call), t) }, 3193);
-        r[23] = room(if call == BLINDER_LAST { t.rows() } else { t.rows() * t.columns() }, 1100);
-        let (input, one, two) = match call {
-            RIGHT_FIRST => (self.inputs[0], t.k * t.p, 0),
-            LEFT_STEP => (self.inputs[1], t.m * t.k, 0),
-            SOLVER_FIRST => (self.inputs[0], t.m * t.m, t.m),
-            BLINDER_FIRST => (self.inputs[1], t.m * t.m, t.m),
-            _ => ((0, 0), 0, 0),
-        };
-        r[24..28].copy_from_slice(&[input.0, one, input.1, two]);
-        let raw = match call {
-            DEAL_PRODUCT | DEAL_SYSTEM => self.dealer,
-            LEFT_STEP | BLINDER_FIRST => self.coins,
+        r[11] = step.end().map_or(u32::from(self.is_system), End::number);
+        r[12..14].copy_from_slice(&[RECORD as u32, self.place(step) as u32]);
+        r[14..16].copy_from_slice(&[600 * at, room(4 * step.scratch(t), 4 * SCRATCH)]);
+        r[16..18].copy_from_slice(&[at, if self.generous || step.takes() != 0 { u32::MAX } else { 0 }]);
+        r[18..20].copy_from_slice(&[at, room(if step.sends() { LINE_ROOM } else { 0 }, LINE_ROOM)]);
+        r[20] = room(4 * step.result(t), 4 * RESULTS);
+        r[21] = t.q;
+        r[22..26].copy_from_slice(&self.input(step));
+        let (seed, words) = match step {
+            Step::Deal => self.dealer,
+            Step::Left | Step::BlinderFirst => self.coins,
             _ => (0, 0),
         };
-        r[28..30].copy_from_slice(&[raw.0, raw.1]);
+        r[26..28].copy_from_slice(&[seed, 4 * words]);
         r[31] = self.detail;
         r
     }
 
-    /// Where the slot that a call works on begins, and in which array.
-    pub fn slot(&self, call: u32) -> (usize, usize) {
-        (self.registers(call)[0] as usize, self.index * self.layout.size)
+    /// Seed and words of the matrix, seed of the vector, bytes of both.
+    fn input(&self, step: Step) -> [u32; 4] {
+        let t = &self.terms;
+        let (input, one, two) = match step {
+            Step::RightFirst => (self.inputs[0], t.k * t.p, 0),
+            Step::Left => (self.inputs[1], t.m * t.k, 0),
+            Step::SolverFirst => (self.inputs[0], t.m * t.m, t.m),
+            Step::BlinderFirst => (self.inputs[1], t.m * t.m, t.m),
+            _ => ((0, 0), 0, 0),
+        };
+        [input.0, one, input.1, 4 * (one + two)]
+    }
+
+    fn is_first(&self, step: Step) -> bool {
+        !matches!(step.end(), Some(End::Right | End::Solver))
+    }
+
+    /// The place of a step's record.
+    pub fn place(&self, step: Step) -> usize {
+        if self.is_first(step) {
+            4 + self.index
+        } else {
+            self.index
+        }
+    }
+
+    /// Where the slot that a step works on begins, and in which array.
+    pub fn slot(&self, step: Step) -> (usize, usize) {
+        (self.registers(step)[0] as usize, self.index * self.layout.size)
+    }
+
+    /// How many residues the message has that a step takes.
+    pub fn taken(&self, step: Step) -> usize {
+        match step.takes() {
+            0 => 0,
+            kind => count(kind, &self.terms),
+        }
     }
 }

@@ -1,0 +1,2 @@
+-- Calls    the three calls of a session as one, and what it looks at
+pub mod Calls

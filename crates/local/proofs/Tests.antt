@@ -1,0 +1,248 @@
+-- The tests that steps share, on what a call looks at.
+--   first-seen, open-seen, later-seen   the same tests, where the sides fit and the slot lies in its pool
+--   both-no, early-size, early-turn     elsewhere: a refusal by 4 or by 5 applies, whatever is looked at
+--   message-cases, session-cases, first-cases   what can be the case
+-- Assumes nothing.
+use mathlib.Core.Path.{_≡_, refl, sym, ap, _∙_}
+use mathlib.Core.Bool.{Bool, true, false, cond}
+use mathlib.Core.List.{List, [], _∷_, _++_}
+use Prim.Native.Nat.{ℕ, zero, suc, _+_, _*_, _-_, _≤_, _<_}
+use native.Mathlib.Nat.{mul-le-mul}
+use native.Mathlib.Omega.{arith}
+use lib.Dec.{leb, eqb}
+use lib.ListN.{length, take, drop, length-drop}
+use borrow.Author.Tests.{ne-eqb, le-leb, leb-true, leb-false}
+use Rattle.algebra.specs.Count.{both, total}
+use Rattle.protocol.specs.declared.Terms.{Terms}
+use Rattle.protocol.specs.declared.Refusal.{Refusal}
+use Rattle.protocol.specs.declared.Refusal.the-variants.{Form, Modulus, Composite, Size, Turn, Mark, Stranger, Residue, Dry, Singular}
+use Rattle.protocol.specs.Judge.{placeOf, placeIn, Test, needs, given, clear, Judged, refused, done, judge}
+use Rattle.protocol.specs.Bounds.{Sort, product, system, columns, within, fieldFits, sidesFit, shapeTests, termsTests, inputTests, roomTests, mostResidues}
+use Rattle.protocol.specs.Tape.{Slot, slotAt, isSlot, slotWords, Role, sortOf, tapeSize, slotTests, halfTests, tapeTests, bodyTests}
+use Rattle.protocol.specs.Message.{Message, messageWith, kindSort, messageLayout, messageSize, messageTests, dueTests}
+use Rattle.protocol.specs.Line.{mostSent}
+use Rattle.protocol.specs.System.{sideSize}
+use Rattle.protocol.specs.Step.{firstTests, isOpen, openTests, laterTests}
+use Rattle.algebra.proofs.Tests.{and-left, and-right}
+use Rattle.protocol.proofs.Judge.{earlier}
+use Rattle.protocol.proofs.Tests.{product-sides, system-sides, MessageFits}
+use Rattle.tape.proofs.Sides.{Sides, sides-of}
+use Rattle.judging.proofs.KindLaws.{few-columns}
+use Rattle.judging.specs.InOrder.{judged}
+use Rattle.local.proofs.Outcomes.{early}
+use Rattle.local.specs.Seen.{seenSize, seen, seenWords, seenMessage}
+use Rattle.local.proofs.Slots.{seen-inside, room-seen, tape-seen, body-seen}
+
+-- ---- where the sides fit and the slot lies in its pool
+
+module _ (role : Role) (t : Terms) (s : Slot) (sides : sidesFit (sortOf role) (t .m) (t .k) (t .p) ≡ true) (inside : isSlot s ≡ true) where
+  slot-seen : slotTests (seen role t s) ≡ slotTests s
+  unfolding slotTests
+  slot-seen = rw (seen-inside role t s) refl
+
+  half-seen : halfTests role (t .m) (t .k) (t .p) (seen role t s) ≡ halfTests role (t .m) (t .k) (t .p) s
+  unfolding halfTests seen
+  half-seen = rw (room-seen role t s sides inside) refl
+
+  pub first-seen : firstTests role t (seen role t s) ≡ firstTests role t s
+  unfolding firstTests
+  first-seen = rw (slot-seen, half-seen, tape-seen role t s sides inside 1, body-seen role t s sides inside) refl
+
+  pub open-seen : (due : ℕ) → openTests role due t (seen role t s) ≡ openTests role due t s
+  unfolding openTests
+  open-seen due = rw (slot-seen, half-seen, tape-seen role t s sides inside 2) refl
+
+  pub later-seen : (kind due : ℕ) → laterTests role kind due t (seen role t s) ≡ laterTests role kind due t s
+  unfolding laterTests
+  later-seen kind due = rw (open-seen due, body-seen role t s sides inside) refl
+
+-- ---- elsewhere
+
+-- for `simp`, where a test in the middle of a list fails
+pub both-no : (a : Bool) → both a false ≡ false
+unfolding both
+both-no true = refl
+both-no false = refl
+
+-- ---- two lists up to 4, and up to 5
+
+pub early-size : (ts us : List Test) → clear Form ts ≡ clear Form us → clear Modulus ts ≡ clear Modulus us → clear Composite ts ≡ clear Composite us
+    → clear Size ts ≡ false → clear Size us ≡ false → judged ts ≡ judged us
+unfolding placeOf placeIn
+early-size ts us f m c e g =
+    early ts us Size (earlier (λ r. clear r ts ≡ clear r us) Size (omega arith) (f, (m, (c, tt)))) e g
+
+pub early-turn : (ts us : List Test) → clear Form ts ≡ clear Form us → clear Modulus ts ≡ clear Modulus us → clear Composite ts ≡ clear Composite us
+    → clear Size ts ≡ clear Size us → clear Turn ts ≡ false → clear Turn us ≡ false → judged ts ≡ judged us
+unfolding placeOf placeIn
+early-turn ts us f m c z e g =
+    early ts us Turn (earlier (λ r. clear r ts ≡ clear r us) Turn (omega arith) (f, (m, (c, (z, tt))))) e g
+
+-- ---- a message that is longer than any
+
+mul-pos : {a b : ℕ} → 0 < a → 0 < b → 0 < a * b
+mul-pos {a} {b} h k = mul-le-mul {n₁ = 1} {m₁ = 1} {n₂ = a} {m₂ = b} h k
+
+-- n by n, and n by one column
+system-bounds : (t : Terms) → sidesFit system (t .m) (t .k) (t .p) ≡ true
+    → (0 < t .m * t .k) × (t .m * t .k ≤ 256) × (0 < t .m * (t .p - t .m)) × (t .m * (t .p - t .m) ≤ 16)
+system-bounds t f =
+    let s = system-sides (t .m) (t .k) (t .p) .0 f in
+    let one : t .p - t .m ≡ 1 = omega (arith, s .p-is) in
+    let mk : t .k ≡ t .m = s .k-is in (
+      mul-pos (s .some) (omega (arith, s .some, mk)),
+      mul-le-mul {n₁ = t .m} {m₁ = t .k} {n₂ = 16} {m₂ = 16} (s .few) (omega (arith, s .few, mk)),
+      mul-pos (s .some) (omega (arith, one)),
+      mul-le-mul {n₁ = t .m} {m₁ = t .p - t .m} {n₂ = 16} {m₂ = 1} (s .few) (omega (arith, one)),
+    )
+
+-- the count of a message whose sides fit
+size-bounds : (kind : ℕ) (t : Terms) → within 1 5 kind ≡ true → sidesFit (kindSort kind) (t .m) (t .k) (t .p) ≡ true
+    → (0 < messageSize kind t) × (messageSize kind t ≤ mostSent)
+unfolding within kindSort messageSize messageLayout columns
+size-bounds zero t k f = absurd (let l : 1 ≤ 0 = leb-true 1 0 (and-left _ _ k) in omega arith)
+size-bounds (suc zero) t k f =
+    let s = product-sides (t .m) (t .k) (t .p) .0 f in
+    (mul-pos (s .some-k) (s .some-p), omega (arith, s .few-y))
+size-bounds (suc (suc zero)) t k f =
+    let s = product-sides (t .m) (t .k) (t .p) .0 f in
+    let mk : 0 < t .m * t .k = mul-pos (s .some-m) (s .some-k) in
+    (omega (arith, mk), omega (arith, s .few-x, mul-le-mul {n₁ = t .m} {m₁ = t .p} {n₂ = 32} {m₂ = 32} (s .few-m) (s .few-p)))
+size-bounds (suc (suc (suc zero))) t k f = let b = system-bounds t f in (b .0, omega (arith, b .1))
+size-bounds (suc (suc (suc (suc zero)))) t k f =
+    let b = system-bounds t f in
+    (omega (arith, b .0), omega (arith, b .1, b .3))
+size-bounds (suc (suc (suc (suc (suc zero))))) t k f = let b = system-bounds t f in (b .2, omega (arith, b .3))
+size-bounds (suc (suc (suc (suc (suc (suc n)))))) t k f =
+    absurd (let l : suc (suc (suc (suc (suc (suc n))))) ≤ 5 = leb-true _ _ (and-right _ _ k) in omega arith)
+
+-- ---- what can be the case of a call that takes a message
+
+-- its head's sides fit
+abbrev pub headFits : Message → Bool
+headFits a = sidesFit (kindSort (a .head .kind)) (a .head .terms .m) (a .head .terms .k) (a .head .terms .p)
+
+-- and its count of residues
+abbrev pub headSize : Message → ℕ
+headSize a = messageSize (a .head .kind) (a .head .terms)
+
+module _ (P : Message → Type 0) (a : Message) where
+  kept-is : leb (length (a .residues)) mostSent ≡ true → P a → P (seenMessage a)
+  unfolding seenMessage
+  kept-is e h = rw e h
+
+  empty-is : leb (length (a .residues)) mostSent ≡ false → P (messageWith (a .head) []) → P (seenMessage a)
+  unfolding seenMessage
+  empty-is e h = rw e h
+
+  -- a message that is longer than any has wrong sides or a wrong count, and so has an empty one
+  pub message-cases : within 1 5 (a .head .kind) ≡ true
+      → (headFits a ≡ false → P (messageWith (a .head) []))
+      → (eqb (length (a .residues)) (headSize a) ≡ false → eqb 0 (headSize a) ≡ false → P (messageWith (a .head) []))
+      → P a
+      → P (seenMessage a)
+  message-cases known wrong-sides wrong-count fits = go (leb (length (a .residues)) mostSent) refl
+    where
+      counts : (b : Bool) → headFits a ≡ b → mostSent < length (a .residues) → P (messageWith (a .head) [])
+      counts false e l = wrong-sides e
+      counts true e l =
+          let z = size-bounds (a .head .kind) (a .head .terms) known e in
+          wrong-count (ne-eqb (length (a .residues)) (headSize a) (λ f. omega (arith, l, z .1, f))) (ne-eqb 0 (headSize a) (λ f. omega (arith, z .0, f)))
+
+      go : (b : Bool) → leb (length (a .residues)) mostSent ≡ b → P (seenMessage a)
+      go true e = kept-is e fits
+      go false e = empty-is e (counts (headFits a) refl (leb-false (length (a .residues)) mostSent e))
+
+-- the session of a later step or a drop: closed, its sides don't fit, its slot isn't in the pool, or none of these
+pub session-cases : {P : Type 0} (role : Role) (due : ℕ) (t : Terms) (s : Slot)
+    → (isOpen due ≡ false → P)
+    → (isOpen due ≡ true → sidesFit (sortOf role) (t .m) (t .k) (t .p) ≡ false → P)
+    → (isOpen due ≡ true → isSlot s ≡ false → P)
+    → (sidesFit (sortOf role) (t .m) (t .k) (t .p) ≡ true → isSlot s ≡ true → P)
+    → P
+session-cases {P} role due t s closed wrong-sides outside fits = go (isOpen due) refl
+  where
+    inner : (b c : Bool) → sidesFit (sortOf role) (t .m) (t .k) (t .p) ≡ b → isSlot s ≡ c → isOpen due ≡ true → P
+    inner false c e f o = wrong-sides o e
+    inner true false e f o = outside o f
+    inner true true e f o = fits e f
+
+    go : (b : Bool) → isOpen due ≡ b → P
+    go false o = closed o
+    go true o = inner (sidesFit (sortOf role) (t .m) (t .k) (t .p)) (isSlot s) refl refl o
+
+-- the same of a first step, whose input may be longer than any
+pub first-cases : (P : List ℕ → Type 0) (role : Role) (t : Terms) (s : Slot) (input : List ℕ)
+    → ((l : List ℕ) → sidesFit (sortOf role) (t .m) (t .k) (t .p) ≡ false → P l)
+    → ((l : List ℕ) → isSlot s ≡ false → P l)
+    → (mostResidues < length input → sidesFit (sortOf role) (t .m) (t .k) (t .p) ≡ true → P [])
+    → (sidesFit (sortOf role) (t .m) (t .k) (t .p) ≡ true → isSlot s ≡ true → P input)
+    → P (seenWords input)
+unfolding seenWords
+first-cases P role t s input wrong-sides outside long fits = go (sidesFit (sortOf role) (t .m) (t .k) (t .p)) (isSlot s) refl refl
+  where
+    inner : (b : Bool) → leb (length input) mostResidues ≡ b → sidesFit (sortOf role) (t .m) (t .k) (t .p) ≡ true → isSlot s ≡ true
+        → P (cond b input [])
+    inner true l e f = fits e f
+    inner false l e f = long (leb-false (length input) mostResidues l) e
+
+    go : (b c : Bool) → sidesFit (sortOf role) (t .m) (t .k) (t .p) ≡ b → isSlot s ≡ c → P (cond (leb (length input) mostResidues) input [])
+    go false c e f = wrong-sides _ e
+    go true false e f = outside _ f
+    go true true e f = inner (leb (length input) mostResidues) refl e f
+
+-- a message that fits is looked at whole
+pub few-sent : (sort : Sort) (kind : ℕ) (t : Terms) → sidesFit sort (t .m) (t .k) (t .p) ≡ true → messageSize kind t ≤ mostSent
+unfolding messageSize messageLayout
+few-sent sort kind t e = go (eqb kind 1) (eqb kind 2) (eqb kind 3) (eqb kind 4)
+  where
+    z : Sides (t .m) (t .k) (t .p)
+    z = sides-of sort (t .m) (t .k) (t .p) e
+
+    c : t .m * columns (t .m) (t .p) ≤ t .m * t .p
+    c = few-columns (t .m) (t .p)
+
+    go : (a b c d : Bool) → total (cond a (t .k * t .p ∷ []) (cond b (t .m * t .k ∷ t .m * t .p ∷ []) (cond c (t .m * t .k ∷ [])
+        (cond d (t .m * t .k ∷ t .m * columns (t .m) (t .p) ∷ []) (t .m * columns (t .m) (t .p) ∷ []))))) ≤ mostSent
+    go true b c′ d = omega (arith, z .few-kp)
+    go false true c′ d = omega (arith, z .few-mk, z .few-mp)
+    go false false true d = omega (arith, z .few-mk)
+    go false false false true = omega (arith, z .few-mk, z .few-mp, c)
+    go false false false false = omega (arith, z .few-mp, c)
+
+pub message-whole : (sort : Sort) (kind : ℕ) (t : Terms) (a : Message) → sidesFit sort (t .m) (t .k) (t .p) ≡ true → MessageFits kind t a → seenMessage a ≡ a
+unfolding seenMessage
+message-whole sort kind t a e f =
+    rw (le-leb (length (a .residues)) mostSent (omega (arith, f .residues .size, few-sent sort kind t e))) refl
+
+-- and an input
+pub words-whole : (l : List ℕ) → length l ≤ mostResidues → seenWords l ≡ l
+unfolding seenWords
+words-whole l h = rw (le-leb (length l) mostResidues h) refl
+
+-- X and Y have residues
+pub some-mk : (sort : Sort) (t : Terms) → sidesFit sort (t .m) (t .k) (t .p) ≡ true → 0 < t .m * t .k
+some-mk product t e = let s = product-sides (t .m) (t .k) (t .p) .0 e in mul-pos (s .some-m) (s .some-k)
+some-mk system t e = system-bounds t e .0
+
+pub some-kp : (sort : Sort) (t : Terms) → sidesFit sort (t .m) (t .k) (t .p) ≡ true → 0 < t .k * t .p
+some-kp product t e = let s = product-sides (t .m) (t .k) (t .p) .0 e in mul-pos (s .some-k) (s .some-p)
+some-kp system t e =
+    let s = system-sides (t .m) (t .k) (t .p) .0 e in
+    mul-pos (omega (arith, s .some, s .k-is)) (omega (arith, s .p-is))
+
+-- a system's matrix, and the vector behind it
+pub cut-length : (n : ℕ) (l : List ℕ) → length l ≤ n + length (drop n l)
+cut-length n l = omega (arith, length-drop n l)
+
+pub few-square : (t : Terms) → sidesFit system (t .m) (t .k) (t .p) ≡ true
+    → (0 < t .m * t .m) × (t .m * t .p ≤ 272) × (t .m * t .m ≤ 256) × (sideSize t ≤ 16)
+unfolding sideSize columns
+few-square t e =
+    let s = system-sides (t .m) (t .k) (t .p) .0 e in
+    let b = system-bounds t e in (
+      mul-pos (s .some) (s .some),
+      mul-le-mul {n₁ = t .m} {m₁ = t .p} {n₂ = 16} {m₂ = 17} (s .few) (omega (arith, s .few, s .p-is)),
+      mul-le-mul {n₁ = t .m} {m₁ = t .m} {n₂ = 16} {m₂ = 16} (s .few) (s .few),
+      b .3,
+    )

@@ -1,0 +1,2 @@
+-- Settled   how code sees by its answer that a call was done
+pub mod Settled

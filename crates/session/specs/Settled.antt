@@ -1,0 +1,34 @@
+-- How code sees by its answer that a call was done, and what a call's tests alone tell. Assumes nothing.
+use mathlib.Core.Bool.{Bool, true, false}
+use Rattle.protocol.specs.declared.Answer.{Answer}
+use Rattle.protocol.specs.declared.Answer.the-variants.{Accepted, Refused}
+use Rattle.protocol.specs.declared.Refusal.{Refusal}
+use Rattle.protocol.specs.Judge.{Judged, refused, done}
+use Rattle.protocol.specs.declared.Refusal.the-variants.{Form, Modulus, Composite, Size, Turn, Mark, Stranger, Residue, Dry, Singular}
+
+-- a first step
+abbrev pub isAccepted : Answer → Bool
+isAccepted (Accepted n) = true
+isAccepted (Refused r) = false
+
+abbrev pub isSingular : Refusal → Bool
+isSingular Form = false
+isSingular Modulus = false
+isSingular Composite = false
+isSingular Size = false
+isSingular Turn = false
+isSingular Mark = false
+isSingular Stranger = false
+isSingular Residue = false
+isSingular Dry = false
+isSingular Singular = true
+
+-- a later step or a drop: a singular sum is done, too
+abbrev pub isSettled : Answer → Bool
+isSettled (Accepted n) = true
+isSettled (Refused r) = isSingular r
+
+-- whether a call is done, and the refusal if not: what its tests alone tell
+abbrev pub judgement : {A : Type 0} → Judged A → Judged Unit
+judgement (refused r) = refused r
+judgement (done a) = done tt

@@ -1,0 +1,100 @@
+//! Random calls of the engine beside the reference: `fuzz [COUNT] [SEED]`.
+//!
+//! Worlds of a few hundred calls: sessions of both sorts with damaged calls between the right ones, calls with any numbers on what is left,
+//! messages of any bytes, and small entries. After each call its answer and every byte of every array must be the same on both sides. The
+//! first difference ends the run; the script up to it is then in `failed.script`, which `replay` performs, here and in the reference.
+
+use std::cell::RefCell;
+use std::panic::{catch_unwind, AssertUnwindSafe};
+use std::process::ExitCode;
+use std::rc::Rc;
+
+use fuzz::engine::Engine;
+use reference::answers::Reference;
+use reference::machine::{Machine, DEAL};
+use reference::script::driver::Habit;
+use reference::script::random::Random;
+use reference::script::reach;
+use reference::script::writer::{Tally, Writer};
+
+const HABIT: Habit = Habit { damaged: 2, taken: 4, dropped: 10 };
+
+/// What differs after a line, if anything does.
+fn difference(ours: &Machine<Reference>, theirs: &Machine<Engine>) -> Option<String> {
+    if ours.reply != theirs.reply {
+        return Some(format!("{:?} by the reference, {:?} by the engine", ours.reply, theirs.reply));
+    }
+    for (number, (a, b)) in ours.arrays.iter().zip(&theirs.arrays).enumerate() {
+        if a != b {
+            let at = (0..a.len()).find(|at| a[*at] != b[*at]).unwrap_or(0);
+            return Some(format!("array {number}, byte {at}: {} by the reference, {} by the engine", a[at], b[at]));
+        }
+    }
+    (ours.mail != theirs.mail).then(|| "mail".to_string())
+}
+
+fn world(random: &mut Random, writer: &mut Writer) {
+    let large = random.once_in(40);
+    writer.sessions(random, HABIT, if large { 2 } else { 5 }, large, 0);
+    for _ in 0..40 {
+        writer.any_call(random);
+    }
+    for _ in 0..8 {
+        writer.any_line(random);
+    }
+    for _ in 0..12 {
+        writer.any_small(random);
+    }
+}
+
+/// A world on both sides, and what differs.
+fn compared(random: &mut Random) -> (Writer, Option<String>) {
+    let mut writer = Writer::default();
+    writer.machine.quiet = true;
+    let mut theirs = Machine::<Engine>::default();
+    theirs.quiet = true;
+    let found = Rc::new(RefCell::new(None));
+    let told = found.clone();
+    writer.observer = Some(Box::new(move |line, ours| {
+        theirs.perform(line);
+        if line[0] >= DEAL {
+            if let Some(difference) = difference(ours, &theirs) {
+                *told.borrow_mut() = Some(difference);
+                panic!("a difference");
+            }
+        }
+    }));
+    let ended = catch_unwind(AssertUnwindSafe(|| world(random, &mut writer)));
+    let why = ended.err().map(|_| found.borrow().clone().unwrap_or("the reference stopped".to_string()));
+    (writer, why)
+}
+
+fn main() -> ExitCode {
+    let mut arguments = std::env::args().skip(1).map(|word| word.parse::<u64>().expect("a number"));
+    let wanted = arguments.next().unwrap_or(100_000) as usize;
+    let seed = arguments.next().unwrap_or(1);
+    let mut tally = Tally::new();
+    let mut made = 0;
+    let mut number = 0;
+    while made < wanted {
+        let mut random = Random(seed.wrapping_mul(1 << 32).wrapping_add(number));
+        let (writer, difference) = compared(&mut random);
+        if let Some(why) = difference {
+            println!("world {number} of seed {seed}: {why}");
+            println!("registers {:?}", writer.machine.registers);
+            std::fs::write("failed.script", &writer.script).expect("failed.script is written");
+            return ExitCode::FAILURE;
+        }
+        number += 1;
+        for (key, count) in &writer.tally {
+            *tally.entry(key.clone()).or_default() += count;
+            made += count;
+        }
+    }
+    println!("{made} calls in {number} worlds of seed {seed}: no difference");
+    print!("{}", reach::shown(&tally));
+    for (name, number) in reach::missing(&tally) {
+        println!("{name} was never answered by {number}");
+    }
+    ExitCode::SUCCESS
+}
