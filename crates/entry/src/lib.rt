@@ -1,4 +1,13 @@
-// The types of the entries on bytes. Their meaning stands in specs/; there is no code here.
+// The types and numbers of the entries on bytes. Their meaning stands in specs/; there is no code here.
+
+// The ends' numbers.
+pub const LEFT: u32 = 1;
+
+pub const RIGHT: u32 = 2;
+
+pub const BLINDER: u32 = 3;
+
+pub const SOLVER: u32 = 4;
 
 // One session of any end (RULES 11.1): the end's number, its terms, the kind of message that is due, and what it keeps.
 pub struct Session {

@@ -4,7 +4,7 @@
 //   yuthsaok_first, yuthsaok_next, yuthsaok_drop  a session: the first step of an end, the step that is due, the drop
 //   yuthsaok_version .. yuthsaok_refusal_word     sizes, and small tests and conversions
 use entry::Report;
-use host_session::Opening;
+use host_first::Opening;
 use protocol::SessionId;
 use protocol::TapeId;
 use protocol::Terms;
@@ -97,7 +97,7 @@ pub extern "C" fn yuthsaok_first(
     };
     let at = Place { size, index };
     let f = Opening { end, terms, at };
-    host_session::first(
+    host_first::first(
         f,
         session,
         pool,
@@ -140,7 +140,7 @@ pub extern "C" fn yuthsaok_next(
         }) size index (now (message .entry))) ⌝ }
 {
     let at = Place { size, index };
-    host_session::next(session, pool, at, scratch, message, line, result)
+    host_later::next(session, pool, at, scratch, message, line, result)
 }
 
 #[no_mangle]
@@ -164,7 +164,7 @@ pub extern "C" fn yuthsaok_drop(
         (dropOn (record { host = now (session .entry); pool = now (pool .entry); scratch = now (scratch .entry); line = []; result = [] }) size index) ⌝ }
 {
     let at = Place { size, index };
-    host_session::drop(session, pool, at, scratch)
+    host_later::drop(session, pool, at, scratch)
 }
 
 // ---- sizes, tests and conversions

@@ -1,4 +1,5 @@
 -- What a call looks at, as its code counts it.
+--   half-there, half-none                whose half, by a record's bytes
 --   half-whole, half-header              the words of a half, and of a header where the sides don't fit
 --   slot-out, slot-seen                  the words of a slot
 --   role-fits, coins-out .. coins-none   how many residues a first step draws
@@ -11,15 +12,18 @@ use mathlib.Core.List.{List, [], _∷_}
 use Prim.Native.Nat.{ℕ, zero, suc, _*_, _/_, _≤_, _<_}
 use native.Mathlib.Nat.{mul-le-mul}
 use native.Mathlib.Omega.{arith}
-use lib.Dec.{ltb}
-use lib.ListN.{length, take, length-take}
+use lib.Dec.{ltb, eqb}
+use lib.ListN.{length, take, getD, length-take}
 use lib.Seq.{take-all}
 use borrow.Author.Tests.{le-ltb, lt-ltb, ne-eqb, eq-eqb, le-leb, lt-leb}
 use Rattle.algebra.specs.Words.{over}
 use Rattle.vectors.proofs.Written.{over-part}
 use Rattle.protocol.specs.declared.Terms.{Terms}
+use Rattle.protocol.specs.declared.RightSession.{RightSession}
 use Rattle.protocol.specs.Bounds.{product, system, sidesFit}
 use Rattle.protocol.specs.Tape.{Role, left, right, blinder, solver, sortOf, bodySize, tapeSize}
+use Rattle.protocol.specs.Message.{noTerms}
+use Rattle.protocol.specs.Product.{noRight}
 use Rattle.protocol.specs.System.{scratchSize}
 use Rattle.protocol.specs.Drawing.{isKept, wordsRead}
 use Rattle.tape.specs.declared.End.{End}
@@ -27,11 +31,47 @@ use Rattle.tape.specs.Ends.{role, sort}
 use Rattle.tape.proofs.Sides.{unknowns, sides-of}
 use Rattle.drawing.specs.Sift.{keptWords, SiftedTo}
 use Rattle.drawing.specs.declared.Sifted.{Sifted}
-use Rattle.entry.specs.Bytes.{wordsOf}
-use Rattle.entry.proofs.Bytes.{words-length}
-use Rattle.local.specs.Seen.{least, halfSize, seenWords, endRole, coinCount}
+use Rattle.entry.specs.declared.Session.{Session}
+use Rattle.entry.specs.Bytes.{wordAt, wordsOf}
+use Rattle.entry.specs.Record.{termsOf, rightOf, sessionFrom}
+use Rattle.entry.specs.Entry.{sessionIn}
+use Rattle.entry.proofs.Bytes.{words-length, words-at}
+use Rattle.local.specs.Seen.{least, halfSize, seenWords, endRole, sessionRole, sessionTerms, coinCount}
 use Rattle.local.proofs.Tests.{few-square}
-use Rattle.host_parts.specs.Stored.{seenIn}
+use Rattle.local.specs.Stored.{seenIn}
+
+-- ---- whose half
+
+terms-by : (x : Session)
+    → sessionTerms x ≡ cond (eqb (x .end) 4) (x .terms) (cond (eqb (x .end) 3) (x .terms) (cond (eqb (x .end) 2) (x .terms) noTerms))
+unfolding sessionTerms rightOf
+terms-by x = go (eqb (x .end) 2)
+  where
+    own : RightSession
+    own = record { terms = x .terms; due = x .due }
+
+    go : (b : Bool)
+        → cond (eqb (x .end) 4) (x .terms) (cond (eqb (x .end) 3) (x .terms) (cond {A = RightSession} b own noRight .terms))
+        ≡ cond (eqb (x .end) 4) (x .terms) (cond (eqb (x .end) 3) (x .terms) (cond b (x .terms) noTerms))
+    go true = refl
+    go false = refl
+
+module _ (l : List ℕ) where
+  pub half-there : {end : ℕ} {r : Role} {t u : Terms} → length l ≡ 1120 → end ≡ wordAt l 0
+      → t ≡ termsOf (getD (wordsOf l) 1 0) (getD (wordsOf l) 2 0) (getD (wordsOf l) 3 0) (getD (wordsOf l) 4 0) (getD (wordsOf l) 5 0) (getD (wordsOf l) 6 0)
+      → r ≡ cond (eqb end 4) solver (cond (eqb end 3) blinder right)
+      → u ≡ cond (eqb end 4) t (cond (eqb end 3) t (cond (eqb end 2) t noTerms))
+      → (r ≡ sessionRole (sessionIn l)) × (u ≡ sessionTerms (sessionIn l))
+  unfolding sessionIn sessionFrom sessionRole
+  half-there h e f g k =
+      let first = words-at 0 l (omega arith) in
+      let is = eq-eqb (length l) 1120 h in
+      (rw (is, first, ← e) g, rw (terms-by (sessionIn l), is, first, ← e, ← f) k)
+
+  -- a record of another length
+  pub half-none : (length l ≡ 1120 → ⊥) → (right ≡ sessionRole (sessionIn l)) × (noTerms ≡ sessionTerms (sessionIn l))
+  unfolding sessionIn sessionRole sessionTerms rightOf
+  half-none f = let is = ne-eqb (length l) 1120 f in (rw is refl, rw is refl)
 
 -- ---- the words of a half
 

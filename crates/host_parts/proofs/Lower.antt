@@ -13,7 +13,7 @@ use Rattle.judging.specs.declared.Check.{Check}
 use Rattle.judging.specs.declared.Check.the-variants.{Passed, Refused}
 use Rattle.judging.specs.InOrder.{checked}
 use Rattle.judging.specs.Lowest.{lower}
-use Rattle.host_parts.specs.Stored.{lowerOf}
+use Rattle.local.specs.Stored.{lowerOf}
 
 same-refusal : (r s : Refusal) → _≡_ {A = Judged Unit} (refused r) (refused s) → r ≡ s
 same-refusal r s e = cc

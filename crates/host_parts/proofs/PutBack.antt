@@ -1,16 +1,18 @@
 -- What a step left, put back.
 --   sent-none, sent-out, few-words, sent-some     how many residues are sent
+--   few-sent-words                                of the words as many as there are, and no more than a message has
 --   line-none, line-some, line-kept               the line of what is sent
 --   all-words                                     words as bytes
 --   sent-stored, sent-full                        what an accepted step leaves, and where its line has no room
 --   stored-accepted, stored-sum, stored-refused   by the step's answer
 -- Assumes nothing.
-use mathlib.Core.Path.{_≡_, refl, ap, _∙_}
+use mathlib.Core.Path.{_≡_, refl, sym, ap, _∙_}
 use mathlib.Core.Bool.{Bool, true, false}
 use mathlib.Core.List.{List, []}
 use Prim.Native.Nat.{ℕ, _+_, _*_, _≤_, _<_}
 use native.Mathlib.Omega.{arith}
-use lib.ListN.{length, take}
+use native.Mathlib.Decide.{decLe}
+use lib.ListN.{length, take, length-take}
 use lib.Seq.{take-all}
 use borrow.Author.Tests.{ne-eqb, eq-eqb, le-leb, lt-leb}
 use Rattle.algebra.specs.Words.{over}
@@ -29,12 +31,28 @@ use Rattle.entry.specs.declared.Report.{Report}
 use Rattle.entry.specs.Bytes.{bytesOf}
 use Rattle.entry.specs.Record.{recordWords}
 use Rattle.entry.specs.Entry.{Lent, Left, lineOf, refusalReport}
-use Rattle.session.specs.Settled.{isSingular}
-use Rattle.local.specs.Seen.{sentSize}
+use Rattle.local.specs.Settled.{isSingular}
+use Rattle.local.specs.Seen.{least, sentSize}
+use Rattle.local.proofs.Slots.{least-left, least-right, least-below}
 use Rattle.local.proofs.Tests.{few-sent}
-use Rattle.host_parts.specs.Stored.{sentLine, storedSent, stored}
+use Rattle.local.specs.Stored.{sentLine, storedSent, stored}
 
 -- ---- the line
+
+-- as many of the words as there are
+least-takes : (k : ℕ) (l : List ℕ) → take (least k (length l)) l ≡ take k l
+least-takes k l =
+    elim (decLe k (length l)) [
+      | yes h ↦ ap (λ (i : ℕ). take i l) (least-left k (length l) h)
+      | no h ↦ ap (λ (i : ℕ). take i l) (least-right k (length l) (omega arith))
+          ∙ (take-all (length l) l (omega arith) ∙ sym (take-all k l (omega arith)))
+    ]
+
+pub few-sent-words : {n : ℕ} (k : ℕ) (rs : List ℕ) → k ≤ 3072 → n ≡ least k (length rs)
+    → (n ≡ length (take n rs)) × (length (take n rs) ≤ 3072)
+few-sent-words {n} k rs h e =
+    let below = least-below k (length rs) in
+    let many : n ≡ length (take n rs) = simp length-take (omega (arith, e, below)) in (many, omega (arith, e, below, many))
 
 module _ (h : Head) where
   pub sent-none : h .kind ≡ 0 → (0 ≡ sentSize h) × (0 ≤ 3072)
@@ -57,9 +75,10 @@ module _ (h : Head) where
   unfolding sentLine lineOf
   line-none rs e = rw (eq-eqb (h .kind) 0 e) refl
 
-  pub line-some : (n : ℕ) (rs : List ℕ) → (h .kind ≡ 0 → ⊥) → n ≡ sentSize h → messageLine (messageWith h (take n rs)) ≡ sentLine h rs
+  pub line-some : {n k : ℕ} (rs : List ℕ) → (h .kind ≡ 0 → ⊥) → k ≡ sentSize h → n ≡ least k (length rs)
+      → messageLine (messageWith h (take n rs)) ≡ sentLine h rs
   unfolding sentLine lineOf
-  line-some n rs e is = rw (ne-eqb (h .kind) 0 e, is) refl
+  line-some {n} {k} rs e is few = rw (ne-eqb (h .kind) 0 e, few, least-takes k rs, is) refl
 
 -- no line over a slice
 pub line-kept : (h : Head) (rs line : List ℕ) → h .kind ≡ 0 → line ≡ over (sentLine h rs) line

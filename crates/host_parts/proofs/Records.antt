@@ -1,5 +1,6 @@
 -- A session's record, from its bytes and into them.
 --   terms-there, kept-there, session-there   what stands in a record's bytes
+--   due-there, due-none                      the kind of message that is due
 --   record-put                               a session's words over a record's bytes
 -- Assumes nothing.
 use mathlib.Core.Path.{_≡_, refl, sym, ap, _∙_}
@@ -8,6 +9,7 @@ use Prim.Native.Nat.{ℕ, _-_}
 use native.Mathlib.Omega.{arith}
 use lib.ListN.{length, getD, take, drop, length-drop}
 use lib.Seq.{take-all}
+use borrow.Author.Tests.{eq-eqb, ne-eqb}
 use borrow.Rule.Slice.PartMut.{midOf, putMid}
 use Rattle.algebra.specs.Words.{over}
 use Rattle.vectors.proofs.Written.{tail-part, part-then, after-over}
@@ -15,9 +17,10 @@ use Rattle.protocol.specs.declared.Terms.{Terms}
 use Rattle.entry.specs.declared.Session.{Session}
 use Rattle.entry.specs.Bytes.{wordAt, wordsOf, bytesOf}
 use Rattle.entry.specs.Record.{termsOf, recordWords, sessionFrom}
+use Rattle.entry.specs.Entry.{sessionIn}
 use Rattle.entry.proofs.Bytes.{words-at, words-length, words-drop, bytes-length, bytes-append}
-use Rattle.session.proofs.Arrays.{over-whole}
-use Rattle.host_parts.specs.Stored.{startWords}
+use Rattle.local.proofs.Lists.{over-whole}
+use Rattle.local.specs.Stored.{startWords}
 
 module _ (l : List ℕ) (h : length l ≡ 1120) where
   pub terms-there : {a b c d e f : ℕ} → a ≡ wordAt l 4 → b ≡ wordAt l 8 → c ≡ wordAt l 12 → d ≡ wordAt l 16 → e ≡ wordAt l 20 → f ≡ wordAt l 24
@@ -54,6 +57,15 @@ module _ (l : List ℕ) (h : length l ≡ 1120) where
       → _≡_ {A = Session} (record { end = end; terms = t; due = due; kept = kept }) (sessionFrom (wordsOf l))
   unfolding sessionFrom
   session-there e f g k = rw (words-at 0 l (omega arith), words-at 7 l (omega arith), e, f, g, k)
+
+  pub due-there : {due : ℕ} → due ≡ wordAt l 28 → due ≡ sessionIn l .due
+  unfolding sessionIn sessionFrom
+  due-there e = rw (eq-eqb (length l) 1120 h, words-at 7 l (omega arith)) e
+
+-- a record of another length
+pub due-none : (l : List ℕ) → (length l ≡ 1120 → ⊥) → 0 ≡ sessionIn l .due
+unfolding sessionIn
+due-none l f = rw (ne-eqb (length l) 1120 f) refl
 
 start-bytes : (x : Session) → length (bytesOf (startWords x)) ≡ 32
 unfolding startWords

@@ -1,4 +1,2 @@
--- Stored   what the code puts back of what a step left in local words
--- Taken    a line whose form was read
-pub mod Stored
+-- Taken   a line whose form was read
 pub mod Taken

@@ -16,7 +16,7 @@ ghost use Rattle.protocol.specs.declared.Refusal.the-variants.{Turn};
 ghost use Rattle.protocol.specs.Judge.{needs};
 ghost use Rattle.judging.specs.InOrder.{checked, judged};
 ghost use Rattle.entry.specs.Entry.{refusalReport, recordTests, wholeTests};
-ghost use Rattle.host_parts.specs.Stored.{lowerOf};
+ghost use Rattle.local.specs.Stored.{lowerOf};
 
 // Whole words.
 fn check_whole(n: usize) -> Check

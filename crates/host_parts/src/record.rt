@@ -1,6 +1,7 @@
 // The session in its record's bytes (RULES 11.1).
-//   session_in    the session that a record holds
-//   put_session   a session, put into its record
+//   session_in, no_session   the session that a record holds, and none
+//   due_in, terms_in         of it the kind of message that is due, and the terms
+//   put_session              a session, put into its record
 use entry::Session;
 use judging::message::no_head;
 use protocol::SessionId;
@@ -15,12 +16,12 @@ ghost use Rattle.algebra.specs.Words.{over};
 ghost use Rattle.entry.specs.Bytes.{wordsOf, bytesOf};
 ghost use Rattle.entry.specs.Record.{noSession, termsOf, recordWords, sessionFrom};
 ghost use Rattle.entry.specs.Entry.{sessionIn};
-ghost use Rattle.host_parts.specs.Stored.{startWords};
+ghost use Rattle.local.specs.Stored.{startWords};
 
 // How many bytes a record has.
 pub const SIZE: usize = 1120;
 
-fn no_session() -> Session
+pub fn no_session() -> Session
     ensures { λ r. ⌜ r ≡ noSession ⌝ }
 {
     let none = no_head();
@@ -34,7 +35,7 @@ fn no_session() -> Session
     }
 }
 
-fn terms_in(session: &[u8]) -> Terms
+pub fn terms_in(session: &[u8]) -> Terms
     requires { ⌜ length (now session) ≡ 1120 ⌝ }
     ensures { λ r. ⌜ r ≡ termsOf (getD (wordsOf (now (session .entry))) 1 0) (getD (wordsOf (now (session .entry))) 2 0) (getD (wordsOf (now (session .entry))) 3 0)
         (getD (wordsOf (now (session .entry))) 4 0) (getD (wordsOf (now (session .entry))) 5 0) (getD (wordsOf (now (session .entry))) 6 0) ⌝ }
@@ -80,6 +81,15 @@ pub fn session_in(session: &[u8]) -> Session
         return no_session();
     }
     session_from(session)
+}
+
+pub fn due_in(session: &[u8]) -> u32
+    ensures { λ r. ⌜ r ≡ sessionIn (now (session .entry)) .due ⌝ }
+{
+    if session.len() != SIZE {
+        return 0;
+    }
+    word_at(session, 28)
 }
 
 // The eight words before what is kept.

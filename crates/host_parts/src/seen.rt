@@ -1,18 +1,21 @@
 // What a call looks at: how many words of its slot, and which words of its input and its raw words.
+//   smaller           the smaller of two numbers
+//   is_system         whether an end is one of a system
 //   end_of, half_in   whose half a call looks at
-//   seen_in       the words of the slot, and where they begin
-//   sift_coins    the raw words that are kept, as many as a first step draws
-//   get_input     the input
+//   seen_in           the words of the slot, and where they begin
+//   sift_coins        the raw words that are kept, as many as a first step draws
+//   get_input         the input
+use crate::record;
+use crate::record::terms_in;
 use blinder::scratch_size;
 use drawing::Sifted;
 use drawing::sift;
-use entry::Session;
+use entry::BLINDER;
+use entry::LEFT;
+use entry::RIGHT;
+use entry::SOLVER;
+use judging::message::no_head;
 use protocol::Terms;
-use session::record::BLINDER;
-use session::record::LEFT;
-use session::record::RIGHT;
-use session::record::SOLVER;
-use session::record::right_of;
 use sides::Matrix;
 use tape::End;
 use tape::Place;
@@ -21,18 +24,22 @@ use tape::header;
 use tape::is_slot;
 use vectors::times;
 use words::get_words;
+use words::word_at;
 ghost use mathlib.Core.Path.{_≡_};
 ghost use mathlib.Core.Bool.{true, cond};
 ghost use Prim.Native.Nat.{_+_, _*_, _/_, _≤_};
-ghost use lib.Dec.{ltb};
+ghost use lib.Dec.{ltb, eqb};
 ghost use lib.ListN.{length, take};
 ghost use Rattle.protocol.specs.Bounds.{sidesFit};
 ghost use Rattle.protocol.specs.Drawing.{wordsRead};
+ghost use Rattle.protocol.specs.Tape.{right, blinder, solver};
+ghost use Rattle.protocol.specs.Message.{noTerms};
 ghost use Rattle.tape.specs.Ends.{role, sort};
 ghost use Rattle.drawing.specs.Sift.{keptWords};
 ghost use Rattle.entry.specs.Bytes.{wordsOf};
-ghost use Rattle.local.specs.Seen.{least, halfSize, seenWords, endRole, sessionRole, sessionTerms, coinCount};
-ghost use Rattle.host_parts.specs.Stored.{seenIn};
+ghost use Rattle.entry.specs.Entry.{sessionIn};
+ghost use Rattle.local.specs.Seen.{least, halfSize, seenWords, isSystem, endRole, sessionRole, sessionTerms, coinCount};
+ghost use Rattle.local.specs.Stored.{seenIn};
 
 pub fn smaller(a: usize, b: usize) -> usize
     ensures { λ r. ⌜ r ≡ least a b ⌝ }
@@ -41,6 +48,15 @@ pub fn smaller(a: usize, b: usize) -> usize
 }
 
 // ---- the half
+
+pub fn is_system(end: u32) -> bool
+    ensures { λ r. ⌜ r ≡ isSystem end ⌝ }
+{
+    if end == BLINDER {
+        return true;
+    }
+    end == SOLVER
+}
 
 pub struct Half {
     pub end: End,
@@ -62,29 +78,51 @@ pub fn end_of(end: u32) -> End
     End::Left
 }
 
-pub fn half_in(x: Session) -> Half
-    ensures { λ r. ⌜ (role (r .end) ≡ sessionRole x) × (r .terms ≡ sessionTerms x) ⌝ }
+// Of another end than these three a record holds no session, which is right's.
+fn half_by(end: u32, terms: Terms) -> Half
+    ensures { λ r. ⌜ (role (r .end) ≡ cond (eqb end 4) solver (cond (eqb end 3) blinder right))
+        × (r .terms ≡ cond (eqb end 4) terms (cond (eqb end 3) terms (cond (eqb end 2) terms noTerms))) ⌝ }
 {
-    if x.end == SOLVER {
-        let terms = x.terms;
+    if end == SOLVER {
         return Half {
             end: End::Solver,
             terms,
         };
     }
-    if x.end == BLINDER {
-        let terms = x.terms;
+    if end == BLINDER {
         return Half {
             end: End::Blinder,
             terms,
         };
     }
-    let s = right_of(x);
-    let terms = s.terms;
+    if end == RIGHT {
+        return Half {
+            end: End::Right,
+            terms,
+        };
+    }
+    let none = no_head();
+    let terms = none.terms;
     Half {
         end: End::Right,
         terms,
     }
+}
+
+// From the record's bytes: a session by value is 1.1 KB of stack.
+pub fn half_in(session: &[u8]) -> Half
+    ensures { λ r. ⌜ (role (r .end) ≡ sessionRole (sessionIn (now (session .entry)))) × (r .terms ≡ sessionTerms (sessionIn (now (session .entry)))) ⌝ }
+{
+    if session.len() != record::SIZE {
+        let none = no_head();
+        let terms = none.terms;
+        return Half {
+            end: End::Right,
+            terms,
+        };
+    }
+    let end = word_at(session, 0);
+    half_by(end, terms_in(session))
 }
 
 fn sides_fit(end: End, t: Terms) -> bool

@@ -4,6 +4,7 @@
 //   store                             all of it, by the step's answer
 use crate::own::refusal;
 use crate::record::put_session;
+use crate::seen::smaller;
 use entry::Report;
 use entry::Session;
 use judging::message::message_size;
@@ -13,7 +14,6 @@ use line::put_message;
 use protocol::Answer;
 use protocol::Head;
 use protocol::Refusal;
-use session::Done;
 use sides::Matrix;
 use words::put_words;
 ghost use mathlib.Core.Path.{_≡_};
@@ -25,13 +25,13 @@ ghost use Rattle.algebra.specs.Count.{both};
 ghost use Rattle.entry.specs.Bytes.{bytesOf};
 ghost use Rattle.entry.specs.Record.{recordWords};
 ghost use Rattle.entry.specs.Entry.{Lent, Left};
-ghost use Rattle.session.specs.Settled.{isSingular};
+ghost use Rattle.local.specs.Settled.{isSingular};
 ghost use Rattle.local.specs.Seen.{sentSize};
-ghost use Rattle.host_parts.specs.Stored.{sentLine, stored, storedSent};
+ghost use Rattle.local.specs.Stored.{sentLine, stored, storedSent};
 
 // ---- the line
 
-fn sent_count(h: Head) -> usize
+pub fn sent_count(h: Head) -> usize
     ensures { λ r. ⌜ (r ≡ sentSize h) × (r ≤ 3072) ⌝ }
 {
     if h.kind == 0 {
@@ -45,24 +45,23 @@ fn sent_count(h: Head) -> usize
 }
 
 fn line_size(h: Head, sent: &[u32]) -> usize
-    requires { ⌜ length (now sent) ≡ 3072 ⌝ }
     ensures { λ r. ⌜ r ≡ length (sentLine h (now (sent .entry))) ⌝ }
 {
     if h.kind == 0 {
         return 0;
     }
-    let n = sent_count(h);
+    let n = smaller(sent_count(h), sent.len());
     message_length(h, &sent[..n])
 }
 
 fn put_line(h: Head, sent: &[u32], line: &mut [u8])
-    requires { ⌜ (length (now sent) ≡ 3072) × (length (sentLine h (now sent)) ≤ length (now line)) ⌝ }
+    requires { ⌜ length (sentLine h (now sent)) ≤ length (now line) ⌝ }
     ensures { λ _. ⌜ now (line .exit) ≡ over (sentLine h (now (sent .entry))) (now (line .entry)) ⌝ }
 {
     if h.kind == 0 {
         return;
     }
-    let n = sent_count(h);
+    let n = smaller(sent_count(h), sent.len());
     put_message(h, &sent[..n], line);
 }
 
@@ -106,7 +105,7 @@ fn store_sent(
     line: &mut [u8],
     result: &mut [u8],
 ) -> Report
-    requires { ⌜ (length (now sent) ≡ 3072) × (length (now session) ≡ 1120) × (length (now words) * 4 ≤ length (now slot))
+    requires { ⌜ (length (now session) ≡ 1120) × (length (now words) * 4 ≤ length (now slot))
         × (length (now lent) * 4 ≤ length (now scratch)) × (length (now share) * 4 ≤ length (now result)) ⌝ }
     ensures { λ r. ⌜ _≡_ {A = Left} (record {
       report = r;
@@ -145,7 +144,9 @@ fn is_sum(later: bool, r: Refusal) -> bool
 }
 
 pub fn store(
-    done: Done,
+    answer: Answer,
+    x: Session,
+    h: Head,
     later: bool,
     read: usize,
     words: &[u32],
@@ -158,7 +159,7 @@ pub fn store(
     line: &mut [u8],
     result: &mut [u8],
 ) -> Report
-    requires { ⌜ (length (now sent) ≡ 3072) × (length (now session) ≡ 1120) × (length (now words) * 4 ≤ length (now slot))
+    requires { ⌜ (length (now session) ≡ 1120) × (length (now words) * 4 ≤ length (now slot))
         × (length (now lent) * 4 ≤ length (now scratch)) × (length (now share) * 4 ≤ length (now result)) ⌝ }
     ensures { λ r. ⌜ _≡_ {A = Left} (record {
       report = r;
@@ -170,12 +171,9 @@ pub fn store(
         result = now (result .exit);
       };
     })
-        (stored later read (done .answer) (done .session) (done .head) (now (words .entry)) (now (lent .entry)) (now (sent .entry)) (now (share .entry))
+        (stored later read answer x h (now (words .entry)) (now (lent .entry)) (now (sent .entry)) (now (share .entry))
         (record { host = now (session .entry); pool = now (slot .entry); scratch = now (scratch .entry); line = now (line .entry); result = now (result .entry) })) ⌝ }
 {
-    let answer = done.answer;
-    let x = done.session;
-    let h = done.head;
     let Answer::Refused(r) = answer else {
         return store_sent(
             h,

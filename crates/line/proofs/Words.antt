@@ -1,5 +1,6 @@
 -- The words that a line was read into.
 --   none-loaded, few-loaded, message-loaded      what is known of the line, by the tally of its numbers
+--   all-residues                                 where there is room for all residues, the words have them
 --   copy-start, copy-turn, copy-done             the residues copied into a lent slice
 -- Assumes nothing.
 use mathlib.Core.Path.{_≡_, refl, sym, ap, ap₂, _∙_}
@@ -9,7 +10,7 @@ use native.Mathlib.Omega.{arith}
 use native.Mathlib.Nat.{zero-add}
 use native.Mathlib.Numerals.{add-one}
 use lib.ListN.{length, getD, set, take, drop, length-drop, length-set}
-use lib.Seq.{sets, sets-eq, take-at, drop-append-le, getD-set-same, getD-set-other, getD-drop, length-take-le, paste, paste-zero, paste-suc, length-paste}
+use lib.Seq.{sets, length-sets, ext-getD, take-all, getD-set-same, getD-set-other, getD-take, getD-drop, length-take-le, paste, paste-zero, paste-suc, length-paste}
 use Rattle.algebra.specs.Words.{over}
 use Rattle.protocol.specs.declared.Head.{Head}
 use Rattle.protocol.specs.Line.{numbersOf, messageFrom}
@@ -34,6 +35,9 @@ sets-at l (x ∷ xs) k (suc i) h m =
     let in-l : suc k + i < length (set l k x) = simp length-set (omega arith) in
     rw z (sets-at (set l k x) xs (suc k) i (omega arith) in-l)
 
+at-loaded : (l xs : List ℕ) (i : ℕ) → i < length xs → i < length l → getD (sets l 0 xs) i 0 ≡ getD xs i 0
+at-loaded l xs i h m = ap (λ (j : ℕ). getD (sets l 0 xs) j 0) (sym (zero-add i)) ∙ sets-at l xs 0 i h (omega arith)
+
 -- the head stands in front
 head-loaded : (l xs : List ℕ) → 7 ≤ length xs → 7 ≤ length l → messageFrom (sets l 0 xs) .head ≡ messageFrom xs .head
 head-loaded l xs h m =
@@ -48,14 +52,17 @@ head-loaded l xs h m =
     )
   where
     at : (i : ℕ) → i < 7 → getD (sets l 0 xs) i 0 ≡ getD xs i 0
-    at i k = ap (λ (j : ℕ). getD (sets l 0 xs) j 0) (sym (zero-add i)) ∙ sets-at l xs 0 i (omega arith) (omega arith)
+    at i k = at-loaded l xs i (omega arith) (omega arith)
 
 -- the residues stand behind it
-residues-loaded : (l xs : List ℕ) → 7 ≤ length xs → length xs ≤ length l → take (length (drop 7 xs)) (drop 7 (sets l 0 xs)) ≡ drop 7 xs
-residues-loaded l xs h m =
-    ap (λ (w : List ℕ). take (length (drop 7 xs)) (drop 7 w)) (sets-eq xs l 0 (omega arith))
-    ∙ ap (take (length (drop 7 xs))) (drop-append-le 7 xs (drop (0 + length xs) l) h)
-    ∙ take-at (drop 7 xs) (drop (0 + length xs) l) (length (drop 7 xs)) refl
+residues-loaded : (l xs : List ℕ) (j : ℕ) → j + 7 ≤ length xs → j + 7 ≤ length l → take j (drop 7 (sets l 0 xs)) ≡ take j (drop 7 xs)
+residues-loaded l xs j h m =
+    let here : length (take j (drop 7 (sets l 0 xs))) ≡ j = length-take-le j (drop 7 (sets l 0 xs)) (simp (length-drop, length-sets) (omega arith)) in
+    let there : length (take j (drop 7 xs)) ≡ j = length-take-le j (drop 7 xs) (simp length-drop (omega arith)) in
+    ext-getD 0 (take j (drop 7 (sets l 0 xs))) (take j (drop 7 xs)) (here ∙ sym there)
+    (λ i k. let few : i < j = omega (arith, here) in
+    getD-take j (drop 7 (sets l 0 xs)) i 0 few ∙ getD-drop 7 (sets l 0 xs) i 0 ∙ at-loaded l xs (7 + i) (omega arith) (omega arith)
+    ∙ sym (getD-take j (drop 7 xs) i 0 few ∙ getD-drop 7 xs i 0))
 
 wrong-tally : {A : Type 0} {n : ℕ} → tally.Wrong ≡ tally.Numbers n → A
 wrong-tally e = absurd (let z : _≡_ {A = ℕ} 0 1 = cc in omega arith)
@@ -70,7 +77,7 @@ module _ (s : List ℕ) {r : Tally} (e : r ≡ tallyOf (numbersOf s)) where
   pub few-loaded : {n : ℕ} → r ≡ tally.Numbers n → n < 7 → NoMessage s
   few-loaded {n} w k xs d = omega (arith, same-tally n (length xs) (sym w ∙ (e ∙ ap tallyOf d)))
 
-  pub message-loaded : (before after : List ℕ) {n : ℕ} {h : Head} → length before ≡ 3079 → after ≡ sets before 0 (numbersBefore s) → r ≡ tally.Numbers n → 7 ≤ n
+  pub message-loaded : (before after : List ℕ) {n : ℕ} {h : Head} → 7 ≤ length before → after ≡ sets before 0 (numbersBefore s) → r ≡ tally.Numbers n → 7 ≤ n
       → h ≡ messageFrom after .head → Holds s h (n - 7) after
   message-loaded before after {n} {h} long f w k g =
       let t = told (numbersOf s) before after r n (tallied 0 s before after r e f) w in
@@ -82,9 +89,12 @@ module _ (s : List ℕ) {r : Tally} (e : r ≡ tallyOf (numbersOf s)) where
         seven = seven;
         head = g ∙ (ap (λ (w : List ℕ). messageFrom w .head) (t .stores) ∙ head-loaded before (t .values) seven (omega (arith, long)));
         count = count;
-        residues = λ few. ap₂ (λ (m : ℕ) (w : List ℕ). take m (drop 7 w)) (sym count) (t .stores)
-            ∙ residues-loaded before (t .values) seven (omega (arith, t .count, long));
+        residues = λ j few room. ap (λ (w : List ℕ). take j (drop 7 w)) (t .stores)
+            ∙ residues-loaded before (t .values) j (omega (arith, t .count)) (omega (arith, ap length (t .stores), length-sets before 0 (t .values)));
       }
+
+pub all-residues : {s words : List ℕ} {h : Head} {n : ℕ} (l : Holds s h n words) → n + 7 ≤ length words → take n (drop 7 words) ≡ drop 7 (l .values)
+all-residues {n = n} l room = l .residues n (omega arith) room ∙ take-all n (drop 7 (l .values)) (omega (arith, l .count))
 
 -- ---- the residues copied into a lent slice
 

@@ -7,14 +7,14 @@
 use mathlib.Core.Path.{_≡_}
 use mathlib.Core.List.{List, [], _∷_}
 use mathlib.Core.Option.{some}
-use Prim.Native.Nat.{ℕ, _≤_, _<_}
+use Prim.Native.Nat.{ℕ, _+_, _≤_, _<_}
 use lib.Dec.{leb}
 use lib.ListN.{length, take, drop}
 use Rattle.protocol.specs.declared.Head.{Head}
 use Rattle.protocol.specs.declared.Refusal.the-variants.{Size, Residue}
 use Rattle.protocol.specs.Judge.{Test, needs}
 use Rattle.protocol.specs.Bounds.{allBelow}
-use Rattle.protocol.specs.Line.{numbersOf, messageFrom, mostSent}
+use Rattle.protocol.specs.Line.{numbersOf, messageFrom}
 use Rattle.line.specs.declared.Loaded.{Loaded}
 use Rattle.line.specs.declared.Loaded.the-variants.{Message, Wrong}
 
@@ -25,8 +25,8 @@ pub record Holds (s : List ℕ) (h : Head) (n : ℕ) (words : List ℕ) : Type 0
   pub seven : 7 ≤ length values
   pub head : h ≡ messageFrom values .head
   pub count : length (drop 7 values) ≡ n
-  -- the words have room for as many as a message may have
-  pub residues : n ≤ mostSent → take n (drop 7 words) ≡ drop 7 values
+  -- the words have the numbers as far as there is room
+  pub residues : (j : ℕ) → j ≤ n → j + 7 ≤ length words → take j (drop 7 words) ≡ take j (drop 7 values)
 
 -- it has a fault, or fewer than seven numbers
 abbrev pub NoMessage : List ℕ → Type 0

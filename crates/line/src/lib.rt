@@ -69,7 +69,7 @@ fn head_of(words: &[u32]) -> Head
 
 // The numbers of a line, stored as far as there is room.
 pub fn load(s: &[u8], words: &mut [u32]) -> Loaded
-    requires { ⌜ length (now words) ≡ 3079 ⌝ }
+    requires { ⌜ 7 ≤ length (now words) ⌝ }
     ensures { λ r. ⌜ Loads (now (s .entry)) (now (words .exit)) r ⌝ }
 {
     let loaded = decimal::load(s, words);

@@ -11,7 +11,7 @@ use lib.Dec.{leb}
 use lib.ListN.{length, take, drop, length-take}
 use lib.Seq.{take-take, take-all, length-take-le}
 use borrow.Author.Tests.{ne-eqb, le-leb}
-use Rattle.algebra.specs.Count.{both, parts, total}
+use Rattle.algebra.specs.Count.{both, part, parts, total}
 use Rattle.algebra.specs.Matrix.{zeros}
 use Rattle.protocol.specs.declared.Terms.{Terms}
 use Rattle.protocol.specs.declared.BlinderSession.{BlinderSession}
@@ -19,7 +19,7 @@ use Rattle.protocol.specs.Judge.{Test, given, clear, done}
 use Rattle.protocol.specs.Bounds.{system, within, sidesFit, shapeTests, termsTests, inputTests, roomTests}
 use Rattle.protocol.specs.Drawing.{wordsRead, drawTests}
 use Rattle.protocol.specs.Tape.{Slot, isSlot, slotWords, blinder, wordsSpent, slotTests, halfTests, tapeTests, bodyTests}
-use Rattle.protocol.specs.Message.{Message, messageWith, messageTests, dueTests}
+use Rattle.protocol.specs.Message.{Message, messageWith, messageSize, messageTests, dueTests}
 use Rattle.protocol.specs.Step.{Effect, firstTests, isOpen, openTests, laterTests}
 use Rattle.protocol.specs.System.{sideSize, scratchSize, scratchLayout, scratchParts, coinsOf, closedBlinder, keptTests, regularTests, blinderTests}
 use Rattle.protocol.specs.System.{blinderFirstTests, blinderFirstEffect, blinderFirst, blinderSecondTests, blinderSecondEffect, blinderSecond}
@@ -32,11 +32,12 @@ use Rattle.judging.proofs.InOrder.{accepted-by}
 use Rattle.judging.proofs.Fits.{first-placed, open-placed}
 use Rattle.drawing.specs.Sift.{keptWords}
 use Rattle.drawing.proofs.Sifting.{kept-tests, kept-drawn}
-use Rattle.local.specs.Seen.{least, seen, behind, seenWords, seenMessage, mostScratch, mostResult}
+use Rattle.local.specs.Seen.{least, seen, behind, seenWords, seenMessage, openingMessage, mostScratch, mostResult, mostReply}
 use Rattle.local.proofs.Outcomes.{onDone, entering, alike}
 use Rattle.local.proofs.Sifted.{Sifts}
 use Rattle.local.proofs.Slots.{seen-inside, matrices-seen, in-use-seen, spent-seen, kept-seen}
-use Rattle.local.proofs.Tests.{first-seen, open-seen, later-seen, both-no, early-size, early-turn, message-cases, session-cases, first-cases, message-whole, words-whole, cut-length, few-square}
+use Rattle.local.proofs.Tests.{first-seen, open-seen, later-seen, both-no, early-size, early-turn, message-cases, session-cases, first-cases}
+use Rattle.local.proofs.Tests.{opening-judged, message-whole, opening-whole, words-whole, cut-length, few-square, few-reply}
 use Rattle.local.proofs.Product.{least-room}
 
 -- ---- the scratch: its first words are looked at
@@ -78,10 +79,10 @@ module _ (t : Terms) (s : Slot) (scratch : ℕ) (input words kept : List ℕ) (r
   unfolding coinsOf
   coins-kept = kept-drawn (t .q) (scratchSize t) (scratchSize t) words (omega arith)
 
-  first-fits : sidesFit system (t .m) (t .k) (t .p) ≡ true → isSlot s ≡ true
-      → tests s scratch input words a ≡ tests (seen blinder t s) (least scratch mostScratch) input kept a
+  first-fits : (b : Message) → sidesFit system (t .m) (t .k) (t .p) ≡ true → isSlot s ≡ true
+      → tests s scratch input words b ≡ tests (seen blinder t s) (least scratch mostScratch) input kept b
   unfolding blinderFirstTests roomTests
-  first-fits e f =
+  first-fits b e f =
       rw (
         first-seen blinder t s e f,
         sifts .words e,
@@ -90,26 +91,39 @@ module _ (t : Terms) (s : Slot) (scratch : ℕ) (input words kept : List ℕ) (r
         least-room (scratchSize t) mostScratch scratch (few-scratch t e),
       ) refl
 
-  first-judged : within 1 5 (a .head .kind) ≡ true
-      → judged (tests s scratch input words a) ≡ judged (tests (seen blinder t s) (least scratch mostScratch) (seenWords input) kept (seenMessage a))
+  -- with one and the same message
+  first-alike : (b : Message)
+      → judged (tests s scratch input words b) ≡ judged (tests (seen blinder t s) (least scratch mostScratch) (seenWords input) kept b)
   unfolding blinderFirstTests firstTests messageTests termsTests shapeTests inputTests dueTests slotTests halfTests tapeTests bodyTests roomTests drawTests regularTests clear both
-  first-judged known =
+  first-alike b =
       let in-pool = seen-inside blinder t s in
-      let ts = tests s scratch input words a in
-      let none = messageWith (a .head) [] in
-      let us : Message → List ℕ → List Test = λ b l. tests (seen blinder t s) (least scratch mostScratch) l kept b in
-      message-cases (λ b. judged ts ≡ judged (us b (seenWords input))) a known
-      (λ h. early-size ts (us none (seenWords input)) refl refl refl (rw h (simp both-no)) (rw h (simp both-no)))
-      (λ h g. early-size ts (us none (seenWords input)) refl refl refl (rw h (simp both-no)) (rw g (simp both-no)))
-      (first-cases (λ l. judged ts ≡ judged (us a l)) blinder t s input
-      (λ l h. early-size ts (us a l) refl refl refl (rw h (simp both-no)) (rw h (simp both-no)))
-      (λ l h. early-size ts (us a l) refl refl refl (rw h (simp both-no)) (rw (in-pool, h) (simp both-no)))
+      let ts = tests s scratch input words b in
+      let us : List ℕ → List Test = λ l. tests (seen blinder t s) (least scratch mostScratch) l kept b in
+      first-cases (λ l. judged ts ≡ judged (us l)) blinder t s input
+      (λ l h. early-size ts (us l) refl refl refl (rw h (simp both-no)) (rw h (simp both-no)))
+      (λ l h. early-size ts (us l) refl refl refl (rw h (simp both-no)) (rw (in-pool, h) (simp both-no)))
       (λ l h.
       let z = few-square t h in
-      early-size ts (us a []) refl refl refl
+      early-size ts (us []) refl refl refl
       (rw (ne-eqb (length (vector input)) (sideSize t) (λ g. omega (arith, l, z .2, z .3, cut-length (t .m * t .m) input, g))) (simp both-no))
       (rw (ne-eqb (length (matrix [])) (t .m * t .m) (λ g. omega (arith, z .0, length-take {A = ℕ} (t .m * t .m) [], g))) (simp both-no)))
-      (λ e f. ap judged (first-fits e f)))
+      (λ e f. ap judged (first-fits b e f))
+
+  -- the tests after those of the message
+  abbrev after : List Test
+  after =
+      inputTests (t .q) (t .m * t .m) (matrix input)
+      ++ inputTests (t .q) (sideSize t) (vector input)
+      ++ roomTests (scratchSize t) scratch
+      ++ roomTests (messageSize 2 t) room
+      ++ drawTests (t .q) (scratchSize t) words
+      ++ regularTests (t .q) (t .m) (matrix input)
+      ++ regularTests (t .q) (t .m) (part 0 (scratchParts t (coinsOf t words)))
+
+  first-judged : within 1 5 (a .head .kind) ≡ true
+      → judged (tests s scratch input words a) ≡ judged (tests (seen blinder t s) (least scratch mostScratch) (seenWords input) kept (openingMessage a))
+  unfolding blinderFirstTests firstTests messageTests termsTests shapeTests inputTests dueTests slotTests halfTests tapeTests bodyTests roomTests drawTests
+  first-judged known = opening-judged t (firstTests blinder t s) after a known ∙ first-alike (openingMessage a)
 
   abbrev effect : Slot → (input words : List ℕ) → Message → Effect BlinderSession
   effect c l w b = blinderFirstEffect t c (matrix l) (vector l) w b
@@ -118,7 +132,7 @@ module _ (t : Terms) (s : Slot) (scratch : ℕ) (input words kept : List ℕ) (r
   blinderGrown e = entering read (behind blinder t s) e
 
   first-done : judged (tests s scratch input words a) ≡ done tt
-      → effect s input words a ≡ blinderGrown (effect (seen blinder t s) (seenWords input) kept (seenMessage a))
+      → effect s input words a ≡ blinderGrown (effect (seen blinder t s) (seenWords input) kept (openingMessage a))
   unfolding blinderFirst blinderFirstEffect
   first-done h =
       let f = blinder-first t s scratch (matrix input) (vector input) words a room .means
@@ -126,7 +140,7 @@ module _ (t : Terms) (s : Slot) (scratch : ℕ) (input words kept : List ℕ) (r
       let p = first-placed blinder t s (f .first) in
       let z = few-square t (p .sides) in
       rw (
-        message-whole system 1 t a (p .sides) (f .message),
+        opening-whole system t a (p .sides) (f .message),
         words-whole input (omega (arith, f .y-fits .size, z .2, z .3, cut-length (t .m * t .m) input)),
         sifts .words (p .sides),
         coins-kept,
@@ -137,34 +151,35 @@ module _ (t : Terms) (s : Slot) (scratch : ℕ) (input words kept : List ℕ) (r
 
   pub blinder-first-seen : within 1 5 (a .head .kind) ≡ true → blinderFirst t s scratch (matrix input) (vector input) words a room
       ≡ onDone blinderGrown
-      (blinderFirst t (seen blinder t s) (least scratch mostScratch) (matrix (seenWords input)) (vector (seenWords input)) kept (seenMessage a) room)
+      (blinderFirst t (seen blinder t s) (least scratch mostScratch) (matrix (seenWords input)) (vector (seenWords input)) kept (openingMessage a) room)
   unfolding blinderFirst
   blinder-first-seen known =
-      alike blinderGrown (tests s scratch input words a) (tests (seen blinder t s) (least scratch mostScratch) (seenWords input) kept (seenMessage a))
-      (effect s input words a) (effect (seen blinder t s) (seenWords input) kept (seenMessage a)) (first-judged known) first-done
+      alike blinderGrown (tests s scratch input words a) (tests (seen blinder t s) (least scratch mostScratch) (seenWords input) kept (openingMessage a))
+      (effect s input words a) (effect (seen blinder t s) (seenWords input) kept (openingMessage a)) (first-judged known) first-done
 
 -- ---- steps 4 and 6
 
 module _ (x : BlinderSession) (s : Slot) (scratch : List ℕ) (a : Message) (room : ℕ) where
   second-fits : sidesFit system (x .terms .m) (x .terms .k) (x .terms .p) ≡ true → isSlot s ≡ true
-      → blinderSecondTests x s scratch a room ≡ blinderSecondTests x (seen blinder (x .terms) s) (take mostScratch scratch) a room
+      → blinderSecondTests x s scratch a room ≡ blinderSecondTests x (seen blinder (x .terms) s) (take mostScratch scratch) a (least room mostReply)
   unfolding blinderSecondTests blinderTests roomTests
   second-fits e f =
       rw (
         later-seen blinder (x .terms) s e f 3 (x .due),
         room-taken (scratchSize (x .terms)) mostScratch scratch (few-scratch (x .terms) e),
         take-take (scratchSize (x .terms)) mostScratch scratch (few-scratch (x .terms) e),
+        least-room (messageSize 4 (x .terms)) mostReply room (few-reply (x .terms) e .1),
       ) refl
 
   second-judged : within 1 5 (a .head .kind) ≡ true → judged (blinderSecondTests x s scratch a room)
-      ≡ judged (blinderSecondTests x (seen blinder (x .terms) s) (take mostScratch scratch) (seenMessage a) room)
+      ≡ judged (blinderSecondTests x (seen blinder (x .terms) s) (take mostScratch scratch) (seenMessage a) (least room mostReply))
   unfolding blinderSecondTests blinderTests laterTests openTests messageTests termsTests shapeTests inputTests dueTests slotTests halfTests tapeTests bodyTests keptTests given roomTests clear both
   second-judged known =
       let t = x .terms in
       let in-pool = seen-inside blinder t s in
       let ts = blinderSecondTests x s scratch a room in
       let none = messageWith (a .head) [] in
-      let us : Message → List Test = λ b. blinderSecondTests x (seen blinder t s) (take mostScratch scratch) b room in
+      let us : Message → List Test = λ b. blinderSecondTests x (seen blinder t s) (take mostScratch scratch) b (least room mostReply) in
       message-cases (λ b. judged ts ≡ judged (us b)) a known
       (λ h. early-size ts (us none) refl refl refl (rw h (simp both-no)) (rw h (simp both-no)))
       (λ h g. early-size ts (us none) refl refl refl (rw h (simp both-no)) (rw g (simp both-no)))
@@ -196,11 +211,12 @@ module _ (x : BlinderSession) (s : Slot) (scratch : List ℕ) (a : Message) (roo
       }) (kept-seen blinder t s (p .sides) (p .inside) (p .room)))
 
   pub blinder-second-seen : within 1 5 (a .head .kind) ≡ true → blinderSecond x s scratch a room
-      ≡ onDone (entering 0 (behind blinder (x .terms) s)) (blinderSecond x (seen blinder (x .terms) s) (take mostScratch scratch) (seenMessage a) room)
+      ≡ onDone (entering 0 (behind blinder (x .terms) s))
+      (blinderSecond x (seen blinder (x .terms) s) (take mostScratch scratch) (seenMessage a) (least room mostReply))
   unfolding blinderSecond
   blinder-second-seen known =
       alike (entering 0 (behind blinder (x .terms) s)) (blinderSecondTests x s scratch a room)
-      (blinderSecondTests x (seen blinder (x .terms) s) (take mostScratch scratch) (seenMessage a) room) (blinderSecondEffect x s scratch a)
+      (blinderSecondTests x (seen blinder (x .terms) s) (take mostScratch scratch) (seenMessage a) (least room mostReply)) (blinderSecondEffect x s scratch a)
       (blinderSecondEffect x (seen blinder (x .terms) s) (take mostScratch scratch) (seenMessage a)) (second-judged known) second-done
 
   last-fits : sidesFit system (x .terms .m) (x .terms .k) (x .terms .p) ≡ true → isSlot s ≡ true → blinderLastTests x s scratch a room

@@ -32,11 +32,12 @@ use Rattle.judging.proofs.Fits.{first-placed, open-placed}
 use Rattle.tape.proofs.Sides.{sides}
 use Rattle.algebra.proofs.Tests.{and-left, and-right}
 use Rattle.drawing.proofs.Sifting.{kept-tests, kept-drawn}
-use Rattle.local.specs.Seen.{least, seen, behind, seenWords, seenMessage, mostResult}
+use Rattle.local.specs.Seen.{least, seen, behind, seenWords, seenMessage, openingMessage, mostResult}
 use Rattle.local.proofs.Outcomes.{onDone, entering, alike}
 use Rattle.local.proofs.Sifted.{Sifts}
 use Rattle.local.proofs.Slots.{least-left, least-right, seen-inside, matrices-seen, in-use-seen, spent-seen}
-use Rattle.local.proofs.Tests.{first-seen, later-seen, both-no, early-size, early-turn, message-cases, session-cases, first-cases, message-whole, words-whole, some-mk, some-kp}
+use Rattle.local.proofs.Tests.{first-seen, later-seen, both-no, early-size, early-turn, message-cases, session-cases, first-cases}
+use Rattle.local.proofs.Tests.{opening-judged, message-whole, opening-whole, words-whole, some-mk, some-kp}
 
 -- room for what is at most b
 pub least-room : (n b room : ℕ) → n ≤ b → leb n (least room b) ≡ leb n room
@@ -93,10 +94,10 @@ module _ (t : Terms) (s : Slot) (y : List ℕ) (room : ℕ) where
 
 -- `kept`: the raw words that are kept, as many as are drawn; `read`: how many are read for them
 module _ (t : Terms) (s : Slot) (x words kept : List ℕ) (read : ℕ) (sifts : Sifts product (t .m * t .p) t words kept read) (a : Message) (room share : ℕ) where
-  left-fits : sidesFit product (t .m) (t .k) (t .p) ≡ true → isSlot s ≡ true
-      → leftTests t s x words a room share ≡ leftTests t (seen left t s) x kept a room (least share mostResult)
+  left-fits : (b : Message) → sidesFit product (t .m) (t .k) (t .p) ≡ true → isSlot s ≡ true
+      → leftTests t s x words b room share ≡ leftTests t (seen left t s) x kept b room (least share mostResult)
   unfolding leftTests roomTests
-  left-fits e f =
+  left-fits b e f =
       rw (
         first-seen left t s e f,
         sifts .words e,
@@ -104,39 +105,49 @@ module _ (t : Terms) (s : Slot) (x words kept : List ℕ) (read : ℕ) (sifts : 
         least-room (t .m * t .p) mostResult share (sides (t .m) (t .k) (t .p) e .few-mp),
       ) refl
 
-  left-judged : within 1 5 (a .head .kind) ≡ true
-      → judged (leftTests t s x words a room share) ≡ judged (leftTests t (seen left t s) (seenWords x) kept (seenMessage a) room (least share mostResult))
+  -- with one and the same message
+  left-alike : (b : Message)
+      → judged (leftTests t s x words b room share) ≡ judged (leftTests t (seen left t s) (seenWords x) kept b room (least share mostResult))
   unfolding leftTests firstTests messageTests termsTests shapeTests inputTests dueTests slotTests halfTests tapeTests bodyTests roomTests drawTests clear both
-  left-judged known =
+  left-alike b =
       let in-pool = seen-inside left t s in
-      let ts = leftTests t s x words a room share in
-      let none = messageWith (a .head) [] in
-      let us : Message → List ℕ → List Test = λ b l. leftTests t (seen left t s) l kept b room (least share mostResult) in
-      message-cases (λ b. judged ts ≡ judged (us b (seenWords x))) a known
-      (λ h. early-size ts (us none (seenWords x)) refl refl refl (rw h (simp both-no)) (rw h (simp both-no)))
-      (λ h g. early-size ts (us none (seenWords x)) refl refl refl (rw h (simp both-no)) (rw g (simp both-no)))
-      (first-cases (λ l. judged ts ≡ judged (us a l)) left t s x
-      (λ l h. early-size ts (us a l) refl refl refl (rw h (simp both-no)) (rw h (simp both-no)))
-      (λ l h. early-size ts (us a l) refl refl refl (rw h (simp both-no)) (rw (in-pool, h) (simp both-no)))
+      let ts = leftTests t s x words b room share in
+      let us : List ℕ → List Test = λ l. leftTests t (seen left t s) l kept b room (least share mostResult) in
+      first-cases (λ l. judged ts ≡ judged (us l)) left t s x
+      (λ l h. early-size ts (us l) refl refl refl (rw h (simp both-no)) (rw h (simp both-no)))
+      (λ l h. early-size ts (us l) refl refl refl (rw h (simp both-no)) (rw (in-pool, h) (simp both-no)))
       (λ l h.
       let z = sides (t .m) (t .k) (t .p) h in
-      early-size ts (us a []) refl refl refl
+      early-size ts (us []) refl refl refl
       (rw (ne-eqb (length x) (t .m * t .k) (λ g. omega (arith, l, z .few-mk, g))) (simp both-no))
       (rw (ne-eqb 0 (t .m * t .k) (λ g. omega (arith, some-mk product t h, g))) (simp both-no)))
-      (λ e f. ap judged (left-fits e f)))
+      (λ e f. ap judged (left-fits b e f))
+
+  -- the tests after those of the message
+  abbrev left-after : List Test
+  left-after =
+      inputTests (t .q) (t .m * t .k) x
+      ++ roomTests (messageSize 2 t) room
+      ++ roomTests (t .m * t .p) share
+      ++ drawTests (t .q) (t .m * t .p) words
+
+  left-judged : within 1 5 (a .head .kind) ≡ true
+      → judged (leftTests t s x words a room share) ≡ judged (leftTests t (seen left t s) (seenWords x) kept (openingMessage a) room (least share mostResult))
+  unfolding leftTests firstTests messageTests termsTests shapeTests inputTests dueTests slotTests halfTests tapeTests bodyTests
+  left-judged known = opening-judged t (firstTests left t s) left-after a known ∙ left-alike (openingMessage a)
 
   abbrev leftGrown : Effect Unit → Effect Unit
   leftGrown e = entering read (behind left t s) e
 
   left-done : judged (leftTests t s x words a room share) ≡ done tt
-      → leftEffect t s x words a ≡ leftGrown (leftEffect t (seen left t s) (seenWords x) kept (seenMessage a))
+      → leftEffect t s x words a ≡ leftGrown (leftEffect t (seen left t s) (seenWords x) kept (openingMessage a))
   unfolding leftStep leftEffect
   left-done h =
       let f = left-step t s x words a room share .means (accepted-by (leftTests t s x words a room share) (leftEffect t s x words a) h) .0 in
       let p = first-placed left t s (f .first) in
       let z = sides (t .m) (t .k) (t .p) (p .sides) in
       rw (
-        message-whole product 1 t a (p .sides) (f .message),
+        opening-whole product t a (p .sides) (f .message),
         words-whole x (omega (arith, f .x-fits .size, z .few-mk)),
         sifts .words (p .sides),
         kept-drawn (t .q) (t .m * t .p) (t .m * t .p) words (omega arith),
@@ -146,12 +157,12 @@ module _ (t : Terms) (s : Slot) (x words kept : List ℕ) (read : ℕ) (sifts : 
       ) refl
 
   pub left-seen : within 1 5 (a .head .kind) ≡ true → leftStep t s x words a room share
-      ≡ onDone leftGrown (leftStep t (seen left t s) (seenWords x) kept (seenMessage a) room (least share mostResult))
+      ≡ onDone leftGrown (leftStep t (seen left t s) (seenWords x) kept (openingMessage a) room (least share mostResult))
   unfolding leftStep
   left-seen known =
       alike leftGrown (leftTests t s x words a room share)
-      (leftTests t (seen left t s) (seenWords x) kept (seenMessage a) room (least share mostResult)) (leftEffect t s x words a)
-      (leftEffect t (seen left t s) (seenWords x) kept (seenMessage a)) (left-judged known) left-done
+      (leftTests t (seen left t s) (seenWords x) kept (openingMessage a) room (least share mostResult)) (leftEffect t s x words a)
+      (leftEffect t (seen left t s) (seenWords x) kept (openingMessage a)) (left-judged known) left-done
 
 -- ---- right's last step
 

@@ -17,7 +17,7 @@ use Rattle.protocol.specs.declared.Refusal.the-variants.{Singular}
 use Rattle.protocol.specs.Judge.{Test, given, clear, done}
 use Rattle.protocol.specs.Bounds.{system, within, sidesFit, shapeTests, termsTests, inputTests, roomTests, mostResidues}
 use Rattle.protocol.specs.Tape.{Slot, isSlot, solver, slotTests, halfTests, tapeTests, bodyTests}
-use Rattle.protocol.specs.Message.{Message, messageWith, messageTests, dueTests}
+use Rattle.protocol.specs.Message.{Message, messageWith, messageSize, messageTests, dueTests}
 use Rattle.protocol.specs.Step.{firstTests, isOpen, openTests, laterTests}
 use Rattle.protocol.specs.System.{sideSize, keptTests, regularTests, solverTests, solverFirstTests, solverFirstEffect, solverFirst}
 use Rattle.protocol.specs.System.{solverSecondTests, solverSecondEffect, solverSecond, jointSum, solverLastTests, solverLastEffect, solverLast}
@@ -25,10 +25,12 @@ use Rattle.protocol.proofs.StepTests.{solver-first, solver-second, solver-last}
 use Rattle.judging.specs.InOrder.{judged}
 use Rattle.judging.proofs.InOrder.{accepted-by}
 use Rattle.judging.proofs.Fits.{first-placed, open-placed}
-use Rattle.local.specs.Seen.{seen, behind, seenWords, seenMessage}
+use Rattle.local.specs.Seen.{least, seen, behind, seenWords, seenMessage, mostReply}
 use Rattle.local.proofs.Outcomes.{onDone, readAs, entering, alike}
 use Rattle.local.proofs.Slots.{seen-inside, matrices-seen, in-use-seen, spent-seen, kept-seen}
-use Rattle.local.proofs.Tests.{first-seen, later-seen, both-no, early-size, early-turn, message-cases, session-cases, first-cases, message-whole, words-whole, cut-length, few-square}
+use Rattle.local.proofs.Tests.{first-seen, later-seen, both-no, early-size, early-turn, message-cases, session-cases, first-cases}
+use Rattle.local.proofs.Tests.{message-whole, words-whole, cut-length, few-square, few-reply}
+use Rattle.local.proofs.Product.{least-room}
 
 -- ---- step 1. The input is L with x behind it
 
@@ -92,19 +94,21 @@ read-none false = refl
 
 module _ (x : SolverSession) (s : Slot) (a : Message) (room : ℕ) where
   second-fits : sidesFit system (x .terms .m) (x .terms .k) (x .terms .p) ≡ true → isSlot s ≡ true
-      → solverSecondTests x s a room ≡ solverSecondTests x (seen solver (x .terms) s) a room
-  unfolding solverSecondTests solverTests
-  second-fits e f = rw (later-seen solver (x .terms) s e f 2 (x .due)) refl
+      → solverSecondTests x s a room ≡ solverSecondTests x (seen solver (x .terms) s) a (least room mostReply)
+  unfolding solverSecondTests solverTests roomTests
+  second-fits e f =
+      let t = x .terms in
+      rw (later-seen solver t s e f 2 (x .due), least-room (messageSize 3 t) mostReply room (few-reply t e .0)) refl
 
   second-judged : within 1 5 (a .head .kind) ≡ true
-      → judged (solverSecondTests x s a room) ≡ judged (solverSecondTests x (seen solver (x .terms) s) (seenMessage a) room)
+      → judged (solverSecondTests x s a room) ≡ judged (solverSecondTests x (seen solver (x .terms) s) (seenMessage a) (least room mostReply))
   unfolding solverSecondTests solverTests laterTests openTests messageTests termsTests shapeTests inputTests dueTests slotTests halfTests tapeTests bodyTests keptTests given roomTests clear both
   second-judged known =
       let t = x .terms in
       let in-pool = seen-inside solver t s in
       let ts = solverSecondTests x s a room in
       let none = messageWith (a .head) [] in
-      let us : Message → List Test = λ b. solverSecondTests x (seen solver t s) b room in
+      let us : Message → List Test = λ b. solverSecondTests x (seen solver t s) b (least room mostReply) in
       message-cases (λ b. judged ts ≡ judged (us b)) a known
       (λ h. early-size ts (us none) refl refl refl (rw h (simp both-no)) (rw h (simp both-no)))
       (λ h g. early-size ts (us none) refl refl refl (rw h (simp both-no)) (rw g (simp both-no)))
@@ -132,26 +136,29 @@ module _ (x : SolverSession) (s : Slot) (a : Message) (room : ℕ) where
       }) (kept-seen solver t s (p .sides) (p .inside) (p .room)))
 
   pub solver-second-seen : within 1 5 (a .head .kind) ≡ true → solverSecond x s a room
-      ≡ onDone (entering 0 (behind solver (x .terms) s)) (solverSecond x (seen solver (x .terms) s) (seenMessage a) room)
+      ≡ onDone (entering 0 (behind solver (x .terms) s)) (solverSecond x (seen solver (x .terms) s) (seenMessage a) (least room mostReply))
   unfolding solverSecond
   solver-second-seen known =
-      alike (entering 0 (behind solver (x .terms) s)) (solverSecondTests x s a room) (solverSecondTests x (seen solver (x .terms) s) (seenMessage a) room)
-      (solverSecondEffect x s a) (solverSecondEffect x (seen solver (x .terms) s) (seenMessage a)) (second-judged known) second-done
+      alike (entering 0 (behind solver (x .terms) s)) (solverSecondTests x s a room)
+      (solverSecondTests x (seen solver (x .terms) s) (seenMessage a) (least room mostReply)) (solverSecondEffect x s a)
+      (solverSecondEffect x (seen solver (x .terms) s) (seenMessage a)) (second-judged known) second-done
 
   last-fits : sidesFit system (x .terms .m) (x .terms .k) (x .terms .p) ≡ true → isSlot s ≡ true
-      → solverLastTests x s a room ≡ solverLastTests x (seen solver (x .terms) s) a room
-  unfolding solverLastTests solverTests
-  last-fits e f = rw (later-seen solver (x .terms) s e f 4 (x .due)) refl
+      → solverLastTests x s a room ≡ solverLastTests x (seen solver (x .terms) s) a (least room mostReply)
+  unfolding solverLastTests solverTests roomTests
+  last-fits e f =
+      let t = x .terms in
+      rw (later-seen solver t s e f 4 (x .due), least-room (messageSize 5 t) mostReply room (few-reply t e .2)) refl
 
   last-judged : within 1 5 (a .head .kind) ≡ true
-      → judged (solverLastTests x s a room) ≡ judged (solverLastTests x (seen solver (x .terms) s) (seenMessage a) room)
+      → judged (solverLastTests x s a room) ≡ judged (solverLastTests x (seen solver (x .terms) s) (seenMessage a) (least room mostReply))
   unfolding solverLastTests solverTests laterTests openTests messageTests termsTests shapeTests inputTests dueTests slotTests halfTests tapeTests bodyTests keptTests given roomTests clear both
   last-judged known =
       let t = x .terms in
       let in-pool = seen-inside solver t s in
       let ts = solverLastTests x s a room in
       let none = messageWith (a .head) [] in
-      let us : Message → List Test = λ b. solverLastTests x (seen solver t s) b room in
+      let us : Message → List Test = λ b. solverLastTests x (seen solver t s) b (least room mostReply) in
       message-cases (λ b. judged ts ≡ judged (us b)) a known
       (λ h. early-size ts (us none) refl refl refl (rw h (simp both-no)) (rw h (simp both-no)))
       (λ h g. early-size ts (us none) refl refl refl (rw h (simp both-no)) (rw g (simp both-no)))
@@ -176,8 +183,9 @@ module _ (x : SolverSession) (s : Slot) (a : Message) (room : ℕ) where
       ) refl
 
   pub solver-last-seen : within 1 5 (a .head .kind) ≡ true → solverLast x s a room
-      ≡ onDone (entering 0 (behind solver (x .terms) s)) (solverLast x (seen solver (x .terms) s) (seenMessage a) room)
+      ≡ onDone (entering 0 (behind solver (x .terms) s)) (solverLast x (seen solver (x .terms) s) (seenMessage a) (least room mostReply))
   unfolding solverLast
   solver-last-seen known =
-      alike (entering 0 (behind solver (x .terms) s)) (solverLastTests x s a room) (solverLastTests x (seen solver (x .terms) s) (seenMessage a) room)
-      (solverLastEffect x s a) (solverLastEffect x (seen solver (x .terms) s) (seenMessage a)) (last-judged known) last-done
+      alike (entering 0 (behind solver (x .terms) s)) (solverLastTests x s a room)
+      (solverLastTests x (seen solver (x .terms) s) (seenMessage a) (least room mostReply)) (solverLastEffect x s a)
+      (solverLastEffect x (seen solver (x .terms) s) (seenMessage a)) (last-judged known) last-done

@@ -26,7 +26,8 @@ use Rattle.entry.specs.declared.Session.{Session}
 use Rattle.entry.specs.Record.{LEFT, RIGHT, BLINDER, SOLVER, rightOf, solverOf, blinderOf, ofLeft, ofRight, ofSolver, ofBlinder}
 use Rattle.entry.specs.Steps.{recorded, firstStep, nextStep, dropStep}
 use Rattle.entry.specs.Entry.{takesMessage}
-use Rattle.local.specs.Seen.{least, seen, behind, seenWords, seenMessage, mostScratch, mostResult, endRole, sessionRole, sessionTerms, coinCount}
+use Rattle.local.specs.Seen.{least, seen, behind, seenWords, seenMessage, openingMessage, mostScratch, mostResult, mostReply}
+use Rattle.local.specs.Seen.{isSystem, lentRoom, shareRoom, endRole, sessionRole, sessionTerms, coinCount}
 use Rattle.local.proofs.Outcomes.{onDone, entering}
 use Rattle.local.proofs.Slots.{least-left, least-right}
 use Rattle.local.proofs.Sifted.{Sifts}
@@ -52,7 +53,7 @@ module _ (x : Session) (s : Slot) (scratch : List ℕ) (a : Message) (room share
   slot role t = seen role t s
 
   abbrev seenNext : Outcome Session
-  seenNext = nextStep x (slot (sessionRole x) (sessionTerms x)) (take mostScratch scratch) (seenMessage a) room (least share mostResult)
+  seenNext = nextStep x (slot (sessionRole x) (sessionTerms x)) (take mostScratch scratch) (seenMessage a) (least room mostReply) (least share mostResult)
 
   pub next-seen : nextStep x s scratch a room share ≡ onDone (entering 0 (behind (sessionRole x) (sessionTerms x) s)) seenNext
   unfolding nextStep sessionRole sessionTerms solverOf blinderOf
@@ -64,20 +65,23 @@ module _ (x : Session) (s : Slot) (scratch : List ℕ) (a : Message) (room share
       low : List ℕ
       low = take mostScratch scratch
 
+      few : ℕ
+      few = least room mostReply
+
       go : (b c d e : Bool) → eqb (x .end) SOLVER ≡ b → eqb (x .end) BLINDER ≡ c → eqb (x .due) 2 ≡ d → eqb (x .due) 3 ≡ e
           → nextStep x s scratch a room share ≡ onDone (entering 0 (behind (sessionRole x) (sessionTerms x) s)) seenNext
       go true c true e i j k l =
           let y = solverOf x in
-          rw (i, k) (carried ofSolver 0 (behind solver (x .terms) s) (solverSecond y s a room) (solverSecond y (slot solver (x .terms)) b₀ room)
+          rw (i, k) (carried ofSolver 0 (behind solver (x .terms) s) (solverSecond y s a room) (solverSecond y (slot solver (x .terms)) b₀ few)
           (solver-second-seen y s a room known))
       go true c false e i j k l =
           let y = solverOf x in
-          rw (i, k) (carried ofSolver 0 (behind solver (x .terms) s) (solverLast y s a room) (solverLast y (slot solver (x .terms)) b₀ room)
+          rw (i, k) (carried ofSolver 0 (behind solver (x .terms) s) (solverLast y s a room) (solverLast y (slot solver (x .terms)) b₀ few)
           (solver-last-seen y s a room known))
       go false true d true i j k l =
           let y = blinderOf x in
           rw (i, j, l) (carried ofBlinder 0 (behind blinder (x .terms) s) (blinderSecond y s scratch a room)
-          (blinderSecond y (slot blinder (x .terms)) low b₀ room) (blinder-second-seen y s scratch a room known))
+          (blinderSecond y (slot blinder (x .terms)) low b₀ few) (blinder-second-seen y s scratch a room known))
       go false true d false i j k l =
           let y = blinderOf x in
           rw (i, j, l) (carried ofBlinder 0 (behind blinder (x .terms) s) (blinderLast y s scratch a share)
@@ -139,7 +143,7 @@ module _ (t : Terms) (s : Slot) (scratch input raw : List ℕ) (a : Message) (ro
 
   abbrev seenFirst : (end : ℕ) → Outcome Session
   seenFirst end =
-      firstStep end t (seen (endRole end) t s) (take mostScratch scratch) (seenWords input) (kept end) (seenMessage a) room (least share mostResult)
+      firstStep end t (seen (endRole end) t s) (take (lentRoom end) scratch) (seenWords input) (kept end) (openingMessage a) room (least share (shareRoom end))
 
   abbrev Claim : (end : ℕ) → Type 0
   Claim end =
@@ -155,21 +159,21 @@ module _ (t : Terms) (s : Slot) (scratch input raw : List ℕ) (a : Message) (ro
   blinder-sifts = record { words = λ e. rw e refl; count = λ e. rw e refl }
 
   at-left : Claim LEFT
-  unfolding firstStep endRole takesMessage
+  unfolding firstStep isSystem shareRoom endRole takesMessage
   at-left known =
       carried (λ (u : Unit). ofLeft t) (read LEFT) (behind left t s) (leftStep t s input raw a room share)
-      (leftStep t (seen left t s) (seenWords input) (kept LEFT) (seenMessage a) room (least share mostResult))
+      (leftStep t (seen left t s) (seenWords input) (kept LEFT) (openingMessage a) room (least share mostResult))
       (left-seen t s input raw (kept LEFT) (read LEFT) left-sifts a room share (known refl))
 
   at-blinder : Claim BLINDER
-  unfolding firstStep endRole takesMessage
+  unfolding firstStep isSystem lentRoom endRole takesMessage
   at-blinder known =
       let law = blinder-first-seen t s (length scratch) input raw (kept BLINDER) (read BLINDER) blinder-sifts a room (known refl) in
       rw (taken-room mostScratch scratch)
       (carried ofBlinder (read BLINDER) (behind blinder t s)
       (blinderFirst t s (length scratch) (take (t .m * t .m) input) (drop (t .m * t .m) input) raw a room)
       (blinderFirst t (seen blinder t s) (least (length scratch) mostScratch) (take (t .m * t .m) (seenWords input)) (drop (t .m * t .m) (seenWords input))
-      (kept BLINDER) (seenMessage a) room) law)
+      (kept BLINDER) (openingMessage a) room) law)
 
   -- right and solver draw nothing
   right-reads : read RIGHT ≡ 0

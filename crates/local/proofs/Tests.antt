@@ -1,17 +1,21 @@
 -- The tests that steps share, on what a call looks at.
 --   first-seen, open-seen, later-seen   the same tests, where the sides fit and the slot lies in its pool
 --   both-no, early-size, early-turn     elsewhere: a refusal by 4 or by 5 applies, whatever is looked at
---   message-cases, session-cases, first-cases   what can be the case
+--   message-cases, opening-cases, session-cases, first-cases   what can be the case
+--   opening-judged                      a first step's tests are judged alike on the message that it looks at
+--   message-whole, opening-whole, words-whole   what fits is looked at whole
+--   few-reply                           how many residues later messages of a system have at most
 -- Assumes nothing.
-use mathlib.Core.Path.{_≡_, refl, sym, ap, _∙_}
-use mathlib.Core.Bool.{Bool, true, false, cond}
+use mathlib.Core.Path.{_≡_, refl, sym, ap, subst, _∙_}
+use mathlib.Core.Bool.{Bool, true, false, cond, false≢true}
 use mathlib.Core.List.{List, [], _∷_, _++_}
 use Prim.Native.Nat.{ℕ, zero, suc, _+_, _*_, _-_, _≤_, _<_}
 use native.Mathlib.Nat.{mul-le-mul}
 use native.Mathlib.Omega.{arith}
 use lib.Dec.{leb, eqb}
 use lib.ListN.{length, take, drop, length-drop}
-use borrow.Author.Tests.{ne-eqb, le-leb, leb-true, leb-false}
+use lib.Seq.{take-all, length-take-le}
+use borrow.Author.Tests.{ne-eqb, eqb-true, le-leb, leb-true, leb-false}
 use Rattle.algebra.specs.Count.{both, total}
 use Rattle.protocol.specs.declared.Terms.{Terms}
 use Rattle.protocol.specs.declared.Refusal.{Refusal}
@@ -24,13 +28,14 @@ use Rattle.protocol.specs.Line.{mostSent}
 use Rattle.protocol.specs.System.{sideSize}
 use Rattle.protocol.specs.Step.{firstTests, isOpen, openTests, laterTests}
 use Rattle.algebra.proofs.Tests.{and-left, and-right}
-use Rattle.protocol.proofs.Judge.{earlier}
+use Rattle.protocol.proofs.Judge.{earlier, clear-append}
 use Rattle.protocol.proofs.Tests.{product-sides, system-sides, MessageFits}
 use Rattle.tape.proofs.Sides.{Sides, sides-of}
 use Rattle.judging.proofs.KindLaws.{few-columns}
 use Rattle.judging.specs.InOrder.{judged}
 use Rattle.local.proofs.Outcomes.{early}
-use Rattle.local.specs.Seen.{seenSize, seen, seenWords, seenMessage}
+use Rattle.local.specs.Seen.{seenSize, seen, seenWords, seenMessage, mostReply}
+use Rattle.local.specs.Seen.{sentSize, isReply, shrunk, openingHead, openingCount, openingMessage}
 use Rattle.local.proofs.Slots.{seen-inside, room-seen, tape-seen, body-seen}
 
 -- ---- where the sides fit and the slot lies in its pool
@@ -96,23 +101,24 @@ system-bounds t f =
       mul-le-mul {n₁ = t .m} {m₁ = t .p - t .m} {n₂ = 16} {m₂ = 1} (s .few) (omega (arith, one)),
     )
 
--- the count of a message whose sides fit
+-- the count of a message whose sides fit; only of kind 2 it may be more than mostResidues
 size-bounds : (kind : ℕ) (t : Terms) → within 1 5 kind ≡ true → sidesFit (kindSort kind) (t .m) (t .k) (t .p) ≡ true
-    → (0 < messageSize kind t) × (messageSize kind t ≤ mostSent)
+    → (0 < messageSize kind t) × (messageSize kind t ≤ mostSent) × (eqb kind 2 ≡ false → messageSize kind t ≤ mostResidues)
 unfolding within kindSort messageSize messageLayout columns
 size-bounds zero t k f = absurd (let l : 1 ≤ 0 = leb-true 1 0 (and-left _ _ k) in omega arith)
 size-bounds (suc zero) t k f =
     let s = product-sides (t .m) (t .k) (t .p) .0 f in
-    (mul-pos (s .some-k) (s .some-p), omega (arith, s .few-y))
+    (mul-pos (s .some-k) (s .some-p), omega (arith, s .few-y), λ n. s .few-y)
 size-bounds (suc (suc zero)) t k f =
     let s = product-sides (t .m) (t .k) (t .p) .0 f in
     let mk : 0 < t .m * t .k = mul-pos (s .some-m) (s .some-k) in
-    (omega (arith, mk), omega (arith, s .few-x, mul-le-mul {n₁ = t .m} {m₁ = t .p} {n₂ = 32} {m₂ = 32} (s .few-m) (s .few-p)))
-size-bounds (suc (suc (suc zero))) t k f = let b = system-bounds t f in (b .0, omega (arith, b .1))
+    let mp : t .m * t .p ≤ 1024 = mul-le-mul {n₁ = t .m} {m₁ = t .p} {n₂ = 32} {m₂ = 32} (s .few-m) (s .few-p) in
+    (omega (arith, mk), omega (arith, s .few-x, mp), λ n. absurd (false≢true (sym n)))
+size-bounds (suc (suc (suc zero))) t k f = let b = system-bounds t f in (b .0, omega (arith, b .1), λ n. omega (arith, b .1))
 size-bounds (suc (suc (suc (suc zero)))) t k f =
     let b = system-bounds t f in
-    (omega (arith, b .0), omega (arith, b .1, b .3))
-size-bounds (suc (suc (suc (suc (suc zero))))) t k f = let b = system-bounds t f in (b .2, omega (arith, b .3))
+    (omega (arith, b .0), omega (arith, b .1, b .3), λ n. omega (arith, b .1, b .3))
+size-bounds (suc (suc (suc (suc (suc zero))))) t k f = let b = system-bounds t f in (b .2, omega (arith, b .3), λ n. omega (arith, b .3))
 size-bounds (suc (suc (suc (suc (suc (suc n)))))) t k f =
     absurd (let l : suc (suc (suc (suc (suc (suc n))))) ≤ 5 = leb-true _ _ (and-right _ _ k) in omega arith)
 
@@ -126,6 +132,9 @@ headFits a = sidesFit (kindSort (a .head .kind)) (a .head .terms .m) (a .head .t
 abbrev pub headSize : Message → ℕ
 headSize a = messageSize (a .head .kind) (a .head .terms)
 
+abbrev pub headCounts : Message → Bool
+headCounts a = eqb (length (a .residues)) (headSize a)
+
 module _ (P : Message → Type 0) (a : Message) where
   kept-is : leb (length (a .residues)) mostSent ≡ true → P a → P (seenMessage a)
   unfolding seenMessage
@@ -138,7 +147,7 @@ module _ (P : Message → Type 0) (a : Message) where
   -- a message that is longer than any has wrong sides or a wrong count, and so has an empty one
   pub message-cases : within 1 5 (a .head .kind) ≡ true
       → (headFits a ≡ false → P (messageWith (a .head) []))
-      → (eqb (length (a .residues)) (headSize a) ≡ false → eqb 0 (headSize a) ≡ false → P (messageWith (a .head) []))
+      → (headCounts a ≡ false → eqb 0 (headSize a) ≡ false → P (messageWith (a .head) []))
       → P a
       → P (seenMessage a)
   message-cases known wrong-sides wrong-count fits = go (leb (length (a .residues)) mostSent) refl
@@ -152,6 +161,118 @@ module _ (P : Message → Type 0) (a : Message) where
       go : (b : Bool) → leb (length (a .residues)) mostSent ≡ b → P (seenMessage a)
       go true e = kept-is e fits
       go false e = empty-is e (counts (headFits a) refl (leb-false (length (a .residues)) mostSent e))
+
+-- ---- the message of a first step
+
+-- a long one of kind 2, with sides 1 and as many residues as these have
+abbrev pub short : Message → Message
+short a = messageWith (shrunk (a .head)) (take 2 (a .residues))
+
+module _ (a : Message) where
+  abbrev is-reply : Bool
+  is-reply = isReply (a .head) (length (a .residues))
+
+  reply-size : a .head .kind ≡ 2 → sentSize (a .head) ≡ cond (headFits a) (headSize a) 0
+  unfolding sentSize kindSort
+  reply-size k = rw k refl
+
+  -- a reply has sides that fit and the right count
+  reply-fits : 0 < length (a .residues) → is-reply ≡ true → (a .head .kind ≡ 2) × (headFits a ≡ true) × (headCounts a ≡ true)
+  unfolding isReply
+  reply-fits some r = go (headFits a) refl (subst (λ (n : ℕ). eqb (length (a .residues)) n ≡ true) (reply-size two) (and-right _ _ r))
+    where
+      two : a .head .kind ≡ 2
+      two = eqb-true (a .head .kind) 2 (and-left _ _ r)
+
+      go : (b : Bool) → headFits a ≡ b → eqb (length (a .residues)) (cond b (headSize a) 0) ≡ true
+          → (a .head .kind ≡ 2) × (headFits a ≡ true) × (headCounts a ≡ true)
+      go true e f = (two, e, f)
+      go false e f = absurd (let z : length (a .residues) ≡ 0 = eqb-true _ 0 f in omega (arith, some, z))
+
+  reply-counts : a .head .kind ≡ 2 → headFits a ≡ true → is-reply ≡ headCounts a
+  unfolding isReply both
+  reply-counts k e = rw (reply-size k, e, k) refl
+
+  short-fits : a .head .kind ≡ 2 → headFits (short a) ≡ true
+  unfolding shrunk kindSort sidesFit within both
+  short-fits k = rw k refl
+
+  short-counts : a .head .kind ≡ 2 → 2 ≤ length (a .residues) → headCounts (short a) ≡ true
+  unfolding shrunk messageSize messageLayout
+  short-counts k l = rw (k, length-take-le 2 (a .residues) l) refl
+
+  -- of the other kinds none with sides that fit is as long
+  long-counts : within 1 5 (a .head .kind) ≡ true → headFits a ≡ true → mostResidues < length (a .residues) → is-reply ≡ false
+      → headCounts a ≡ false
+  long-counts known e l r = go (eqb (a .head .kind) 2) refl
+    where
+      go : (b : Bool) → eqb (a .head .kind) 2 ≡ b → headCounts a ≡ false
+      go true k = sym (reply-counts (eqb-true (a .head .kind) 2 k) e) ∙ r
+      go false k =
+          let z = size-bounds (a .head .kind) (a .head .terms) known e .2 k in
+          ne-eqb (length (a .residues)) (headSize a) (λ f. omega (arith, l, z, f))
+
+module _ (P : Message → Type 0) (a : Message) where
+  opened-is : leb (length (a .residues)) mostResidues ≡ true → P a → P (openingMessage a)
+  unfolding openingMessage openingHead openingCount
+  opened-is e h = rw (e, take-all (length (a .residues)) (a .residues) (omega arith)) h
+
+  reply-is : leb (length (a .residues)) mostResidues ≡ false → is-reply a ≡ true → P (short a) → P (openingMessage a)
+  unfolding openingMessage openingHead openingCount
+  reply-is e r h = rw (e, r) h
+
+  other-is : leb (length (a .residues)) mostResidues ≡ false → is-reply a ≡ false → P (messageWith (a .head) []) → P (openingMessage a)
+  unfolding openingMessage openingHead openingCount
+  other-is e r h = rw (e, r) h
+
+  -- a message that is longer than any of kind 1 has wrong sides or a wrong count, and so has an empty one; or it is of kind 2, and its short one fits as well
+  pub opening-cases : within 1 5 (a .head .kind) ≡ true
+      → (headFits a ≡ false → P (messageWith (a .head) []))
+      → (headCounts a ≡ false → eqb 0 (headSize a) ≡ false → P (messageWith (a .head) []))
+      → (a .head .kind ≡ 2 → headFits a ≡ headFits (short a) → headCounts a ≡ headCounts (short a) → P (short a))
+      → P a
+      → P (openingMessage a)
+  opening-cases known wrong-sides wrong-count reply fits = go (leb (length (a .residues)) mostResidues) (is-reply a) refl refl
+    where
+      counts : (b : Bool) → headFits a ≡ b → mostResidues < length (a .residues) → is-reply a ≡ false → P (messageWith (a .head) [])
+      counts false e l r = wrong-sides e
+      counts true e l r =
+          let z = size-bounds (a .head .kind) (a .head .terms) known e .0 in
+          wrong-count (long-counts a known e l r) (ne-eqb 0 (headSize a) (λ f. omega (arith, z, f)))
+
+      go : (b c : Bool) → leb (length (a .residues)) mostResidues ≡ b → is-reply a ≡ c → P (openingMessage a)
+      go true c e r = opened-is e fits
+      go false true e r =
+          let l = leb-false (length (a .residues)) mostResidues e in
+          let f = reply-fits a (omega (arith, l)) r in
+          reply-is e r (reply (f .0) (f .1 ∙ sym (short-fits a (f .0))) (f .2 ∙ sym (short-counts a (f .0) (omega (arith, l)))))
+      go false false e r = other-is e r (counts (headFits a) refl (leb-false (length (a .residues)) mostResidues e) r)
+
+-- the tests of a first step: `us` stand between those of its message, and `vs` after them
+abbrev pub opening : Terms → (us vs : List Test) → Message → List Test
+opening t us vs a = messageTests a ++ (us ++ (dueTests 1 t a ++ vs))
+
+due-cut : (t : Terms) (us vs : List Test) (r : Refusal) (a : Message)
+    → clear r (us ++ (dueTests 1 t a ++ vs)) ≡ both (clear r us) (clear r (dueTests 1 t a ++ vs))
+due-cut t us vs r a = clear-append r us (dueTests 1 t a ++ vs)
+
+-- where the messages differ, both are refused alike, by 4 or 5 at the latest
+pub opening-judged : (t : Terms) (us vs : List Test) (a : Message) → within 1 5 (a .head .kind) ≡ true
+    → judged (opening t us vs a) ≡ judged (opening t us vs (openingMessage a))
+unfolding messageTests termsTests shapeTests inputTests dueTests shrunk clear both
+opening-judged t us vs a known =
+    let ts = opening t us vs in
+    let none = messageWith (a .head) [] in
+    let b = short a in
+    let cut = due-cut t us vs in
+    opening-cases (λ c. judged (ts a) ≡ judged (ts c)) a known
+    (λ h. early-size (ts a) (ts none) refl refl refl (rw h (simp both-no)) (rw h (simp both-no)))
+    (λ h g. early-size (ts a) (ts none) refl refl refl (rw h (simp both-no)) (rw g (simp both-no)))
+    (λ k e f.
+    let other : eqb (a .head .kind) 1 ≡ false = rw k refl in
+    early-turn (ts a) (ts b) (rw (cut Form a, cut Form b) refl) (rw (cut Modulus a, cut Modulus b) refl) (rw (cut Composite a, cut Composite b) refl)
+    (rw (e, f, cut Size a, cut Size b) refl) (rw (cut Turn a, other) (both-no (clear Turn us))) (rw (cut Turn b, other) (both-no (clear Turn us))))
+    refl
 
 -- the session of a later step or a drop: closed, its sides don't fit, its slot isn't in the pool, or none of these
 pub session-cases : {P : Type 0} (role : Role) (due : ℕ) (t : Terms) (s : Slot)
@@ -215,6 +336,12 @@ unfolding seenMessage
 message-whole sort kind t a e f =
     rw (le-leb (length (a .residues)) mostSent (omega (arith, f .residues .size, few-sent sort kind t e))) refl
 
+pub opening-whole : (sort : Sort) (t : Terms) (a : Message) → sidesFit sort (t .m) (t .k) (t .p) ≡ true → MessageFits 1 t a → openingMessage a ≡ a
+unfolding messageSize messageLayout
+opening-whole sort t a e f =
+    let z = sides-of sort (t .m) (t .k) (t .p) e in
+    opened-is (λ (b : Message). b ≡ a) a (le-leb (length (a .residues)) mostResidues (omega (arith, f .residues .size, z .few-kp))) refl
+
 -- and an input
 pub words-whole : (l : List ℕ) → length l ≤ mostResidues → seenWords l ≡ l
 unfolding seenWords
@@ -246,3 +373,9 @@ few-square t e =
       mul-le-mul {n₁ = t .m} {m₁ = t .m} {n₂ = 16} {m₂ = 16} (s .few) (s .few),
       b .3,
     )
+
+-- kinds 3, 4 and 5
+pub few-reply : (t : Terms) → sidesFit system (t .m) (t .k) (t .p) ≡ true
+    → (messageSize 3 t ≤ mostReply) × (messageSize 4 t ≤ mostReply) × (messageSize 5 t ≤ mostReply)
+unfolding messageSize messageLayout columns
+few-reply t e = let b = system-bounds t e in (omega (arith, b .1), omega (arith, b .1, b .3), omega (arith, b .3))

@@ -3,15 +3,18 @@
 --   seenSize, seen, behind       of its slot the words of its half
 --   seenWords, seenMessage       an input and a message that are longer than any are empty
 --   sentSize                     how many residues a message has, by its head
+--   openingMessage               a message that a first step is handed; one of kind 2, which is due to none, is short
+--   mostScratch .. shareRoom     room for words of the scratch, the message sent and the result
 --   endRole, sessionRole, sessionTerms   whose half a call looks at
 --   coinCount                    how many residues a first step draws
 --   onDone, entering             an outcome with another effect; an effect with a count of words read and with more words in its slot
 -- Assumes nothing.
-use mathlib.Core.Bool.{cond}
+use mathlib.Core.Bool.{Bool, true, cond}
 use mathlib.Core.List.{List, [], _++_}
 use Prim.Native.Nat.{ℕ, _*_}
 use lib.Dec.{eqb, leb}
 use lib.ListN.{length, take, drop}
+use Rattle.algebra.specs.Count.{both}
 use Rattle.protocol.specs.declared.Terms.{Terms}
 use Rattle.protocol.specs.declared.Head.{Head}
 use Rattle.protocol.specs.declared.Answer.{Answer}
@@ -49,6 +52,10 @@ behind role t s = drop (seenSize role t s) (slotWords s)
 unfoldable pub seenWords : List ℕ → List ℕ
 seenWords l = cond (leb (length l) mostResidues) l []
 
+-- how many residues of a message are looked at, by how many it has
+unfoldable pub seenCount : ℕ → ℕ
+seenCount n = cond (leb n mostSent) n 0
+
 unfoldable pub seenMessage : Message → Message
 seenMessage a = messageWith (a .head) (cond (leb (length (a .residues)) mostSent) (a .residues) [])
 
@@ -56,12 +63,52 @@ seenMessage a = messageWith (a .head) (cond (leb (length (a .residues)) mostSent
 unfoldable pub sentSize : Head → ℕ
 sentSize h = cond (eqb (h .kind) 0) 0 (cond (sidesFit product (h .terms .m) (h .terms .k) (h .terms .p)) (messageSize (h .kind) (h .terms)) 0)
 
+-- ---- the message that a first step is handed: of kind 1 where it is due, and then of at most mostResidues residues
+
+-- with n residues, a message of kind 2 as its head has it
+unfoldable pub isReply : Head → ℕ → Bool
+isReply h n = both (eqb (h .kind) 2) (eqb n (sentSize h))
+
+-- the head with all sides 1: a message of kind 2 has two residues then
+unfoldable pub shrunk : Head → Head
+shrunk h = record {
+  kind = h .kind;
+  terms = record { session = h .terms .session; tape = h .terms .tape; q = h .terms .q; m = 1; k = 1; p = 1 };
+}
+
+unfoldable pub openingHead : Head → ℕ → Head
+openingHead h n = cond (leb n mostResidues) h (cond (isReply h n) (shrunk h) h)
+
+unfoldable pub openingCount : Head → ℕ → ℕ
+openingCount h n = cond (leb n mostResidues) n (cond (isReply h n) 2 0)
+
+-- a message that is longer is refused by 4, or by 5 where it is of kind 2, whatever its residues are
+unfoldable pub openingMessage : Message → Message
+openingMessage a =
+    messageWith (openingHead (a .head) (length (a .residues))) (take (openingCount (a .head) (length (a .residues))) (a .residues))
+
+-- ---- room
+
 -- a blinder's scratch has no more than these, and a result
 abbrev pub mostScratch : ℕ
 mostScratch = 528
 
 abbrev pub mostResult : ℕ
 mostResult = 1024
+
+-- no step after the first sends more residues
+abbrev pub mostReply : ℕ
+mostReply = 272
+
+-- of a first step's ends those of a system have no result, and those of a product no scratch
+unfoldable pub isSystem : (end : ℕ) → Bool
+isSystem end = cond (eqb end BLINDER) true (eqb end SOLVER)
+
+unfoldable pub lentRoom : (end : ℕ) → ℕ
+lentRoom end = cond (isSystem end) mostScratch 0
+
+unfoldable pub shareRoom : (end : ℕ) → ℕ
+shareRoom end = cond (isSystem end) 0 mostResult
 
 -- ---- by the end, and by the record
 

@@ -1,6 +1,4 @@
 -- Arrays that words are copied into. Assumes nothing.
---   same-count                   the length of a field that is an array
---   over-whole                   words over as many
 --   copied, copied-start, copied-end   an array filled by a copy, of a list or of its first or last words
 --   kept-start                   a list at the start of an array of zeros
 --   joined                       an array filled by two copies, one behind the other
@@ -18,13 +16,7 @@ use Rattle.vectors.specs.Fill.{firstWords}
 use Rattle.vectors.proofs.Fill.{first-words}
 use Rattle.vectors.proofs.Written.{after-over, part-then}
 use Rattle.blinder.proofs.Kept.{kept-array}
-
-pub same-count : (l : List ℕ) {n : ℕ} → length (map (λ (x : ℕ). x) l) ≡ n → length l ≡ n
-same-count l e = sym (length-map l (λ (x : ℕ). x)) ∙ e
-
-pub over-whole : (ws d : List ℕ) → length d ≤ length ws → over ws d ≡ ws
-unfolding over
-over-whole ws d h = rw (drop-of-length-le d h) (append-nil ws)
+use Rattle.local.proofs.Lists.{over-whole}
 
 all-words : (n : ℕ) (l : List ℕ) → length l ≡ n → firstWords n l ≡ l
 all-words n l h = first-words n l (omega arith) ∙ take-all n l (omega arith)

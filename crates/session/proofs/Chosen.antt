@@ -1,5 +1,6 @@
 -- Which end's step a call of a session is. Assumes nothing.
 --   first-left, first-right, first-blinder, first-solver, first-other   a first step, by the end's number
+--   unopened-left .. unopened-other                                     its record where it is refused
 --   next-solver, next-blinder, next-right                               the step that is due, by the record's end
 --   drop-solver, drop-blinder, drop-right                               the drop
 use mathlib.Core.Path.{_≡_}
@@ -14,12 +15,13 @@ use Rattle.protocol.specs.declared.Refusal.the-variants.{Size}
 use Rattle.protocol.specs.Judge.{refused}
 use Rattle.protocol.specs.Tape.{Slot}
 use Rattle.protocol.specs.Message.{Message}
-use Rattle.protocol.specs.Product.{rightFirst, leftStep, rightLast}
-use Rattle.protocol.specs.System.{solverFirst, blinderFirst, solverSecond, blinderSecond, solverLast, blinderLast}
+use Rattle.protocol.specs.Product.{noRight, rightFirst, leftStep, rightLast}
+use Rattle.protocol.specs.System.{noSolver, noBlinder, solverFirst, blinderFirst, solverSecond, blinderSecond, solverLast, blinderLast}
 use Rattle.protocol.specs.Drop.{dropRight, dropSolver, dropBlinder}
 use Rattle.entry.specs.declared.Session.{Session}
 use Rattle.entry.specs.Record.{LEFT, RIGHT, BLINDER, SOLVER, rightOf, solverOf, blinderOf, ofLeft, ofRight, ofSolver, ofBlinder}
 use Rattle.entry.specs.Steps.{recorded, firstStep, nextStep, dropStep}
+use Rattle.local.specs.Settled.{unopened}
 
 module _ {end : ℕ} (t : Terms) (s : Slot) (scratch input words : List ℕ) (a : Message) (room share : ℕ) where
   pub first-left : end ≡ LEFT
@@ -51,6 +53,28 @@ module _ {end : ℕ} (t : Terms) (s : Slot) (scratch input words : List ℕ) (a 
         ne-eqb end BLINDER b,
         ne-eqb end SOLVER o,
       )
+
+-- the record of a first step that is refused
+module _ {end : ℕ} (t : Terms) where
+  pub unopened-left : end ≡ LEFT → unopened end t ≡ ofLeft t
+  unfolding unopened
+  unopened-left h = rw h
+
+  pub unopened-right : end ≡ RIGHT → unopened end t ≡ ofRight noRight
+  unfolding unopened
+  unopened-right h = rw h
+
+  pub unopened-blinder : end ≡ BLINDER → unopened end t ≡ ofBlinder noBlinder
+  unfolding unopened
+  unopened-blinder h = rw h
+
+  pub unopened-solver : end ≡ SOLVER → unopened end t ≡ ofSolver noSolver
+  unfolding unopened
+  unopened-solver h = rw h
+
+  pub unopened-other : (end ≡ RIGHT → ⊥) → (end ≡ BLINDER → ⊥) → (end ≡ SOLVER → ⊥) → unopened end t ≡ ofLeft t
+  unfolding unopened
+  unopened-other r b o = rw (ne-eqb end RIGHT r, ne-eqb end BLINDER b, ne-eqb end SOLVER o)
 
 module _ (x : Session) (s : Slot) (scratch : List ℕ) where
   module _ (a : Message) (room share : ℕ) where

@@ -26,7 +26,7 @@ use Rattle.judging.proofs.InOrder.{refused-by, accepted-by}
 use Rattle.judging.proofs.Join.{judged-true, judged-false}
 use Rattle.entry.specs.declared.Session.{Session}
 use Rattle.entry.specs.Steps.{lowerThan, also, recorded, freeTests, firstStep, firstOver}
-use Rattle.session.specs.Settled.{judgement}
+use Rattle.local.specs.Settled.{judgement}
 
 judgement-of : {A : Type 0} (ts : List Test) (a : A) → judged ts ≡ judgement (judge ts a)
 judgement-of ts a = go (judged ts) refl

@@ -1,8 +1,6 @@
 // The drop of a session, by the record's end.
 use crate::Done;
 use crate::is_settled;
-use crate::record::BLINDER;
-use crate::record::SOLVER;
 use crate::record::blinder_of;
 use crate::record::of_blinder;
 use crate::record::of_right;
@@ -12,6 +10,8 @@ use crate::record::solver_of;
 use crate::with_record;
 use blinder::BlinderDropped;
 use blinder::blinder_drop;
+use entry::BLINDER;
+use entry::SOLVER;
 use entry::Session;
 use judging::message::no_head;
 use product::RightDropped;

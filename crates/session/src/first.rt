@@ -2,21 +2,18 @@
 //   square_of                      how many words of a system's input are its matrix
 //   left, right, blinder, solver   the step of each end
 //   first_step                     all of them
-// A refused step leaves the record that it was handed.
+// A refused step answers with a record that is not open (`unopened`).
 use crate::Done;
-use crate::is_accepted;
-use crate::record::BLINDER;
-use crate::record::LEFT;
-use crate::record::RIGHT;
-use crate::record::SOLVER;
 use crate::record::of_blinder;
 use crate::record::of_left;
 use crate::record::of_right;
 use crate::record::of_solver;
 use crate::refused;
-use crate::with_record;
 use blinder::blinder_first;
-use entry::Session;
+use entry::BLINDER;
+use entry::LEFT;
+use entry::RIGHT;
+use entry::SOLVER;
 use product::left_step;
 use product::right_first;
 use protocol::Answer;
@@ -31,12 +28,13 @@ ghost use mathlib.Core.List.{[]};
 ghost use Prim.Native.Nat.{_*_, _≤_};
 ghost use lib.ListN.{length, take, drop};
 ghost use Rattle.protocol.specs.Message.{messageWith};
-ghost use Rattle.protocol.specs.Product.{leftStep, rightFirst};
-ghost use Rattle.protocol.specs.System.{blinderFirst, solverFirst};
+ghost use Rattle.protocol.specs.Product.{noRight, leftStep, rightFirst};
+ghost use Rattle.protocol.specs.System.{noBlinder, noSolver, blinderFirst, solverFirst};
 ghost use Rattle.tape.specs.Placed.{slotIn};
 ghost use Rattle.judging.specs.Leaves.{leaves, leaving};
 ghost use Rattle.entry.specs.Record.{ofLeft, ofRight, ofSolver, ofBlinder};
 ghost use Rattle.entry.specs.Steps.{recorded, firstStep};
+ghost use Rattle.local.specs.Settled.{unopened};
 
 // All of an input that is shorter.
 pub fn square_of(t: Terms, input: &[u32]) -> usize
@@ -54,7 +52,6 @@ pub fn square_of(t: Terms, input: &[u32]) -> usize
 fn left(
     pool: &mut [u32],
     at: Place,
-    x: Session,
     t: Terms,
     input: &[u32],
     words: &[u32],
@@ -64,33 +61,40 @@ fn left(
     result: &mut [u32],
 ) -> Done
     ensures { λ r. ⌜ leaving (r .answer) (r .session) (r .head) (now (pool .exit)) [] (now (out .exit)) (now (result .exit))
-        ≡ leaves x (slotIn (now (pool .entry)) at) [] (now (out .entry)) (now (result .entry))
+        ≡ leaves (ofLeft t) (slotIn (now (pool .entry)) at) [] (now (out .entry)) (now (result .entry))
         (recorded (λ _. ofLeft t) (leftStep t (slotIn (now (pool .entry)) at) (now (input .entry)) (now (words .entry))
         (messageWith a (now (residues .entry))) (length (now (out .entry))) (length (now (result .entry))))) ⌝ }
 {
     let done = left_step(pool, at, t, input, words, a, residues, out, result);
     let answer = done.answer;
     let head = done.head;
-    with_record(is_accepted(answer), answer, of_left(t), x, head)
+    Done {
+        answer,
+        session: of_left(t),
+        head,
+    }
 }
 
-fn right(pool: &mut [u32], at: Place, x: Session, t: Terms, input: &[u32], out: &mut [u32]) -> Done
+fn right(pool: &mut [u32], at: Place, t: Terms, input: &[u32], out: &mut [u32]) -> Done
     ensures { λ r. ⌜ leaving (r .answer) (r .session) (r .head) (now (pool .exit)) [] (now (out .exit)) []
-        ≡ leaves x (slotIn (now (pool .entry)) at) [] (now (out .entry)) []
+        ≡ leaves (ofRight noRight) (slotIn (now (pool .entry)) at) [] (now (out .entry)) []
         (recorded ofRight (rightFirst t (slotIn (now (pool .entry)) at) (now (input .entry)) (length (now (out .entry))))) ⌝ }
 {
     let done = right_first(pool, at, t, input, out);
     let answer = done.answer;
     let session = done.session;
     let head = done.head;
-    with_record(is_accepted(answer), answer, of_right(session), x, head)
+    Done {
+        answer,
+        session: of_right(session),
+        head,
+    }
 }
 
 fn blinder(
     pool: &mut [u32],
     at: Place,
     scratch: &mut [u32],
-    x: Session,
     t: Terms,
     input: &[u32],
     words: &[u32],
@@ -99,7 +103,7 @@ fn blinder(
     out: &mut [u32],
 ) -> Done
     ensures { λ r. ⌜ leaving (r .answer) (r .session) (r .head) (now (pool .exit)) (now (scratch .exit)) (now (out .exit)) []
-        ≡ leaves x (slotIn (now (pool .entry)) at) (now (scratch .entry)) (now (out .entry)) []
+        ≡ leaves (ofBlinder noBlinder) (slotIn (now (pool .entry)) at) (now (scratch .entry)) (now (out .entry)) []
         (recorded ofBlinder (blinderFirst t (slotIn (now (pool .entry)) at) (length (now (scratch .entry)))
         (take (t .m * t .m) (now (input .entry))) (drop (t .m * t .m) (now (input .entry))) (now (words .entry))
         (messageWith a (now (residues .entry))) (length (now (out .entry))))) ⌝ }
@@ -120,12 +124,16 @@ fn blinder(
     let answer = done.answer;
     let session = done.session;
     let head = done.head;
-    with_record(is_accepted(answer), answer, of_blinder(session), x, head)
+    Done {
+        answer,
+        session: of_blinder(session),
+        head,
+    }
 }
 
-fn solver(pool: &mut [u32], at: Place, x: Session, t: Terms, input: &[u32], out: &mut [u32]) -> Done
+fn solver(pool: &mut [u32], at: Place, t: Terms, input: &[u32], out: &mut [u32]) -> Done
     ensures { λ r. ⌜ leaving (r .answer) (r .session) (r .head) (now (pool .exit)) [] (now (out .exit)) []
-        ≡ leaves x (slotIn (now (pool .entry)) at) [] (now (out .entry)) []
+        ≡ leaves (ofSolver noSolver) (slotIn (now (pool .entry)) at) [] (now (out .entry)) []
         (recorded ofSolver (solverFirst t (slotIn (now (pool .entry)) at)
         (take (t .m * t .m) (now (input .entry))) (drop (t .m * t .m) (now (input .entry))) (length (now (out .entry))))) ⌝ }
 {
@@ -134,7 +142,11 @@ fn solver(pool: &mut [u32], at: Place, x: Session, t: Terms, input: &[u32], out:
     let answer = done.answer;
     let session = done.session;
     let head = done.head;
-    with_record(is_accepted(answer), answer, of_solver(session), x, head)
+    Done {
+        answer,
+        session: of_solver(session),
+        head,
+    }
 }
 
 // Of another end than the four nothing is judged but that.
@@ -142,7 +154,6 @@ pub fn first_step(
     pool: &mut [u32],
     at: Place,
     scratch: &mut [u32],
-    x: Session,
     end: u32,
     t: Terms,
     input: &[u32],
@@ -153,15 +164,15 @@ pub fn first_step(
     result: &mut [u32],
 ) -> Done
     ensures { λ r. ⌜ leaving (r .answer) (r .session) (r .head) (now (pool .exit)) (now (scratch .exit)) (now (out .exit)) (now (result .exit))
-        ≡ leaves x (slotIn (now (pool .entry)) at) (now (scratch .entry)) (now (out .entry)) (now (result .entry))
+        ≡ leaves (unopened end t) (slotIn (now (pool .entry)) at) (now (scratch .entry)) (now (out .entry)) (now (result .entry))
         (firstStep end t (slotIn (now (pool .entry)) at) (now (scratch .entry)) (now (input .entry)) (now (words .entry))
         (messageWith a (now (residues .entry))) (length (now (out .entry))) (length (now (result .entry)))) ⌝ }
 {
     match end {
-        LEFT => left(pool, at, x, t, input, words, a, residues, out, result),
-        RIGHT => right(pool, at, x, t, input, out),
-        BLINDER => blinder(pool, at, scratch, x, t, input, words, a, residues, out),
-        SOLVER => solver(pool, at, x, t, input, out),
-        _ => refused(Answer::Refused(Refusal::Size), x),
+        LEFT => left(pool, at, t, input, words, a, residues, out, result),
+        RIGHT => right(pool, at, t, input, out),
+        BLINDER => blinder(pool, at, scratch, t, input, words, a, residues, out),
+        SOLVER => solver(pool, at, t, input, out),
+        _ => refused(Answer::Refused(Refusal::Size), of_left(t)),
     }
 }

@@ -25,7 +25,7 @@ use protocol::Head;
 ghost use mathlib.Core.Path.{_≡_};
 ghost use mathlib.Core.Bool.{cond};
 ghost use Rattle.protocol.specs.Message.{noMessage};
-ghost use Rattle.session.specs.Settled.{isAccepted, isSettled};
+ghost use Rattle.local.specs.Settled.{isAccepted, isSettled};
 
 pub struct Done {
     pub answer: Answer,

@@ -4,8 +4,6 @@
 //   next_step                               all of them
 use crate::Done;
 use crate::is_settled;
-use crate::record::BLINDER;
-use crate::record::SOLVER;
 use crate::record::blinder_of;
 use crate::record::of_blinder;
 use crate::record::of_right;
@@ -16,6 +14,8 @@ use crate::with_record;
 use blinder::BlinderAnswer;
 use blinder::blinder_last;
 use blinder::blinder_second;
+use entry::BLINDER;
+use entry::SOLVER;
 use entry::Session;
 use product::RightAnswer;
 use product::right_last;
@@ -36,7 +36,7 @@ ghost use Rattle.tape.specs.Placed.{slotIn};
 ghost use Rattle.judging.specs.Leaves.{leaves, leaving};
 ghost use Rattle.entry.specs.Record.{rightOf, solverOf, blinderOf, ofRight, ofSolver, ofBlinder};
 ghost use Rattle.entry.specs.Steps.{recorded, nextStep};
-ghost use Rattle.session.specs.Settled.{isSettled};
+ghost use Rattle.local.specs.Settled.{isSettled};
 
 // ---- what each end's step answers, with the record that it leaves
 

@@ -5,11 +5,13 @@
 use crate::Done;
 use crate::first::first_step;
 use crate::first::square_of;
-use crate::record::BLINDER;
-use crate::record::LEFT;
-use crate::record::RIGHT;
-use crate::record::SOLVER;
+use crate::is_accepted;
 use crate::refused;
+use crate::with_record;
+use entry::BLINDER;
+use entry::LEFT;
+use entry::RIGHT;
+use entry::SOLVER;
 use entry::Session;
 use judging::Check;
 use judging::answer_of;
@@ -28,7 +30,7 @@ ghost use Rattle.tape.specs.Placed.{slotIn};
 ghost use Rattle.judging.specs.InOrder.{checked};
 ghost use Rattle.judging.specs.Leaves.{leaves, leaving};
 ghost use Rattle.entry.specs.Steps.{firstStep, firstOver};
-ghost use Rattle.session.specs.Settled.{judgement};
+ghost use Rattle.local.specs.Settled.{judgement};
 
 // `room` and `share`: how many words the message's and the result's slices have.
 fn check_first(
@@ -88,11 +90,10 @@ pub fn first_over(
         (messageWith a (now (residues .entry))) (length (now (out .entry))) (length (now (result .entry)))) ⌝ }
 {
     if x.due == 0 {
-        return first_step(
+        let d = first_step(
             pool,
             at,
             scratch,
-            x,
             end,
             t,
             input,
@@ -102,6 +103,10 @@ pub fn first_over(
             out,
             result,
         );
+        let answer = d.answer;
+        let session = d.session;
+        let head = d.head;
+        return with_record(is_accepted(answer), answer, session, x, head);
     }
     let room = out.len();
     let share = result.len();

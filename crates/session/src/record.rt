@@ -1,6 +1,10 @@
 // Records: the session of an end in a record, and the record of a session (RULES 11.1).
 //   right_of, solver_of, blinder_of             the session that a record holds
 //   of_left, of_right, of_solver, of_blinder    the record of a session
+use entry::BLINDER;
+use entry::LEFT;
+use entry::RIGHT;
+use entry::SOLVER;
 use entry::Session;
 use judging::message::no_head;
 use protocol::BlinderSession;
@@ -10,14 +14,6 @@ use protocol::Terms;
 use vectors::write_copy;
 ghost use mathlib.Core.Path.{_≡_};
 ghost use Rattle.entry.specs.Record.{rightOf, solverOf, blinderOf, ofLeft, ofRight, ofSolver, ofBlinder};
-
-pub const LEFT: u32 = 1;
-
-pub const RIGHT: u32 = 2;
-
-pub const BLINDER: u32 = 3;
-
-pub const SOLVER: u32 = 4;
 
 // A record of another end holds no session.
 pub fn right_of(x: Session) -> RightSession

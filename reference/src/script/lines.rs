@@ -70,6 +70,28 @@ fn long_lines(writer: &mut Writer, plan: &Plan, step: Step) {
         long(writer, head, 40_000 + head.len() as u32 % 2);
         arrives(writer, plan, step);
     }
+    replies(writer, plan, step);
+}
+
+/// Second messages, and one like a system's fourth, that have more residues than any first message: right by themselves, with one residue
+/// more or less, and with one that is no residue.
+fn replies(writer: &mut Writer, plan: &Plan, step: Step) {
+    let heads: [(&[u8], u32); 5] = [
+        (b"2,9,4,7,32,64,32,", 3072),
+        (b"2,10,4,7,32,33,32,", 2080),
+        (b"2,9,4,6,1,2048,1,", 2049),
+        (b"4,9,4,7,16,128,32,", 2304),
+        (b"2,9,0,7,32,64,2,", 2112),
+    ];
+    for (head, residues) in heads {
+        for residues in [residues, residues - 1, residues + 1] {
+            long(writer, head, head.len() as u32 + 2 * residues);
+            arrives(writer, plan, step);
+        }
+        long(writer, head, head.len() as u32 + 2 * residues);
+        writer.say(&[4, SPARE, head.len() as u32, u32::from(b'9')]);
+        arrives(writer, plan, step);
+    }
 }
 
 /// A line of so many bytes whose residues are zeros.

@@ -9,6 +9,7 @@ use Rattle.judging.proofs.Join.{hands-on, goes-past}
 use Rattle.line.specs.Reading.{restTests}
 use Rattle.line.proofs.Fits.{head-few}
 use Rattle.line.proofs.Judged.{read-phases}
+use Rattle.line.proofs.Words.{all-residues}
 use borrow.Author.Needs.{needs}
 use Rattle.line.proofs.check_read.Statement.{statement}
 use Rattle.line.proofs.check_read.Tie as tie
@@ -50,8 +51,10 @@ returns-2 c =
     let own = c .before .before .before .before .before .check-message in
     let k = c .before .before .before .enum-told .given .1 in
     let n : a .count + 7 - 7 ≡ a .count = omega arith in
+    let few = head-few _ _ (sym (own .ensures) ∙ ap checked k) in
+    let pre = c .before .before .before .before .before .before .before .pre in
     λ s l. c .check-rest .ensures ∙ ap (λ (r : List ℕ). judged (restTests (a .h .terms .q) r (a .count) (a .room)))
-    (ap (λ (m : ℕ). take m (drop 7 (a .words .now))) n ∙ l .residues (head-few _ _ (sym (own .ensures) ∙ ap checked k)))
+    (ap (λ (m : ℕ). take m (drop 7 (a .words .now))) n ∙ all-residues l (omega (arith, few, pre)))
     ∙ sym (read-phases l (a .room) ∙ goes-past (own .result) (own .ensures) k)
 
 pub check-read-spec : {M : Type 1} → statement M

@@ -6,6 +6,7 @@ use lib.ListN.{length}
 use Rattle.algebra.specs.Words.{over}
 use Rattle.judging.specs.InOrder.{checked}
 use Rattle.line.proofs.Judged.{holds, no-message, read-wrong, read-room, read-few, read-judged, refuses, takes}
+use Rattle.line.proofs.Words.{all-residues}
 use borrow.Author.Needs.{needs}
 use Rattle.line.proofs.read.Statement.{statement}
 use Rattle.line.proofs.read.Tie as tie
@@ -75,7 +76,7 @@ returns-3 c =
     let out = start (c .before .before .before .before .before .before .before .before .before .before .before .before) .args .out .now in
     let few = read-few l _ (sym (check .ensures _ l) ∙ ap checked told) in
     takes l _ (read-judged l _) _ (check .result) (check .ensures _ l) told
-    (c .before .before .put-residues .ensures ∙ ap (λ (r : List ℕ). over r out) (l .residues few))
+    (c .before .before .put-residues .ensures ∙ ap (λ (r : List ℕ). over r out) (all-residues l (search needs)))
 
 pub read-spec : {M : Type 1} → statement M
 read-spec =

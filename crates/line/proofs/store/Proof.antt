@@ -7,6 +7,7 @@ use lib.ListN.{drop}
 use Rattle.algebra.specs.Words.{over}
 use Rattle.protocol.specs.Line.{numbersOf}
 use Rattle.decimal.proofs.Entry.{tallied, stored-behind, sets-over}
+use Rattle.line.proofs.Words.{all-residues}
 use borrow.Author.Needs.{needs}
 use Rattle.line.proofs.store.Statement.{statement}
 use Rattle.line.proofs.store.Tie as tie
@@ -20,7 +21,9 @@ same-length c = search needs
 returns : tie.Need-returns
 returns c =
     let out = c .before .before .before .before .before .before .before .before .args .out .now in
-    λ h l. c .before .before .put-residues .ensures ∙ ap (λ (r : List ℕ). over r out) (l .residues (c .before .before .before .before .if1 .taken))
+    let few = c .before .before .before .before .if1 .taken in
+    let pre = c .before .before .before .before .before .before .before .before .pre in
+    λ h l. c .before .before .put-residues .ensures ∙ ap (λ (r : List ℕ). over r out) (all-residues l (omega (arith, few, pre .0)))
 
 load-behind-requires : tie.Need-load-behind-requires
 load-behind-requires c κs = search needs

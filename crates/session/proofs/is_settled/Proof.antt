@@ -1,5 +1,5 @@
 -- `session::is_settled` meets its contract. Assumes nothing.
-use Rattle.session.proofs.Recorded.{singular-number}
+use Rattle.local.proofs.Recorded.{singular-number}
 use borrow.Author.Needs.{needs}
 use Rattle.session.proofs.is_settled.Statement.{statement}
 use Rattle.session.proofs.is_settled.Tie as tie

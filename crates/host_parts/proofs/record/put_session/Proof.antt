@@ -1,7 +1,7 @@
 -- `host_parts::record::put_session` meets its contract. Assumes nothing.
 use native.Mathlib.Omega.{arith}
 use lib.ListN.{length-take, length-drop}
-use Rattle.session.proofs.Arrays.{same-count}
+use Rattle.local.proofs.Lists.{same-count}
 use Rattle.host_parts.proofs.Records.{record-put}
 use borrow.Author.Needs.{needs}
 use Rattle.host_parts.proofs.record.put_session.Statement.{statement}

@@ -1,6 +1,6 @@
 -- `host_parts::record::start_of` meets its contract. Assumes nothing.
 use mathlib.Core.Path.{refl}
-use Rattle.host_parts.specs.Stored.{startWords}
+use Rattle.local.specs.Stored.{startWords}
 use Rattle.host_parts.proofs.record.start_of.Statement.{statement}
 use Rattle.host_parts.proofs.record.start_of.Tie as tie
 

@@ -1,7 +1,7 @@
 -- `host_parts::store::is_sum` meets its contract. Assumes nothing.
 use borrow.Author.Tests.{not-true, not-false}
 use Rattle.algebra.specs.Count.{both}
-use Rattle.session.proofs.Recorded.{singular-number}
+use Rattle.local.proofs.Recorded.{singular-number}
 use borrow.Author.Needs.{needs}
 use Rattle.host_parts.proofs.store.is_sum.Statement.{statement}
 use Rattle.host_parts.proofs.store.is_sum.Tie as tie

@@ -1,6 +1,6 @@
 -- `host_parts::store::store` meets its contract. Assumes nothing.
-use Rattle.host_parts.proofs.PutBack.{stored-accepted, stored-sum, stored-refused}
 use mathlib.Core.Path.{sym, _∙_}
+use Rattle.host_parts.proofs.PutBack.{stored-accepted, stored-sum, stored-refused}
 use borrow.Author.Needs.{needs}
 use Rattle.host_parts.proofs.store.store.Statement.{statement}
 use Rattle.host_parts.proofs.store.store.Tie as tie
@@ -31,8 +31,8 @@ same-length-5 c = search needs
 
 returns : tie.Need-returns
 returns c =
-    let a = c .before .before .before .before .before .before .before .before .before .before .before .before .before .before .before .before .before .before .before .before .before .before .before .before .before .before .before .before .before .args in
-    stored-accepted (a .later) (a .read) (a .done .answer) (a .done .session) (a .done .head) (a .words .now) (a .lent .now) (a .sent .now) (a .share .now)
+    let a = c .before .before .before .before .before .before .before .before .before .before .before .before .before .before .before .before .before .before .before .before .before .before .before .before .before .before .before .args in
+    stored-accepted (a .later) (a .read) (a .answer) (a .x) (a .h) (a .words .now) (a .lent .now) (a .sent .now) (a .share .now)
     (record { host = a .session .now; pool = a .slot .now; scratch = a .scratch .now; line = a .line .now; result = a .result .now })
     (c .before .before .before .before .before .before .before .before .before .before .before .before .before .before .before .before .enum-told .given .1) (c .before .before .before .before .before .before .before .before .before .before .store-sent .ensures)
 
@@ -59,22 +59,23 @@ same-length-9 c = search needs
 
 returns-2 : tie.Need-returns-2
 returns-2 c =
-    let a = c .before .before .before .before .before .before .before .before .before .before .before .before .before .before .before .before .before .before .before .before .before .before .before .before .before .before .before .before .before .before .args in
+    let a = c .before .before .before .before .before .before .before .before .before .before .before .before .before .before .before .before .before .before .before .before .before .before .before .before .before .before .before .before .args in
     let put = c .before .before .before .before .before .before .before .before .before .put-all .ensures in
-    stored-sum (a .later) (a .read) (a .done .answer) (a .done .session) (a .done .head) (a .words .now) (a .lent .now) (a .sent .now) (a .share .now)
+    let sum = sym (c .before .before .before .before .before .before .before .before .before .before .before .before .before .before .before .is-sum .ensures) ∙ c .before .before .before .before .before .before .before .before .before .before .before .before .before .before .if1 .taken in
+    stored-sum (a .later) (a .read) (a .answer) (a .x) (a .h) (a .words .now) (a .lent .now) (a .sent .now) (a .share .now)
     (record { host = a .session .now; pool = a .slot .now; scratch = a .scratch .now; line = a .line .now; result = a .result .now })
-    (c .before .before .before .before .before .before .before .before .before .before .before .before .before .before .before .before .before .answer .given .1) (c .refusal .ensures) (sym (c .before .before .before .before .before .before .before .before .before .before .before .before .before .before .before .is-sum .ensures) ∙ c .before .before .before .before .before .before .before .before .before .before .before .before .before .before .if1 .taken)
-    (put .0) (put .1 .0) (put .1 .1 .0) (put .1 .1 .1)
+    (c .before .before .before .before .before .before .before .before .before .before .before .before .before .before .before .before .before .answer .given .1) (c .refusal .ensures) sum (put .0) (put .1 .0) (put .1 .1 .0) (put .1 .1 .1)
 
 refusal-requires-2 : tie.Need-refusal-requires-2
 refusal-requires-2 c κs = search needs
 
 returns-3 : tie.Need-returns-3
 returns-3 c =
-    let a = c .before .before .before .before .before .before .before .before .before .before .before .before .before .before .before .before .before .args in
-    stored-refused (a .later) (a .read) (a .done .answer) (a .done .session) (a .done .head) (a .words .now) (a .lent .now) (a .sent .now) (a .share .now)
+    let a = c .before .before .before .before .before .before .before .before .before .before .before .before .before .before .before .args in
+    let other = sym (c .before .before .is-sum .ensures) ∙ c .before .if1 .left in
+    stored-refused (a .later) (a .read) (a .answer) (a .x) (a .h) (a .words .now) (a .lent .now) (a .sent .now) (a .share .now)
     (record { host = a .session .now; pool = a .slot .now; scratch = a .scratch .now; line = a .line .now; result = a .result .now })
-    (c .before .before .before .before .answer .given .1) (c .refusal2 .ensures) (sym (c .before .before .is-sum .ensures) ∙ c .before .if1 .left)
+    (c .before .before .before .before .answer .given .1) (c .refusal2 .ensures) other
 
 pub store-spec : {M : Type 1} → statement M
 store-spec =

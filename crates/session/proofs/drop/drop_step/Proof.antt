@@ -2,8 +2,8 @@
 use mathlib.Core.List.{[]}
 use Rattle.protocol.specs.Tape.{slotAt}
 use Rattle.entry.specs.Record.{rightOf, solverOf, ofRight, ofSolver}
-use Rattle.session.proofs.Recorded.{any-scratch}
-use Rattle.session.proofs.Ends.{drop-right-no-scratch, drop-solver-no-scratch}
+use Rattle.local.proofs.Recorded.{any-scratch}
+use Rattle.local.proofs.Ends.{drop-right-no-scratch, drop-solver-no-scratch}
 use Rattle.session.proofs.Chosen.{drop-solver, drop-blinder, drop-right}
 use borrow.Author.Needs.{needs}
 use Rattle.session.proofs.drop.drop_step.Statement.{statement}

@@ -2,8 +2,8 @@
 use mathlib.Core.List.{[]}
 use Rattle.protocol.specs.Tape.{slotAt}
 use Rattle.entry.specs.Record.{rightOf, ofRight}
-use Rattle.session.proofs.Recorded.{recorded-leaves}
-use Rattle.session.proofs.Ends.{drop-right-told}
+use Rattle.local.proofs.Recorded.{recorded-leaves}
+use Rattle.local.proofs.Ends.{drop-right-told}
 use borrow.Author.Needs.{needs}
 use Rattle.session.proofs.drop.right.Statement.{statement}
 use Rattle.session.proofs.drop.right.Tie as tie

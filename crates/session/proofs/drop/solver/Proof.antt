@@ -2,8 +2,8 @@
 use mathlib.Core.List.{[]}
 use Rattle.protocol.specs.Tape.{slotAt}
 use Rattle.entry.specs.Record.{solverOf, ofSolver}
-use Rattle.session.proofs.Recorded.{recorded-leaves}
-use Rattle.session.proofs.Ends.{drop-solver-told}
+use Rattle.local.proofs.Recorded.{recorded-leaves}
+use Rattle.local.proofs.Ends.{drop-solver-told}
 use borrow.Author.Needs.{needs}
 use Rattle.session.proofs.drop.solver.Statement.{statement}
 use Rattle.session.proofs.drop.solver.Tie as tie

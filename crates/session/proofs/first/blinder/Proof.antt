@@ -6,11 +6,10 @@ use lib.ListN.{length, take, drop}
 use lib.Seq.{length-take-le}
 use Rattle.protocol.specs.Tape.{slotAt}
 use Rattle.protocol.specs.Message.{messageWith}
-use Rattle.protocol.specs.System.{noBlinder}
+use Rattle.protocol.specs.System.{noBlinder, blinderFirst}
 use Rattle.vectors.proofs.Written.{tail-part}
 use Rattle.entry.specs.Record.{ofBlinder}
-use Rattle.session.proofs.Recorded.{recorded-leaves}
-use Rattle.session.proofs.Ends.{blinder-first-told}
+use Rattle.local.proofs.Recorded.{carried-leaves}
 use borrow.Author.Needs.{needs}
 use Rattle.session.proofs.first.blinder.Statement.{statement}
 use Rattle.session.proofs.first.blinder.Tie as tie
@@ -36,14 +35,8 @@ part-blinder-first-end c = search needs
 blinder-first-requires : tie.Need-blinder-first-requires
 blinder-first-requires c κs = search needs
 
-is-accepted-requires : tie.Need-is-accepted-requires
-is-accepted-requires c κs = search needs
-
 of-blinder-requires : tie.Need-of-blinder-requires
 of-blinder-requires c κs = search needs
-
-with-record-requires : tie.Need-with-record-requires
-with-record-requires c κs = search needs
 
 same-length : tie.Need-same-length
 same-length c = search needs
@@ -56,7 +49,7 @@ same-length-3 c = search needs
 
 returns : tie.Need-returns
 returns c =
-    let at11 = c .before .before .before .before .before .before .before .before .before .before .before in
+    let at11 = c .before .before .before .before .before .before .before .before .before in
     let at17 = at11 .before .before .before .before .before .before in
     let at24 = at17 .before .before .before .before .before .before .before in
     let a = at24 .args in
@@ -64,11 +57,11 @@ returns c =
     let m = messageWith (a .a) (a .residues .now) in
     let n = a .t .m * a .t .m in
     let l = a .input .now in
-    let told = blinder-first-told (a .t) s (length (a .scratch .now)) (take n l) (drop n l) (a .words .now) m (length (a .out .now)) in
     let cut = at17 .square-of .ensures in
     let e = rw (tail-part (at17 .square-of .result) l, cut .1, cut .2) at (at11 .blinder-first .ensures) in
-    rw (c .with-record .ensures, c .before .before .is-accepted .ensures, c .before .of-blinder .ensures)
-    (recorded-leaves ofBlinder (a .x) noBlinder s (a .scratch .now) (a .out .now) [] told (at11 .blinder-first .result .answer) e)
+    rw (c .of-blinder .ensures)
+    (carried-leaves ofBlinder noBlinder s (a .scratch .now) (a .out .now) []
+    (blinderFirst (a .t) s (length (a .scratch .now)) (take n l) (drop n l) (a .words .now) m (length (a .out .now))) (at11 .blinder-first .result .answer) e)
 
 pub blinder-spec : {M : Type 1} → statement M
 blinder-spec =
@@ -81,9 +74,7 @@ blinder-spec =
     part-blinder-first-start
     part-blinder-first-end
     blinder-first-requires
-    is-accepted-requires
     of-blinder-requires
-    with-record-requires
     same-length
     same-length-2
     same-length-3

@@ -5,11 +5,14 @@ use lib.ListN.{length, take, drop}
 use Rattle.algebra.specs.Words.{over}
 use Rattle.protocol.specs.Tape.{slotAt}
 use Rattle.protocol.specs.Message.{messageWith}
+use Rattle.protocol.specs.Product.{noRight}
+use Rattle.protocol.specs.System.{noBlinder, noSolver}
 use Rattle.entry.specs.Record.{ofLeft, ofRight, ofBlinder, ofSolver}
-use Rattle.session.proofs.Recorded.{any-scratch, any-result}
-use Rattle.session.proofs.Ends.{left-no-scratch, right-first-no-scratch, right-first-no-result, blinder-first-no-result}
-use Rattle.session.proofs.Ends.{solver-first-no-scratch, solver-first-no-result}
+use Rattle.local.proofs.Recorded.{any-scratch, any-result}
+use Rattle.local.proofs.Ends.{left-no-scratch, right-first-no-scratch, right-first-no-result, blinder-first-no-result}
+use Rattle.local.proofs.Ends.{solver-first-no-scratch, solver-first-no-result}
 use Rattle.session.proofs.Chosen.{first-left, first-right, first-blinder, first-solver, first-other}
+use Rattle.session.proofs.Chosen.{unopened-left, unopened-right, unopened-blinder, unopened-solver, unopened-other}
 use borrow.Author.Needs.{needs}
 use Rattle.session.proofs.first.first_step.Statement.{statement}
 use Rattle.session.proofs.first.first_step.Tie as tie
@@ -25,6 +28,9 @@ blinder-requires c κs = search needs
 
 solver-requires : tie.Need-solver-requires
 solver-requires c κs = search needs
+
+of-left-requires : tie.Need-of-left-requires
+of-left-requires c κs = search needs
 
 refused-requires : tie.Need-refused-requires
 refused-requires c κs = search needs
@@ -51,7 +57,7 @@ returns c =
     let share = length (a .result .now) in
     let none = left-no-scratch (a .t) s l (a .words .now) m room share (λ _. ofLeft (a .t)) in
     let which = first-left (a .t) s (a .scratch .now) l (a .words .now) m room share (at10 .match .keys1) in
-    rw which (any-scratch (a .x) s (a .out .now) (a .result .now) (a .scratch .now) none (at6 .left .ensures))
+    rw (which, unopened-left (a .t) (at10 .match .keys1)) (any-scratch (ofLeft (a .t)) s (a .out .now) (a .result .now) (a .scratch .now) none (at6 .left .ensures))
 
 same-length-4 : tie.Need-same-length-4
 same-length-4 c = search needs
@@ -73,9 +79,9 @@ returns-2 c =
     let no-scratch = right-first-no-scratch (a .t) s l room ofRight in
     let no-result = right-first-no-result (a .t) s l room ofRight in
     let which = first-right (a .t) s (a .scratch .now) l (a .words .now) m room share (at7 .match .keys2) in
-    rw which
-    (any-scratch (a .x) s (a .out .now) (a .result .now) (a .scratch .now) no-scratch
-    (any-result (a .x) s [] (a .out .now) (a .result .now) no-result (at4 .right .ensures)))
+    rw (which, unopened-right (a .t) (at7 .match .keys2))
+    (any-scratch (ofRight noRight) s (a .out .now) (a .result .now) (a .scratch .now) no-scratch
+    (any-result (ofRight noRight) s [] (a .out .now) (a .result .now) no-result (at4 .right .ensures)))
 
 same-length-6 : tie.Need-same-length-6
 same-length-6 c = search needs
@@ -100,7 +106,7 @@ returns-3 c =
     let n = a .t .m * a .t .m in
     let none = blinder-first-no-result (a .t) s (length (a .scratch .now)) (take n l) (drop n l) (a .words .now) m room ofBlinder in
     let which = first-blinder (a .t) s (a .scratch .now) l (a .words .now) m room share (at10 .match .keys3) in
-    rw which (any-result (a .x) s (a .scratch .now) (a .out .now) (a .result .now) none (at6 .blinder .ensures))
+    rw (which, unopened-blinder (a .t) (at10 .match .keys3)) (any-result (ofBlinder noBlinder) s (a .scratch .now) (a .out .now) (a .result .now) none (at6 .blinder .ensures))
 
 same-length-9 : tie.Need-same-length-9
 same-length-9 c = search needs
@@ -123,22 +129,22 @@ returns-4 c =
     let no-scratch = solver-first-no-scratch (a .t) s (take n l) (drop n l) room ofSolver in
     let no-result = solver-first-no-result (a .t) s (take n l) (drop n l) room ofSolver in
     let which = first-solver (a .t) s (a .scratch .now) l (a .words .now) m room share (at7 .match .keys4) in
-    rw which
-    (any-scratch (a .x) s (a .out .now) (a .result .now) (a .scratch .now) no-scratch
-    (any-result (a .x) s [] (a .out .now) (a .result .now) no-result (at4 .solver .ensures)))
+    rw (which, unopened-solver (a .t) (at7 .match .keys4))
+    (any-scratch (ofSolver noSolver) s (a .out .now) (a .result .now) (a .scratch .now) no-scratch
+    (any-result (ofSolver noSolver) s [] (a .out .now) (a .result .now) no-result (at4 .solver .ensures)))
 
 returns-5 : tie.Need-returns-5
 unfolding over
 returns-5 c =
-    let at9 = c .before .before .before .before .before .before .before .before .before in
+    let at9 = c .before .before .before .before .before .before .before .before .before .before in
     let a = at9 .args in
     let s = slotAt (a .pool .now) (a .at .size) (a .at .index) in
     let m = messageWith (a .a) (a .residues .now) in
     let l = a .input .now in
     let room = length (a .out .now) in
     let share = length (a .result .now) in
-    let h = c .before .match .rest in
-    rw (c .refused .ensures, first-other (a .t) s (a .scratch .now) l (a .words .now) m room share (h .0 .0 .0 .1) (h .0 .0 .1) (h .0 .1) (h .1))
+    let h = c .before .before .match .rest in
+    rw (c .refused .ensures, c .before .of-left .ensures, unopened-other (a .t) (h .0 .0 .1) (h .0 .1) (h .1), first-other (a .t) s (a .scratch .now) l (a .words .now) m room share (h .0 .0 .0 .1) (h .0 .0 .1) (h .0 .1) (h .1))
 
 pub first-step-spec : {M : Type 1} → statement M
 first-step-spec =
@@ -148,6 +154,7 @@ first-step-spec =
     right-requires
     blinder-requires
     solver-requires
+    of-left-requires
     refused-requires
     same-length
     same-length-2

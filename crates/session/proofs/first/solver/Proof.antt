@@ -5,11 +5,10 @@ use Prim.Native.Nat.{_*_}
 use lib.ListN.{length, take, drop}
 use lib.Seq.{length-take-le}
 use Rattle.protocol.specs.Tape.{slotAt}
-use Rattle.protocol.specs.System.{noSolver}
+use Rattle.protocol.specs.System.{noSolver, solverFirst}
 use Rattle.vectors.proofs.Written.{tail-part}
 use Rattle.entry.specs.Record.{ofSolver}
-use Rattle.session.proofs.Recorded.{recorded-leaves}
-use Rattle.session.proofs.Ends.{solver-first-told}
+use Rattle.local.proofs.Recorded.{carried-leaves}
 use borrow.Author.Needs.{needs}
 use Rattle.session.proofs.first.solver.Statement.{statement}
 use Rattle.session.proofs.first.solver.Tie as tie
@@ -35,14 +34,8 @@ part-solver-first-end c = search needs
 solver-first-requires : tie.Need-solver-first-requires
 solver-first-requires c κs = search needs
 
-is-accepted-requires : tie.Need-is-accepted-requires
-is-accepted-requires c κs = search needs
-
 of-solver-requires : tie.Need-of-solver-requires
 of-solver-requires c κs = search needs
-
-with-record-requires : tie.Need-with-record-requires
-with-record-requires c κs = search needs
 
 same-length : tie.Need-same-length
 same-length c = search needs
@@ -52,18 +45,18 @@ same-length-2 c = search needs
 
 returns : tie.Need-returns
 returns c =
-    let at9 = c .before .before .before .before .before .before .before .before .before in
+    let at9 = c .before .before .before .before .before .before .before in
     let at14 = at9 .before .before .before .before .before in
     let at18 = at14 .before .before .before .before in
     let a = at18 .args in
     let s = slotAt (a .pool .now) (a .at .size) (a .at .index) in
     let n = a .t .m * a .t .m in
     let l = a .input .now in
-    let told = solver-first-told (a .t) s (take n l) (drop n l) (length (a .out .now)) in
     let cut = at14 .square-of .ensures in
     let e = rw (tail-part (at14 .square-of .result) l, cut .1, cut .2) at (at9 .solver-first .ensures) in
-    rw (c .with-record .ensures, c .before .before .is-accepted .ensures, c .before .of-solver .ensures)
-    (recorded-leaves ofSolver (a .x) noSolver s [] (a .out .now) [] told (at9 .solver-first .result .answer) e)
+    rw (c .of-solver .ensures)
+    (carried-leaves ofSolver noSolver s [] (a .out .now) []
+    (solverFirst (a .t) s (take n l) (drop n l) (length (a .out .now))) (at9 .solver-first .result .answer) e)
 
 pub solver-spec : {M : Type 1} → statement M
 solver-spec =
@@ -76,9 +69,7 @@ solver-spec =
     part-solver-first-start
     part-solver-first-end
     solver-first-requires
-    is-accepted-requires
     of-solver-requires
-    with-record-requires
     same-length
     same-length-2
     returns)

@@ -5,8 +5,8 @@ use borrow.Author.Tests.{eq-eqb, ne-eqb}
 use Rattle.protocol.specs.Tape.{slotAt}
 use Rattle.protocol.specs.Message.{messageWith}
 use Rattle.entry.specs.Record.{blinderOf, ofBlinder}
-use Rattle.session.proofs.Recorded.{recorded-leaves, any-sent, any-result}
-use Rattle.session.proofs.Ends.{blinder-second-told, blinder-second-no-result, blinder-last-told, blinder-last-no-sent}
+use Rattle.local.proofs.Recorded.{recorded-leaves, any-sent, any-result}
+use Rattle.local.proofs.Ends.{blinder-second-told, blinder-second-no-result, blinder-last-told, blinder-last-no-sent}
 use borrow.Author.Needs.{needs}
 use Rattle.session.proofs.next.blinder.Statement.{statement}
 use Rattle.session.proofs.next.blinder.Tie as tie

@@ -4,8 +4,8 @@ use lib.ListN.{length}
 use Rattle.protocol.specs.Tape.{slotAt}
 use Rattle.protocol.specs.Message.{messageWith}
 use Rattle.entry.specs.Record.{rightOf, solverOf, ofRight, ofSolver}
-use Rattle.session.proofs.Recorded.{any-scratch, any-sent, any-result}
-use Rattle.session.proofs.Ends.{solver-next-no-scratch, solver-next-no-result, right-last-no-scratch, right-last-no-sent}
+use Rattle.local.proofs.Recorded.{any-scratch, any-sent, any-result}
+use Rattle.local.proofs.Ends.{solver-next-no-scratch, solver-next-no-result, right-last-no-scratch, right-last-no-sent}
 use Rattle.session.proofs.Chosen.{next-solver, next-blinder, next-right}
 use borrow.Author.Needs.{needs}
 use Rattle.session.proofs.next.next_step.Statement.{statement}

@@ -4,8 +4,8 @@ use lib.ListN.{length}
 use Rattle.protocol.specs.Tape.{slotAt}
 use Rattle.protocol.specs.Message.{messageWith}
 use Rattle.entry.specs.Record.{rightOf, ofRight}
-use Rattle.session.proofs.Recorded.{recorded-leaves}
-use Rattle.session.proofs.Ends.{right-last-told}
+use Rattle.local.proofs.Recorded.{recorded-leaves}
+use Rattle.local.proofs.Ends.{right-last-told}
 use borrow.Author.Needs.{needs}
 use Rattle.session.proofs.next.right.Statement.{statement}
 use Rattle.session.proofs.next.right.Tie as tie

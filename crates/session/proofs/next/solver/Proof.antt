@@ -5,8 +5,8 @@ use borrow.Author.Tests.{eq-eqb, ne-eqb}
 use Rattle.protocol.specs.Tape.{slotAt}
 use Rattle.protocol.specs.Message.{messageWith}
 use Rattle.entry.specs.Record.{solverOf, ofSolver}
-use Rattle.session.proofs.Recorded.{recorded-leaves}
-use Rattle.session.proofs.Ends.{solver-second-told, solver-last-told}
+use Rattle.local.proofs.Recorded.{recorded-leaves}
+use Rattle.local.proofs.Ends.{solver-second-told, solver-last-told}
 use borrow.Author.Needs.{needs}
 use Rattle.session.proofs.next.solver.Statement.{statement}
 use Rattle.session.proofs.next.solver.Tie as tie

@@ -7,6 +7,9 @@ use Rattle.protocol.specs.Message.{messageWith}
 use Rattle.judging.specs.Lowest.{lower}
 use Rattle.judging.proofs.Join.{judged-false}
 use Rattle.entry.specs.Steps.{firstStep}
+use Rattle.local.specs.Settled.{unopened}
+use Rattle.local.proofs.Recorded.{over-record}
+use Rattle.local.proofs.Told.{first-told}
 use Rattle.session.proofs.Opened.{over-free, over-open, open-leaves}
 use borrow.Author.Needs.{needs}
 use Rattle.session.proofs.open.first_over.Statement.{statement}
@@ -14,6 +17,12 @@ use Rattle.session.proofs.open.first_over.Tie as tie
 
 first-step-requires : tie.Need-first-step-requires
 first-step-requires c κs = search needs
+
+is-accepted-requires : tie.Need-is-accepted-requires
+is-accepted-requires c κs = search needs
+
+with-record-requires : tie.Need-with-record-requires
+with-record-requires c κs = search needs
 
 same-length : tie.Need-same-length
 same-length c = search needs
@@ -29,16 +38,23 @@ same-length-4 c = search needs
 
 returns : tie.Need-returns
 returns c =
-    let at8 = c .before .before .before .before .before .before .before .before in
-    let at13 = at8 .before .before .before .before .before in
-    let at22 = at13 .before .before .before .before .before .before .before .before .before in
-    let a = at22 .args in
+    let at12 = c .before .before .before .before .before .before .before .before .before .before .before .before in
+    let at17 = at12 .before .before .before .before .before in
+    let at26 = at17 .before .before .before .before .before .before .before .before .before in
+    let a = at26 .args in
     let s = slotAt (a .pool .now) (a .at .size) (a .at .index) in
     let m = messageWith (a .a) (a .residues .now) in
     let l = a .input .now in
     let room = length (a .out .now) in
     let share = length (a .result .now) in
-    rw (over-free (a .x) (a .end) (a .t) s (a .scratch .now) l (a .words .now) m room share (at13 .if1 .taken)) (at8 .first-step .ensures)
+    let told = first-told (a .end) (a .t) s (a .scratch .now) l (a .words .now) m room share in
+    rw (
+      over-free (a .x) (a .end) (a .t) s (a .scratch .now) l (a .words .now) m room share (at17 .if1 .taken),
+      c .with-record .ensures,
+      c .before .is-accepted .ensures,
+    )
+    (over-record (a .x) (unopened (a .end) (a .t)) s (a .scratch .now) (a .out .now) (a .result .now) told (at12 .first-step .result .answer)
+    (at12 .first-step .ensures))
 
 check-first-requires : tie.Need-check-first-requires
 check-first-requires c κs = search needs
@@ -84,6 +100,8 @@ first-over-spec =
     tie.close
     (tie.spec
     first-step-requires
+    is-accepted-requires
+    with-record-requires
     same-length
     same-length-2
     same-length-3

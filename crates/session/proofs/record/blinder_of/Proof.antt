@@ -1,7 +1,8 @@
 -- `session::record::blinder_of` meets its contract. Assumes nothing.
 use native.Mathlib.Omega.{arith}
 use Rattle.entry.specs.Record.{blinderOf}
-use Rattle.session.proofs.Arrays.{same-count, copied-start, copied-end}
+use Rattle.local.proofs.Lists.{same-count}
+use Rattle.session.proofs.Arrays.{copied-start, copied-end}
 use borrow.Author.Needs.{needs}
 use Rattle.session.proofs.record.blinder_of.Statement.{statement}
 use Rattle.session.proofs.record.blinder_of.Tie as tie

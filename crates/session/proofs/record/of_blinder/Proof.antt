@@ -5,7 +5,8 @@ use lib.ListN.{drop, length-drop}
 use Rattle.vectors.proofs.Written.{after-over}
 use Rattle.vectors.proofs.Rows.{words-count}
 use Rattle.entry.specs.Record.{ofBlinder}
-use Rattle.session.proofs.Arrays.{same-count, joined}
+use Rattle.local.proofs.Lists.{same-count}
+use Rattle.session.proofs.Arrays.{joined}
 use borrow.Author.Needs.{needs}
 use Rattle.session.proofs.record.of_blinder.Statement.{statement}
 use Rattle.session.proofs.record.of_blinder.Tie as tie

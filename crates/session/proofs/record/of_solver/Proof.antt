@@ -1,7 +1,8 @@
 -- `session::record::of_solver` meets its contract. Assumes nothing.
 use native.Mathlib.Omega.{arith}
 use Rattle.entry.specs.Record.{ofSolver}
-use Rattle.session.proofs.Arrays.{same-count, kept-start}
+use Rattle.local.proofs.Lists.{same-count}
+use Rattle.session.proofs.Arrays.{kept-start}
 use borrow.Author.Needs.{needs}
 use Rattle.session.proofs.record.of_solver.Statement.{statement}
 use Rattle.session.proofs.record.of_solver.Tie as tie

@@ -1,7 +1,8 @@
 -- `session::record::solver_of` meets its contract. Assumes nothing.
 use native.Mathlib.Omega.{arith}
 use Rattle.entry.specs.Record.{solverOf}
-use Rattle.session.proofs.Arrays.{same-count, copied-start}
+use Rattle.local.proofs.Lists.{same-count}
+use Rattle.session.proofs.Arrays.{copied-start}
 use borrow.Author.Needs.{needs}
 use Rattle.session.proofs.record.solver_of.Statement.{statement}
 use Rattle.session.proofs.record.solver_of.Tie as tie
