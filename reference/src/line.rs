@@ -1,6 +1,6 @@
 //! Lines of numbers, and messages as lines.
 
-use crate::faults::{Faults, FORM};
+use crate::faults::{Faults, FORM, SIZE};
 use crate::{Message, Terms};
 
 pub const LONGEST: usize = 65_536;
@@ -36,22 +36,54 @@ pub fn parse(bytes: &[u8]) -> Result<Message, u32> {
     Ok(Message { kind: all[0], terms, residues: all[7..].to_vec() })
 }
 
-/// A message and all that can be said of it alone.
-pub fn read(bytes: &[u8]) -> Result<Message, u32> {
-    let message = parse(bytes)?;
-    let mut faults = Faults::new();
-    faults.message(&message);
-    if faults.lowest() == 0 {
-        Ok(message)
-    } else {
-        Err(faults.lowest())
-    }
-}
-
 /// The line of a message.
 pub fn write(a: &Message) -> String {
     let t = &a.terms;
     let mut all = vec![a.kind, t.session, t.tape, t.q, t.m, t.k, t.p];
     all.extend(&a.residues);
     text(&all)
+}
+
+// ---- the entries: a slice of `room` words or bytes is lent
+
+pub fn numbers_into(room: usize, bytes: &[u8]) -> Result<Vec<u32>, u32> {
+    let all = numbers(bytes).ok_or(FORM)?;
+    if all.len() <= room {
+        Ok(all)
+    } else {
+        Err(SIZE)
+    }
+}
+
+/// The form alone, where the slice holds the residues.
+pub fn parse_into(room: usize, bytes: &[u8]) -> Result<Message, u32> {
+    let message = parse(bytes)?;
+    if message.residues.len() <= room {
+        Ok(message)
+    } else {
+        read_into(room, bytes)
+    }
+}
+
+pub fn read_into(room: usize, bytes: &[u8]) -> Result<Message, u32> {
+    let message = parse(bytes)?;
+    judged(&message, message.residues.len(), room)?;
+    Ok(message)
+}
+
+pub fn write_into(room: usize, message: &Message) -> Result<String, u32> {
+    let line = write(message);
+    judged(message, line.len(), room)?;
+    Ok(line)
+}
+
+/// All that a message shows by itself, and the room for `count` words or bytes.
+fn judged(message: &Message, count: usize, room: usize) -> Result<(), u32> {
+    let mut faults = Faults::new();
+    faults.message(message);
+    faults.room(count, room);
+    match faults.lowest() {
+        0 => Ok(()),
+        number => Err(number),
+    }
 }
