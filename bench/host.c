@@ -2,26 +2,14 @@
 // every entry at its largest.
 // archive: host
 #include <string.h>
+#include "../include/yuthsaok.h"
 #include "timing.h"
 #include "stack.h"
 
-typedef struct {
-    uint32_t number;
-    size_t read, bytes;
-} report;
+typedef yuthsaok_report report;
 
-report yuthsaok_deal(uint32_t sort, uint8_t *first, size_t n0, uint8_t *second, size_t n1, size_t size, size_t index, uint32_t tape, uint32_t q,
-                     uint32_t m, uint32_t k, uint32_t p, const uint8_t *words, size_t n2);
-report yuthsaok_first(uint8_t *session, size_t n0, uint32_t end, uint8_t *pool, size_t n1, size_t size, size_t index, uint32_t number, uint32_t tape,
-                      uint32_t q, uint32_t m, uint32_t k, uint32_t p, const uint8_t *input, size_t n2, const uint8_t *words, size_t n3,
-                      uint8_t *scratch, size_t n4, const uint8_t *message, size_t n5, uint8_t *line, size_t n6, uint8_t *result, size_t n7);
-report yuthsaok_next(uint8_t *session, size_t n0, uint8_t *pool, size_t n1, size_t size, size_t index, uint8_t *scratch, size_t n2,
-                     const uint8_t *message, size_t n3, uint8_t *line, size_t n4, uint8_t *result, size_t n5);
-report yuthsaok_drop(uint8_t *session, size_t n0, uint8_t *pool, size_t n1, size_t size, size_t index, uint8_t *scratch, size_t n2);
-size_t yuthsaok_tape_words(uint32_t end, uint32_t m, uint32_t k, uint32_t p);
-
-enum { LEFT = 1, RIGHT, BLINDER, SOLVER };
-enum { RECORD = 1120, SLOTS = 10000, LINE = 65536 };
+enum { LEFT = YUTHSAOK_LEFT, RIGHT = YUTHSAOK_RIGHT, BLINDER = YUTHSAOK_BLINDER, SOLVER = YUTHSAOK_SOLVER };
+enum { RECORD = YUTHSAOK_RECORD_BYTES, SLOTS = 10000, LINE = YUTHSAOK_MOST_LINE };
 
 static uint8_t *pools[2], mine[RECORD], theirs[RECORD], scratch[4 * 528], lines[2][LINE], results[2][4096];
 static uint8_t raw[4 * 12000], inputs[2][4 * 2048];

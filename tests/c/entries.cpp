@@ -1,0 +1,107 @@
+// Every entry of yuthsaok.h called from C++: README's product, a system of one unknown, and the small entries.
+#include "yuthsaok.h"
+#include <cstdio>
+#include <cstdlib>
+#include <string>
+#include <vector>
+
+namespace {
+
+using Bytes = std::vector<std::uint8_t>;
+
+Bytes bytes(const std::vector<std::uint32_t> &words) {
+    Bytes made;
+    for (auto word : words)
+        for (int i = 0; i < 4; i++) made.push_back(static_cast<std::uint8_t>(word >> 8 * i));
+    return made;
+}
+
+void holds(bool fact, const char *what) {
+    if (fact) return;
+    std::printf("entries.cpp: not so: %s\n", what);
+    std::exit(1);
+}
+
+// One end: its record, its pool of one slot, and what its last call wrote.
+struct End {
+    Bytes record = Bytes(YUTHSAOK_RECORD_BYTES), pool, scratch, result;
+    std::string line;
+    std::size_t slot = 0;
+
+    void lay(std::size_t words) { slot = words, pool.assign(4 * words, 0), result.assign(16, 0); }
+
+    void take(yuthsaok_report r, std::vector<std::uint8_t> &room) {
+        holds(r.number == 0, "a step is taken");
+        line.assign(room.begin(), room.begin() + static_cast<std::ptrdiff_t>(r.bytes));
+    }
+
+    void first(std::uint32_t end, std::uint32_t q, std::uint32_t m, std::uint32_t k, std::uint32_t p, const Bytes &input, const Bytes &raw,
+               const std::string &message) {
+        Bytes room(YUTHSAOK_LINE_BYTES(8));
+        take(yuthsaok_first(record.data(), record.size(), end, pool.data(), pool.size(), slot, 0, 9, 4, q, m, k, p, input.data(), input.size(),
+                            raw.data(), raw.size(), scratch.data(), scratch.size(), reinterpret_cast<const std::uint8_t *>(message.data()),
+                            message.size(), room.data(), room.size(), result.data(), result.size()),
+             room);
+    }
+
+    void next(const std::string &message) {
+        Bytes room(YUTHSAOK_LINE_BYTES(8));
+        take(yuthsaok_next(record.data(), record.size(), pool.data(), pool.size(), slot, 0, scratch.data(), scratch.size(),
+                           reinterpret_cast<const std::uint8_t *>(message.data()), message.size(), room.data(), room.size(), result.data(),
+                           result.size()),
+             room);
+    }
+
+    yuthsaok_report drop() {
+        return yuthsaok_drop(record.data(), record.size(), pool.data(), pool.size(), slot, 0, scratch.data(), scratch.size());
+    }
+};
+
+void product() {
+    End left, right;
+    left.lay(YUTHSAOK_PRODUCT_SLOT_WORDS(1, 2, 1)), right.lay(left.slot);
+    Bytes raw = bytes({1, 4, 6, 3, 2});
+    auto dealt = yuthsaok_deal(YUTHSAOK_PRODUCT, left.pool.data(), left.pool.size(), right.pool.data(), right.pool.size(), left.slot, 0, 4, 7, 1, 2,
+                               1, raw.data(), raw.size());
+    holds(dealt.number == 0 && dealt.read == 5, "README's tape is dealt");
+    right.first(YUTHSAOK_RIGHT, 7, 1, 2, 1, bytes({2, 6}), {}, "");
+    holds(right.line == "1,9,4,7,1,2,1,3,3\n", "right's line");
+    left.first(YUTHSAOK_LEFT, 7, 1, 2, 1, bytes({3, 5}), bytes({5}), right.line);
+    holds(left.line == "2,9,4,7,1,2,1,4,2,3\n" && left.result[0] == 5, "left's line and share");
+    right.next(left.line);
+    holds(right.line.empty() && right.result[0] == 3, "right's share");
+    holds(right.drop().number == YUTHSAOK_TURN, "a closed session is not dropped");
+}
+
+void system_of_one() {
+    End blinder, solver;
+    blinder.lay(YUTHSAOK_SYSTEM_SLOT_WORDS(1)), solver.lay(blinder.slot);
+    blinder.scratch.assign(4 * YUTHSAOK_SCRATCH_WORDS(1), 0);
+    Bytes raw = bytes({1, 4, 2, 0, 3, 3, 2, 1});
+    auto dealt = yuthsaok_deal(YUTHSAOK_SYSTEM, blinder.pool.data(), blinder.pool.size(), solver.pool.data(), solver.pool.size(), blinder.slot, 0,
+                               4, 5, 1, 1, 2, raw.data(), raw.size());
+    holds(dealt.number == 0 && dealt.read == 8, "a system's tape is dealt");
+    solver.first(YUTHSAOK_SOLVER, 5, 1, 1, 2, bytes({2, 3}), {}, "");
+    blinder.first(YUTHSAOK_BLINDER, 5, 1, 1, 2, bytes({1, 1}), bytes({2, 1, 2}), solver.line);
+    solver.next(blinder.line), blinder.next(solver.line), solver.next(blinder.line), blinder.next(solver.line);
+    holds(blinder.result[0] == 3, "z");
+}
+
+void small() {
+    std::uint8_t word[YUTHSAOK_REFUSAL_WORD_BYTES];
+    Bytes one = bytes({1});
+    holds(yuthsaok_version() == YUTHSAOK_VERSION && yuthsaok_record_words() == YUTHSAOK_RECORD_WORDS, "version and record");
+    holds(yuthsaok_tape_words(YUTHSAOK_LEFT, 1, 2, 1) == YUTHSAOK_LEFT_WORDS(1, 2, 1), "a half");
+    holds(yuthsaok_scratch_words(YUTHSAOK_BLINDER, 1, 1, 2) == 3 && yuthsaok_coin_count(YUTHSAOK_LEFT, 1, 2, 1) == 1, "scratch and coins");
+    holds(yuthsaok_deal_count(YUTHSAOK_PRODUCT, 1, 2, 1) == 5 && yuthsaok_line_bytes(YUTHSAOK_KIND_Y1, 7, 1, 2, 1) == 36, "draws and line");
+    holds(yuthsaok_is_prime(7) == 1 && yuthsaok_has_inverse(7, 1, one.data(), one.size()) == 0, "prime and inverse");
+    holds(yuthsaok_to_residue(15, -2).residue == 13 && yuthsaok_to_score(15, 13).score == -2, "scores");
+    holds(std::string(word, word + yuthsaok_refusal_word(YUTHSAOK_DRY, word, sizeof word)) == "dry", "a refusal's word");
+}
+
+} // namespace
+
+int main() {
+    product(), system_of_one(), small();
+    std::printf("C++: sessions and small entries as they should be\n");
+}
