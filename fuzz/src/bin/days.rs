@@ -153,6 +153,18 @@ impl Party {
     }
 }
 
+impl Call {
+    fn name(self) -> String {
+        let end = |number: u32| ["left", "right", "blinder", "solver"][number as usize - 1];
+        match self {
+            Call::Deal => "deal".to_string(),
+            Begin(number) => format!("first {}", end(number)),
+            Go(number) => format!("next {}", end(number)),
+            Drop(number) => format!("drop {}", end(number)),
+        }
+    }
+}
+
 impl Run {
     /// The ends of the first and the second party.
     fn ends(&self) -> [u32; 2] {
@@ -288,7 +300,7 @@ fn whole(run: &Run, folder: &Path) -> Result<(), String> {
     for number in 0..run.calls.len() {
         let status = Command::new(&program).args(["call", run.name, &number.to_string()]).arg(folder).status().expect("a process");
         if !status.success() || !run.is_right(number, &run.perform(run.calls[number], &mut alone)) {
-            return Err(format!("call {number} was not answered as it should be"));
+            return Err(format!("{} was not answered as it should be", run.calls[number].name()));
         }
     }
     let parties = [0, 1].map(|party| Party::read(folder, party));

@@ -3,34 +3,41 @@
 //! Worlds of a few hundred calls: sessions of both sorts with damaged calls between the right ones, calls with any numbers on what is left,
 //! messages of any bytes, and small entries. After each call its answer and every byte of every array must be the same on both sides. The
 //! first difference ends the run; the script up to it is then in `failed.script`, which `replay` performs, here and in the reference.
+//!
+//! What each call was answered by is printed as a table. A run of `WHOLE` calls or more fails where an answer that a call can get was not
+//! among them, and any run where one that it cannot get was.
 
 use std::cell::RefCell;
-use std::panic::{catch_unwind, AssertUnwindSafe};
+use std::panic::{catch_unwind, resume_unwind, AssertUnwindSafe};
 use std::process::ExitCode;
 use std::rc::Rc;
 
 use fuzz::engine::Engine;
 use reference::answers::Reference;
-use reference::machine::{Machine, DEAL};
+use reference::machine::{Machine, ARRAYS, DEAL};
 use reference::script::driver::Habit;
 use reference::script::random::Random;
 use reference::script::reach;
-use reference::script::writer::{Tally, Writer};
+use reference::script::tally::Tally;
+use reference::script::writer::Writer;
 
-const HABIT: Habit = Habit { damaged: 2, taken: 4, dropped: 10 };
+const HABIT: Habit = Habit { damaged: 2, taken: 4, dropped: 10, singular: 16, stray: 16 };
+
+/// So many calls have to come to every answer.
+const WHOLE: usize = 100_000;
 
 /// What differs after a line, if anything does.
 fn difference(ours: &Machine<Reference>, theirs: &Machine<Engine>) -> Option<String> {
     if ours.reply != theirs.reply {
-        return Some(format!("{:?} by the reference, {:?} by the engine", ours.reply, theirs.reply));
+        return Some(format!("{} by the reference; {} by the engine", ours.reply, theirs.reply));
     }
     for (number, (a, b)) in ours.arrays.iter().zip(&theirs.arrays).enumerate() {
         if a != b {
             let at = (0..a.len()).find(|at| a[*at] != b[*at]).unwrap_or(0);
-            return Some(format!("array {number}, byte {at}: {} by the reference, {} by the engine", a[at], b[at]));
+            return Some(format!("byte {at} of the {}: {} by the reference, {} by the engine", ARRAYS[number], a[at], b[at]));
         }
     }
-    (ours.mail != theirs.mail).then(|| "mail".to_string())
+    (ours.mail != theirs.mail).then(|| "another line was sent".to_string())
 }
 
 fn world(random: &mut Random, writer: &mut Writer) {
@@ -60,7 +67,8 @@ fn compared(random: &mut Random) -> (Writer, Option<String>) {
         if line[0] >= DEAL {
             if let Some(difference) = difference(ours, &theirs) {
                 *told.borrow_mut() = Some(difference);
-                panic!("a difference");
+                // no panic, which would print where it was
+                resume_unwind(Box::new(()));
             }
         }
     }));
@@ -73,28 +81,27 @@ fn main() -> ExitCode {
     let mut arguments = std::env::args().skip(1).map(|word| word.parse::<u64>().expect("a number"));
     let wanted = arguments.next().unwrap_or(100_000) as usize;
     let seed = arguments.next().unwrap_or(1);
-    let mut tally = Tally::new();
-    let mut made = 0;
+    let mut tally = Tally::default();
     let mut number = 0;
-    while made < wanted {
+    while tally.calls() < wanted {
         let mut random = Random(seed.wrapping_mul(1 << 32).wrapping_add(number));
         let (writer, difference) = compared(&mut random);
         if let Some(why) = difference {
-            println!("world {number} of seed {seed}: {why}");
-            println!("registers {:?}", writer.machine.registers);
+            println!("world {number} of seed {seed}, {}: {why}", writer.name);
             std::fs::write("failed.script", &writer.script).expect("failed.script is written");
             return ExitCode::FAILURE;
         }
         number += 1;
-        for (key, count) in &writer.tally {
-            *tally.entry(key.clone()).or_default() += count;
-            made += count;
-        }
+        tally.add(&writer.tally);
     }
+    let made = tally.calls();
     println!("{made} calls in {number} worlds of seed {seed}: no difference");
     print!("{}", reach::shown(&tally));
-    for (name, number) in reach::missing(&tally) {
-        println!("{name} was never answered by {number}");
+    let faults = if made < WHOLE { reach::strange(&tally) } else { reach::faults(&tally) };
+    faults.iter().for_each(|fault| println!("in {made} calls {fault}"));
+    if faults.is_empty() {
+        ExitCode::SUCCESS
+    } else {
+        ExitCode::FAILURE
     }
-    ExitCode::SUCCESS
 }
