@@ -1,6 +1,9 @@
 //! The entries on bytes (RULES 11): what they are handed and lent, and what they answer. `answers` has them by the rules; the engine has
 //! them, too.
 
+use std::fmt;
+
+use crate::faults::word;
 use crate::Terms;
 
 /// The bytes of a record.
@@ -13,6 +16,18 @@ pub struct Reply {
     pub number: u32,
     pub read: usize,
     pub bytes: usize,
+}
+
+/// For a reader: the refusal by its word.
+impl fmt::Display for Reply {
+    fn fmt(&self, f: &mut fmt::Formatter) -> fmt::Result {
+        match self.number {
+            0 => write!(f, "accepted, value {}, {} bytes written", self.read, self.bytes),
+            number if word(number).is_empty() => write!(f, "answered by {number}, which is no refusal"),
+            number if (self.read, self.bytes) == (0, 0) => write!(f, "refused as {}", word(number)),
+            number => write!(f, "refused as {}, and yet value {}, {} bytes written", word(number), self.read, self.bytes),
+        }
+    }
 }
 
 #[repr(C)]

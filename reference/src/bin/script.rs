@@ -1,5 +1,5 @@
-//! Prints the stored script. How often its calls were answered by each number goes to standard error, and it exits with 1 where a call
-//! never came to a number that it can give.
+//! Prints the stored script. How often each call got each answer goes to standard error, and it exits with 1 where a call never got an
+//! answer that it can get, or got one that it cannot.
 
 use std::process::ExitCode;
 
@@ -10,11 +10,12 @@ fn main() -> ExitCode {
     print!("{}", writer.script);
     eprint!("{}", reach::shown(&writer.tally));
     // one line is no call
-    writer.tally.remove(&("none".to_string(), 98));
-    let (missing, strange) = (reach::missing(&writer.tally), reach::strange(&writer.tally));
-    if missing.is_empty() && strange.is_empty() {
-        return ExitCode::SUCCESS;
+    writer.tally.answers.remove(&("none".to_string(), ""));
+    let faults = reach::faults(&writer.tally);
+    faults.iter().for_each(|fault| eprintln!("the script: {fault}"));
+    if faults.is_empty() {
+        ExitCode::SUCCESS
+    } else {
+        ExitCode::FAILURE
     }
-    eprintln!("never answered: {missing:?}, answered and not known: {strange:?}");
-    ExitCode::FAILURE
 }

@@ -256,7 +256,7 @@ fn bounds(writer: &mut Writer, random: &mut Random) {
 /// The runs of RULES 9.3 that are executed, and a thousand sessions.
 fn sessions(writer: &mut Writer) {
     let random = &mut Random(10);
-    let habit = Habit { damaged: 4, taken: 12, dropped: 12 };
+    let habit = Habit { damaged: 4, taken: 12, dropped: 12, singular: 0, stray: 0 };
     bounds(writer, random);
     for block in 0..100 {
         writer.sessions(random, habit, 10, block % 8 == 0, 0);

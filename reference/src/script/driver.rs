@@ -16,6 +16,10 @@ pub struct Habit {
     pub taken: u64,
     /// One call in so many is a drop instead.
     pub dropped: u64,
+    /// One call in so many that judges an inverse is preceded by one with a singular matrix, and one sum in so many is singular; 0: none.
+    pub singular: u64,
+    /// One call in so many that takes a message is preceded by one with a message of another kind; 0: none.
+    pub stray: u64,
 }
 
 /// A session under way.
@@ -59,7 +63,11 @@ impl Writer {
 
     /// The call that is due, as it should be. A plan that is not generous has just the room for its line.
     pub fn right(&mut self, plan: &Plan, step: Step) -> u32 {
-        let mut registers = plan.registers(step);
+        self.made(plan, step, plan.registers(step))
+    }
+
+    /// The same with other registers.
+    pub fn made(&mut self, plan: &Plan, step: Step, mut registers: Registers) -> u32 {
         if !plan.generous && step.sends() {
             registers[19] = self.line_length(step.call(), &registers);
         }
@@ -129,7 +137,18 @@ impl Writer {
             self.drop_all(random, habit, &live.plan);
             return false;
         }
+        // of a habit without them no random number is drawn for them
+        let rarely = |random: &mut Random, n: u64| n != 0 && random.once_in(n);
+        if step.takes() != 0 && rarely(random, habit.stray) {
+            self.stray(random, &live.plan, step);
+        }
+        if live.plan.is_system && rarely(random, habit.singular) {
+            self.singular(random, &live.plan, step);
+        }
         live.stage += 1;
+        if step == Step::BlinderFirst && rarely(random, habit.singular) {
+            return self.singular_sum(random, &live.plan) == 0;
+        }
         self.right(&live.plan, step) == 0
     }
 

@@ -1,8 +1,8 @@
 //! Scripts for the machine: written and performed line by line, so that what comes next can depend on what has been answered.
 //!
 //! `writer` writes lines, `plan` knows the calls of a session that keeps to the rules, `damage` how a call can go wrong, `driver` makes
-//! sessions of both, `noise` makes calls with any numbers, `reach` knows which numbers each call can be answered by; `cases`, `dealings`,
-//! `lines`, `records` and `small` have the parts of the stored script.
+//! sessions of both, `rare` makes calls that damage makes too seldom, `noise` calls with any numbers; `tally` counts answers, and `reach`
+//! knows which each call can get; `cases`, `dealings`, `lines`, `records` and `small` have the parts of the stored script.
 
 pub mod cases;
 pub mod damage;
@@ -12,7 +12,9 @@ pub mod lines;
 pub mod noise;
 pub mod plan;
 pub mod random;
+pub mod rare;
 pub mod reach;
 pub mod records;
 pub mod small;
+pub mod tally;
 pub mod writer;

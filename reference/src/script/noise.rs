@@ -125,6 +125,13 @@ impl Writer {
         if random.once_in(4) {
             r[*random.one_of(&[7, 8, 9, 10, 21, 25, 28])] = number(random);
         }
+        // of these few calls have another modulus, or words of another
+        if matches!(call, HAS_INVERSE | TO_RESIDUE | TO_SCORE) && random.once_in(16) {
+            r[7] = *random.one_of(&[0, 1, 1 << 31, u32::MAX]);
+        }
+        if call == HAS_INVERSE && random.once_in(16) {
+            r[21] = 0;
+        }
         self.call(call, &r);
     }
 }

@@ -143,7 +143,7 @@ fn words_for(random: &mut Random, q: u32, n: usize, fits: impl Fn(&[u32]) -> boo
     })
 }
 
-fn is_regular(q: u32, n: usize, words: &[u32]) -> bool {
+pub fn is_regular(q: u32, n: usize, words: &[u32]) -> bool {
     Matrix::new(q, n, n, words).is_regular()
 }
 

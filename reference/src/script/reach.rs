@@ -1,59 +1,109 @@
-//! Which numbers each call can be answered by, as the machine counts them: what a script or random calls should come to.
+//! What each call can be answered by (RULES 8.3, 11.4, 11.5): what a script or random calls should come to.
 
-use super::writer::Tally;
+use super::tally::Tally;
+use crate::faults::word;
 
-const NUMBERS: &[(&str, &[u32])] = &[
-    ("deal product", &[0, 2, 4, 6, 9]),
-    ("deal system", &[0, 2, 3, 4, 6, 9, 10]),
-    ("deal of none", &[4]),
-    ("first left", &[0, 1, 2, 3, 4, 5, 6, 7, 8, 9]),
-    ("first right", &[0, 2, 4, 5, 6, 7, 8]),
-    ("first blinder", &[0, 1, 2, 3, 4, 5, 6, 7, 8, 9, 10]),
-    ("first solver", &[0, 2, 3, 4, 5, 6, 7, 8, 10]),
-    ("first of none", &[4]),
-    ("next right last", &[0, 1, 2, 3, 4, 5, 6, 7, 8]),
-    ("next solver second", &[0, 1, 2, 3, 4, 5, 6, 7, 8]),
-    ("next solver last", &[0, 1, 2, 3, 4, 5, 6, 7, 8, 10]),
-    ("next blinder second", &[0, 1, 2, 3, 4, 5, 6, 7, 8]),
-    ("next blinder last", &[0, 1, 2, 3, 4, 5, 6, 7, 8]),
-    ("next closed", &[1, 2, 3, 4, 5]),
-    ("next of none", &[1, 2, 3, 4, 5]),
-    ("drop right", &[0, 2, 4, 6, 7]),
-    ("drop solver", &[0, 2, 3, 4, 6, 7]),
-    ("drop blinder", &[0, 2, 3, 4, 6, 7]),
-    ("drop closed", &[4, 5]),
-    ("drop of none", &[4, 5]),
-    ("version", &[1]),
-    ("record_words", &[1]),
-    ("tape_words", &[0, 1]),
-    ("scratch_words", &[0, 1]),
-    ("line_bytes", &[0, 1]),
-    ("coin_count", &[0, 1]),
-    ("deal_count", &[0, 1]),
-    ("is_prime", &[0, 1]),
-    ("has_inverse", &[0, 2, 3, 4, 8, 10]),
-    ("to_residue", &[0, 2, 8]),
-    ("to_score", &[0, 2, 8]),
-    ("refusal_word", &[0, 1]),
+/// The calls as the machine names them, and the words of their answers.
+const ANSWERS: &[(&str, &str)] = &[
+    ("deal product", "accepted modulus size mark dry"),
+    ("deal system", "accepted modulus composite size mark dry singular"),
+    ("deal of no sort", "size"),
+    ("first left", "accepted form modulus composite size turn mark stranger residue dry"),
+    ("first right", "accepted modulus size turn mark stranger residue"),
+    ("first blinder", "accepted form modulus composite size turn mark stranger residue dry singular"),
+    ("first solver", "accepted modulus composite size turn mark stranger residue singular"),
+    ("first of no end", "size"),
+    ("next right last", "accepted form modulus composite size turn mark stranger residue"),
+    ("next solver second", "accepted form modulus composite size turn mark stranger residue"),
+    ("next solver last", "accepted form modulus composite size turn mark stranger residue singular"),
+    ("next blinder second", "accepted form modulus composite size turn mark stranger residue"),
+    ("next blinder last", "accepted form modulus composite size turn mark stranger residue"),
+    ("next (closed)", "form modulus composite size turn"),
+    ("next (no session)", "form modulus composite size turn"),
+    ("drop right", "accepted modulus size mark stranger"),
+    ("drop solver", "accepted modulus composite size mark stranger"),
+    ("drop blinder", "accepted modulus composite size mark stranger"),
+    ("drop (closed)", "size turn"),
+    ("drop (no session)", "size turn"),
+    ("version", "accepted"),
+    ("record_words", "accepted"),
+    ("tape_words", "accepted zero"),
+    ("scratch_words", "accepted zero"),
+    ("line_bytes", "accepted zero"),
+    ("coin_count", "accepted zero"),
+    ("deal_count", "accepted zero"),
+    ("is_prime", "accepted zero"),
+    ("has_inverse", "accepted modulus composite size residue singular"),
+    ("to_residue", "accepted modulus residue"),
+    ("to_score", "accepted modulus residue"),
+    ("refusal_word", "accepted zero"),
 ];
 
-/// Calls and numbers that have not been seen.
-pub fn missing(tally: &Tally) -> Vec<(&'static str, u32)> {
-    let all = NUMBERS.iter().flat_map(|(name, numbers)| numbers.iter().map(move |number| (*name, *number)));
-    all.filter(|(name, number)| !tally.contains_key(&(name.to_string(), *number))).collect()
+/// The calls that are refused for a matrix without an inverse, and that matrix.
+const MATRICES: &[(&str, &str)] = &[
+    ("deal system", "Q"),
+    ("first solver", "L"),
+    ("first blinder", "M"),
+    ("first blinder", "P"),
+    ("next solver last", "W + V"),
+    ("has_inverse", "the matrix"),
+];
+
+/// What is answered 0 in place of a size, or of a yes, and is no refusal, stands last.
+fn columns() -> Vec<&'static str> {
+    std::iter::once("accepted").chain((1..=10).map(word)).chain(["zero"]).collect()
 }
 
-/// Calls and numbers that have been seen, and cannot be.
-pub fn strange(tally: &Tally) -> Vec<(&str, u32)> {
-    let known = |name: &str, number: &u32| NUMBERS.iter().any(|(n, numbers)| *n == name && numbers.contains(number));
-    tally.keys().filter(|(name, number)| !known(name, number)).map(|(name, number)| (name.as_str(), *number)).collect()
+fn can(answers: &str, word: &str) -> bool {
+    answers.split(' ').any(|answer| answer == word)
 }
 
-/// A line for each call: how often it was answered by each number.
+fn sentence(call: &str, word: &str, end: &str) -> String {
+    match word {
+        "accepted" => format!("{call} was never accepted"),
+        "zero" => format!("{call} never answered zero"),
+        _ => format!("{call} was never refused as {word}{end}"),
+    }
+}
+
+/// A sentence for each answer that can be given and was not, and for each that was given and cannot be.
+pub fn faults(tally: &Tally) -> Vec<String> {
+    let mut all = Vec::new();
+    for (call, answers) in ANSWERS {
+        let missing = answers.split(' ').filter(|word| !tally.answers.keys().any(|(name, seen)| name == call && seen == word));
+        all.extend(missing.map(|word| sentence(call, word, "")));
+    }
+    let unseen = MATRICES.iter().filter(|(_, matrix)| !tally.matrices.contains_key(matrix));
+    all.extend(unseen.map(|(call, matrix)| sentence(call, "singular", &format!(" for {matrix}"))));
+    all.extend(strange(tally));
+    all
+}
+
+/// A sentence for each answer that cannot be.
+pub fn strange(tally: &Tally) -> Vec<String> {
+    let known = |name: &str, word: &str| ANSWERS.iter().any(|(call, answers)| *call == name && can(answers, word));
+    let all = tally.answers.keys().filter(|(name, word)| !known(name, word));
+    all.map(|(name, word)| format!("{name} was answered by {word}, which the rules don't know of it")).collect()
+}
+
+/// A row for each call: how often it got each answer, and - where it cannot. Below, the matrices that had no inverse.
 pub fn shown(tally: &Tally) -> String {
-    let line = |(name, _): &(&str, _)| {
-        let answers = tally.iter().filter(|((n, _), _)| n == name).map(|((_, number), count)| format!("{number}: {count}"));
-        format!("{name}, times answered by each number: {}\n", answers.collect::<Vec<_>>().join(", "))
+    let columns = columns();
+    let cells = |(call, answers): &(&str, &str)| -> Vec<String> {
+        let cell = |word: &&'static str| if can(answers, word) { tally.answered(call, word).to_string() } else { "-".to_string() };
+        columns.iter().map(cell).collect()
     };
-    NUMBERS.iter().map(line).collect()
+    let rows: Vec<(&str, Vec<String>)> = ANSWERS.iter().map(|row| (row.0, cells(row))).collect();
+    let widths = |i: usize| rows.iter().map(|(_, cells)| cells[i].len()).max().unwrap_or(0).max(columns[i].len());
+    let widths: Vec<usize> = (0..columns.len()).map(widths).collect();
+    let first = ANSWERS.iter().map(|(call, _)| call.len()).max().unwrap_or(0);
+    let line = |name: &str, cells: &[String]| {
+        let cells: String = cells.iter().zip(&widths).map(|(cell, width)| format!("  {cell:>width$}")).collect();
+        format!("{name:first$}{cells}\n")
+    };
+    let mut text = line("", &columns.iter().map(|word| word.to_string()).collect::<Vec<_>>());
+    rows.iter().for_each(|(name, cells)| text += &line(name, cells));
+    let count = |matrix: &str| tally.matrices.get(matrix).copied().unwrap_or(0);
+    let parts: Vec<String> = ["Q", "L", "M", "P", "M and P", "W + V"].iter().map(|matrix| format!("{matrix} {}", count(matrix))).collect();
+    text + &format!("singular, by matrix: {}\n", parts.join(", "))
 }

@@ -1,18 +1,15 @@
 //! A script and the machine that performs it.
 
-use std::collections::BTreeMap;
-
 use super::damage::{Damage, Edit};
+use super::tally::Tally;
 use crate::answers::Reference;
 use crate::entries::Reply;
+use crate::faults::SINGULAR;
 use crate::line::text;
 use crate::machine::{Machine, Registers, LINE_ROOM, REGISTERS, SPARE};
 
 /// What is told each line, and the machine after it.
 pub type Observer = Box<dyn FnMut(&[u32], &Machine<Reference>)>;
-
-/// How often each call was answered by each number.
-pub type Tally = BTreeMap<(String, u32), usize>;
 
 #[derive(Default)]
 pub struct Writer {
@@ -21,6 +18,8 @@ pub struct Writer {
     pub script: String,
     /// What the machine has printed.
     pub printed: String,
+    /// The last call by its name.
+    pub name: String,
     pub tally: Tally,
 }
 
@@ -79,13 +78,17 @@ impl Writer {
         }
         // the record that is there before the call names it
         let told = std::mem::replace(&mut self.machine.registers, *wanted);
-        let name = self.machine.name(call);
+        self.name = self.machine.name(call);
         self.machine.registers = told;
         match last {
             Some((from, to)) => self.say(&[&[call, from as u32], &wanted[from..to]].concat()),
             None => self.say(&[call]),
         }
-        *self.tally.entry((name, self.machine.counted(call))).or_default() += 1;
+        let answer = self.machine.answer(call);
+        *self.tally.answers.entry((self.name.clone(), answer)).or_default() += 1;
+        if self.machine.reply.number == SINGULAR {
+            *self.tally.matrices.entry(self.machine.singular(call)).or_default() += 1;
+        }
         self.machine.reply.number
     }
 
