@@ -14,7 +14,7 @@
  * LINES. Messages are lines of text: kind, session, tape, q, m, k, p and then residues, in decimal, with commas between and byte 10 at the end.
  * ANSWERS. 0: done. Else the number of the lowest refusal that applies, the other numbers are 0, and no byte that was lent has changed; the one exception is
  *   YUTHSAOK_SINGULAR from the solver's last step, which closes its session and spends its tape.
- * No entry keeps a pointer, allocates, locks, or looks at anything that it was not handed. One takes at most 64 KiB of stack. Calls on
+ * No entry keeps a pointer, allocates, locks, or looks at anything that it was not handed. One takes at most 64 KiB of stack (measured). Calls on
  *   different records, pools, scratches and buffers may run at the same time.
  */
 #ifndef YUTHSAOK_H
