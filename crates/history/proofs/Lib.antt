@@ -21,6 +21,7 @@
 -- Dealable          a dealing that keeps to the rules is accepted
 -- Stood             an end's own half and coins complete the other's view
 -- Rightness         demand 2
+-- Windows           demand 2 for windows of days
 pub mod Words
 pub mod Replay
 pub mod Accepted
@@ -46,3 +47,4 @@ pub mod Progress
 pub mod Dealable
 pub mod Stood
 pub mod Rightness
+pub mod Windows

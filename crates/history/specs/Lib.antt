@@ -5,9 +5,11 @@
 -- Seen      what the end of each session has seen
 -- Claim     demand 3
 -- Right     demand 2, for the same lists
+-- Windows   demand 2 for windows of days
 pub mod Ends
 pub mod Log
 pub mod Contents
 pub mod Seen
 pub mod Claim
 pub mod Right
+pub mod Windows

@@ -3,7 +3,9 @@
 -- Example           a list in which every kind of call is accepted and refused
 -- Interleaved       two products and a system interleaved: every field of demand 2 is met
 -- Counts            how many completions its views have
+-- Mornings          three days, and their windows
 pub mod Computing
 pub mod Example
 pub mod Interleaved
 pub mod Counts
+pub mod Mornings

@@ -1,6 +1,7 @@
 -- What a session computes with. A line `unfolding session-rules` opens every definition that dealing and steps are made of, so that a call on
 -- given numbers computes: a definition opens what its own `unfolding` line names. What steps come to use is added here, and nowhere else.
 --   session-rules   all of it; before it the groups that it is made of
+--   window-rules    windows of days, besides
 -- Assumes nothing.
 use Rattle.algebra.specs.Matrix.{sumTo, tabulate, zeros, addMod, subMod, matAdd, matSub, dotTo, dot, matMul}
 use Rattle.algebra.specs.Count.{both, parts, join}
@@ -21,6 +22,7 @@ use Rattle.protocol.specs.Product.{rightFirstEffect, rightFirstTests, ri
 use Rattle.protocol.specs.System.{padded, sideSize, keptS, keptM, keptY, scratchSize, keptTests, blinderTests, solverTests, coinsOf, scratchParts, regularTests, jointSum}
 use Rattle.protocol.specs.System.{solverFirstEffect, solverFirstTests, solverFirst, blinderFirstEffect, blinderFirstTests, blinderFirst, solverSecondEffect, solverSecondTests, solverSecond}
 use Rattle.protocol.specs.System.{blinderSecondEffect, blinderSecondTests, blinderSecond, solverLastEffect, solverLastTests, solverLast, blinderLastEffect, blinderLastTests, blinderLast}
+use Rattle.protocol.specs.Window.{windowFits, sum, windowTests, shareTests, windowShare, moved, nextWindow, moves, flagsTests, flagsFit, bothMissed}
 
 -- sums, matrices and lists of parts
 unfoldable pub matrix-rules : Unit {0}
@@ -78,3 +80,8 @@ late-steps = tt
 unfoldable pub session-rules : Unit {0}
 unfolding matrix-rules elimination-rules formula-rules verdict-rules tape-rules deal-rules message-rules product-rules system-rules early-steps late-steps
 session-rules = tt
+
+-- windows of days, which no step uses
+unfoldable pub window-rules : Unit {0}
+unfolding session-rules windowFits sum windowTests shareTests windowShare moved nextWindow moves flagsTests flagsFit bothMissed
+window-rules = tt
