@@ -3,6 +3,7 @@
 //   yuthsaok_deal                                 the dealer
 //   yuthsaok_first, yuthsaok_next, yuthsaok_drop  a session: the first step of an end, the step that is due, the drop
 //   yuthsaok_version .. yuthsaok_refusal_word     sizes, and small tests and conversions
+//   yuthsaok_window_share .. yuthsaok_flags_fit   windows of days
 use entry::Report;
 use host_first::Opening;
 use protocol::SessionId;
@@ -11,6 +12,7 @@ use protocol::Terms;
 use sizes::Residue;
 use sizes::Score;
 use tape::Place;
+use window::Share;
 ghost use mathlib.Core.Path.{_≡_};
 ghost use mathlib.Core.List.{[]};
 ghost use Prim.Native.Nat.{ℕ};
@@ -24,6 +26,7 @@ ghost use Rattle.entry.specs.Entry.{Lent, Left, Dealing, firstOn, nextOn, dropO
 ghost use Rattle.sizes.specs.Sizes.{versionNumber, tapeWords, scratchWords, coinCount, dealCount, longestLine};
 ghost use Rattle.sizes.specs.Inverse.{inverseNumber};
 ghost use Rattle.sizes.specs.Words.{Told, told, refusalWord};
+ghost use Rattle.window.specs.Entries.{windowShareOn, nextWindowOn, flagsNumber};
 
 // ---- the dealer
 
@@ -251,4 +254,33 @@ pub extern "C" fn yuthsaok_refusal_word(number: u32, word: &mut [u8]) -> usize
     ensures { λ r. ⌜ _≡_ {A = Told} (record { bytes = r; slice = now (word .exit) }) (told (refusalWord number) (now (word .entry))) ⌝ }
 {
     sizes::host_refusal_word(number, word)
+}
+
+// ---- windows of days
+
+#[no_mangle]
+pub extern "C" fn yuthsaok_window_share(q: u32, shares: &[u8], first: usize, w: usize) -> Share
+    ensures { λ r. ⌜ _≡_ {A = Reply ℕ} (record { number = r .number; values = r .share }) (replyOf 0 (windowShareOn q (now (shares .entry)) first w)) ⌝ }
+{
+    window::share_on(q, shares, first, w)
+}
+
+#[no_mangle]
+pub extern "C" fn yuthsaok_next_window(
+    q: u32,
+    shares: &[u8],
+    first: usize,
+    w: usize,
+    share: u32,
+) -> Share
+    ensures { λ r. ⌜ _≡_ {A = Reply ℕ} (record { number = r .number; values = r .share }) (replyOf 0 (nextWindowOn q (now (shares .entry)) first w share)) ⌝ }
+{
+    window::next_on(q, shares, first, w, share)
+}
+
+#[no_mangle]
+pub extern "C" fn yuthsaok_flags_fit(flags: &[u8]) -> u32
+    ensures { λ r. ⌜ r ≡ flagsNumber (now (flags .entry)) ⌝ }
+{
+    window::flags_on(flags)
 }

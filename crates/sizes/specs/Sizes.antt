@@ -27,7 +27,7 @@ abbrev pub versionOf : (major minor patch : ℕ) → ℕ
 versionOf major minor patch = 10000 * major + 100 * minor + patch
 
 abbrev pub versionNumber : ℕ
-versionNumber = versionOf 0 1 0
+versionNumber = versionOf 0 2 0
 
 -- ---- by the sides
 

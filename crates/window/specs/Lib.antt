@@ -1,0 +1,2 @@
+-- Entries   the entries on bytes
+pub mod Entries
