@@ -1,6 +1,6 @@
 //! The engine's entries on bytes, as the archive has them.
 
-use reference::entries::{Deal, Dropping, Entries, First, Next, Reply, Residue, Score, Slot};
+use reference::entries::{Deal, Dropping, Entries, First, Next, Reply, Residue, Score, Share, Slot};
 use reference::Terms;
 use yuthsaok::slices::{self, At, Handed, Lent, Numbers};
 use yuthsaok::{sys, SessionNumber, TapeNumber};
@@ -18,6 +18,10 @@ fn numbers(t: Terms) -> Numbers {
 
 fn reply(sys::Report { number, read, bytes }: sys::Report) -> Reply {
     Reply { number, read, bytes }
+}
+
+fn share(sys::Share { number, share }: sys::Share) -> Share {
+    Share { number, share }
 }
 
 impl Entries for Engine {
@@ -88,5 +92,17 @@ impl Entries for Engine {
 
     fn refusal_word(number: u32, word: &mut [u8]) -> usize {
         slices::refusal_word(number, word)
+    }
+
+    fn window_share(q: u32, shares: &[u8], first: usize, w: usize) -> Share {
+        share(slices::window_share(q, shares, first, w))
+    }
+
+    fn next_window(q: u32, shares: &[u8], first: usize, w: usize, before: u32) -> Share {
+        share(slices::next_window(q, shares, first, w, before))
+    }
+
+    fn flags_fit(flags: &[u8]) -> u32 {
+        slices::flags_fit(flags)
     }
 }

@@ -1,7 +1,7 @@
 //! The entries on bytes by the rules: each call works on copies, and what it leaves is written back where it is done.
 
 use crate::dealer::{deal_product, deal_system};
-use crate::entries::{Deal, Dropping, Entries, First, Next, Reply, Residue, Score, Slot, RECORD};
+use crate::entries::{Deal, Dropping, Entries, First, Next, Reply, Residue, Score, Share, Slot, RECORD};
 use crate::faults::{self, Faults, SINGULAR, SIZE, TURN};
 use crate::line;
 use crate::matrix::Matrix;
@@ -9,7 +9,7 @@ use crate::pool::{End, Place};
 use crate::product::{left_step, right_drop, right_first, right_last, Right};
 use crate::record::{is_open, put_words, words_of, Session};
 use crate::system::{blinder_drop, blinder_first, blinder_last, blinder_second, solver_drop, solver_first, solver_last, solver_second};
-use crate::{scores, sizes, Message};
+use crate::{scores, sizes, window, Message};
 
 /// The entries of this implementation.
 #[derive(Clone, PartialEq, Eq)]
@@ -152,6 +152,21 @@ fn drop_of(session: Session, work: &mut Work) -> Done {
     }
 }
 
+/// The number of a call on a run of days, which is refused where it is not whole words, too.
+fn on_run(run: &[u8], number: u32) -> u32 {
+    let mut own = Faults::new();
+    own.whole(&[run]);
+    own.unless(number == 0, number);
+    own.lowest()
+}
+
+fn share_of(run: &[u8], found: Result<u32, u32>) -> Share {
+    match on_run(run, found.err().unwrap_or(0)) {
+        0 => Share { number: 0, share: found.unwrap_or(0) },
+        number => Share { number, share: 0 },
+    }
+}
+
 impl Entries for Reference {
     fn deal(c: Deal) -> Reply {
         let t = c.terms;
@@ -229,7 +244,7 @@ impl Entries for Reference {
     }
 
     fn version() -> u32 {
-        100
+        200
     }
 
     fn record_words() -> usize {
@@ -296,5 +311,17 @@ impl Entries for Reference {
         }
         out[..word.len()].copy_from_slice(word.as_bytes());
         word.len()
+    }
+
+    fn window_share(q: u32, shares: &[u8], first: usize, w: usize) -> Share {
+        share_of(shares, window::window_share(q, &words_of(shares), first, w))
+    }
+
+    fn next_window(q: u32, shares: &[u8], first: usize, w: usize, share: u32) -> Share {
+        share_of(shares, window::next_window(q, &words_of(shares), first, w, share))
+    }
+
+    fn flags_fit(flags: &[u8]) -> u32 {
+        on_run(flags, window::flags_fit(&words_of(flags)))
     }
 }

@@ -1,5 +1,5 @@
-//! The entries on bytes (RULES 11): what they are handed and lent, and what they answer. `answers` has them by the rules; the engine has
-//! them, too.
+//! The entries on bytes (RULES 11 and 12.3): what they are handed and lent, and what they answer. `answers` has them by the rules; the
+//! engine has them, too.
 
 use std::fmt;
 
@@ -42,6 +42,13 @@ pub struct Residue {
 pub struct Score {
     pub number: u32,
     pub score: i32,
+}
+
+#[repr(C)]
+#[derive(Clone, Copy, Debug, Default, PartialEq, Eq)]
+pub struct Share {
+    pub number: u32,
+    pub share: u32,
 }
 
 /// The tape that a call works on.
@@ -108,4 +115,7 @@ pub trait Entries {
     fn to_residue(q: u32, score: i32) -> Residue;
     fn to_score(q: u32, residue: u32) -> Score;
     fn refusal_word(number: u32, word: &mut [u8]) -> usize;
+    fn window_share(q: u32, shares: &[u8], first: usize, w: usize) -> Share;
+    fn next_window(q: u32, shares: &[u8], first: usize, w: usize, share: u32) -> Share;
+    fn flags_fit(flags: &[u8]) -> u32;
 }

@@ -11,6 +11,7 @@ pub mod line;
 pub mod machine;
 pub mod matrix;
 pub mod message;
+pub mod naming;
 pub mod pool;
 pub mod product;
 pub mod record;
@@ -19,6 +20,7 @@ pub mod scores;
 pub mod script;
 pub mod sizes;
 pub mod system;
+pub mod window;
 pub mod words;
 
 /// The numbers that the ends of a session agree on.

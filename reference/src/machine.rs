@@ -1,5 +1,5 @@
 //! A machine that performs calls as a script tells it, and prints what they answer and leave: by the reference here, by the engine in
-//! `fuzz`.
+//! `fuzz`. `naming` has its calls and their answers by name.
 //!
 //! The machine has arrays of words, which all begin with zeros, boxes of mail, which begin empty, and 32 registers. A line of the script is
 //! a line of at most 64 numbers:
@@ -14,6 +14,7 @@
 //! 6,B,C,I,V      box C gets what is in box B with its number I replaced by V; past the last number V is put behind them
 //! 7,B,C,I,N,V..  box C gets what is in box B with the N bytes from I on replaced by the bytes V
 //! 8,B            box B is printed
+//! 9,A,I,N,C,J    N words of the array A, from index I on, are put into the array C, from index J on
 //! C,R,V..        as 0; then the call C is made
 //! ```
 //!
@@ -36,29 +37,25 @@
 //! 20       bytes of the result
 //! 21       the modulus of inputs
 //! 22, 23   seed and words of a matrix: X, Y, L or M
-//! 24, 25   seed of the words behind it, x or y; bytes of both together
+//! 24, 25   seed of the words behind it, x or y; bytes of both together, or of a run of days, which is filled in the same way
 //! 26, 27   seed and bytes of raw words
-//! 28       a score, a residue, or a number
+//! 28       a score, a residue, a number, or a window's share
+//! 29, 30   first day and days of a window, as 3 and 4
 //! 31       1: a call's line shows each sum; 0: two sums of sums
 //! ```
 //!
 //! A seed of 0 leaves the words as they are. Calls: 10 deal, 11 first, 12 next, 13 drop, 14 version, 15 record_words, 16 tape_words,
-//! 17 scratch_words, 18 line_bytes, 19 coin_count, 20 deal_count, 21 is_prime, 22 has_inverse, 23 to_residue, 24 to_score, 25 refusal_word.
-//! Any other answers 98. A call prints its number, the answer's number, words read, bytes written, and sums of what may be written. What a
-//! small entry gives stands where the words read stand.
+//! 17 scratch_words, 18 line_bytes, 19 coin_count, 20 deal_count, 21 is_prime, 22 has_inverse, 23 to_residue, 24 to_score, 25 refusal_word,
+//! 26 window_share, 27 next_window, 28 flags_fit. Any other answers 98. A call prints its number, the answer's number, words read, bytes
+//! written, and sums of what may be written. What a small entry gives stands where the words read stand, and so does a window's share.
 
 use std::fmt::Write;
 use std::marker::PhantomData;
 use std::ops::Range;
 
-use crate::entries::{Deal, Dropping, Entries, First, Next, Reply, Slot, RECORD};
-use crate::faults::word;
+use crate::entries::{Deal, Dropping, Entries, First, Next, Reply, Share, Slot};
 use crate::line::numbers;
-use crate::matrix::Matrix;
-use crate::pool::End;
-use crate::record::{put_words, words_of, Session};
-use crate::system::scratch_size;
-use crate::words::draw;
+use crate::record::{put_words, words_of};
 use crate::Terms;
 
 pub const REGISTERS: usize = 32;
@@ -80,6 +77,9 @@ pub const HAS_INVERSE: u32 = 22;
 pub const TO_RESIDUE: u32 = 23;
 pub const TO_SCORE: u32 = 24;
 pub const REFUSAL_WORD: u32 = 25;
+pub const WINDOW_SHARE: u32 = 26;
+pub const NEXT_WINDOW: u32 = 27;
+pub const FLAGS_FIT: u32 = 28;
 
 /// Arrays by their numbers.
 pub const ONE: usize = 0;
@@ -251,7 +251,7 @@ impl<E: Entries> Machine<E> {
             6 => self.mail[other] = with_number(&self.mail[one], n[3] as usize, n[4]),
             7 => self.mail[other] = with_bytes(&self.mail[one], n[3], n[4], as_bytes(from(5))),
             8 => return format!("8,{}\n", String::from_utf8_lossy(&self.mail[one]).trim_end()),
-            9 => {}
+            9 => self.put(most(n[4], WORDS.len() - 1), n[5], &self.words(array, n[2], n[3])),
             call => {
                 self.set(n[1], from(2));
                 self.reply = self.call(call);
@@ -299,11 +299,12 @@ impl<E: Entries> Machine<E> {
         match call {
             DEAL => self.deal(),
             FIRST..=DROP => self.step(call),
+            WINDOW_SHARE..=FLAGS_FIT => self.window(call),
             _ => self.small(call),
         }
     }
 
-    fn terms(&self) -> Terms {
+    pub(crate) fn terms(&self) -> Terms {
         let r = &self.registers;
         Terms { session: r[5], tape: r[6], q: r[7], m: r[8], k: r[9], p: r[10] }
     }
@@ -393,52 +394,24 @@ impl<E: Entries> Machine<E> {
         }
     }
 
+    /// A call on a run of days, which stands where an input does.
+    fn window(&mut self, call: u32) -> Reply {
+        self.fill_input();
+        let r = &self.registers;
+        let run = &self.arrays[INPUT][range(INPUT, 0, r[25])];
+        let (first, w) = (wide(r[29]), wide(r[30]));
+        let given = match call {
+            WINDOW_SHARE => E::window_share(r[7], run, first, w),
+            NEXT_WINDOW => E::next_window(r[7], run, first, w, r[28]),
+            _ => Share { number: E::flags_fit(run), share: 0 },
+        };
+        Reply { number: given.number, read: given.share as usize, bytes: 0 }
+    }
+
     /// The record that the registers name.
     pub fn record(&self) -> &[u8] {
         let bytes = self.registers[12].min(4 * PLACE as u32);
         &self.arrays[RECORDS][range(RECORDS, PLACE * most(self.registers[13], 7), bytes)]
-    }
-
-    /// The call that the registers and the record make of an entry, by name.
-    pub fn name(&self, call: u32) -> String {
-        let end = |n: u32| ["of no end", "left", "right", "blinder", "solver"][if n < 5 { n as usize } else { 0 }];
-        match call {
-            DEAL => ["deal product", "deal system", "deal of no sort"][most(self.registers[11], 2)].to_string(),
-            FIRST => format!("first {}", end(self.registers[11])),
-            NEXT | DROP => format!("{}{}", if call == NEXT { "next" } else { "drop" }, held(self.record(), call)),
-            _ => SMALL.get((call - VERSION) as usize).unwrap_or(&"none").to_string(),
-        }
-    }
-
-    /// The answer as a word: accepted or the refusal's; zero where a small entry that refuses nothing gave 0.
-    pub fn answer(&self, call: u32) -> &'static str {
-        let gave = self.reply.read + self.reply.bytes != 0;
-        match (call, self.reply.number) {
-            (VERSION..=IS_PRIME | REFUSAL_WORD, _) if !gave => "zero",
-            (_, 0) => "accepted",
-            (_, number) => word(number),
-        }
-    }
-
-    /// Of a call that was refused for a matrix without an inverse: which, by its letter in the rules.
-    pub fn singular(&self, call: u32) -> &'static str {
-        let (r, t, n) = (&self.registers, self.terms(), self.terms().rows());
-        let is_regular = |words: &[u32]| Matrix::new(t.q, n, n, words).is_regular();
-        match call {
-            DEAL => "Q",
-            FIRST if r[11] == End::Solver.number() => "L",
-            FIRST => {
-                let coins = draw(t.q, scratch_size(n), &self.words(RAW, 0, r[27] / 4));
-                let p = coins.map_or(true, |(residues, _)| is_regular(&residues[..n * n]));
-                match (is_regular(&self.words(INPUT, 0, t.m * t.m)), p) {
-                    (false, true) => "M",
-                    (true, false) => "P",
-                    _ => "M and P",
-                }
-            }
-            NEXT => "W + V",
-            _ => "the matrix",
-        }
     }
 
     fn shown(&self, call: u32) -> String {
@@ -449,38 +422,6 @@ impl<E: Entries> Machine<E> {
         let sums = if self.registers[31] == 0 { vec![sum(&written), sum(&kept)] } else { [&written[..], &kept].concat() };
         numbers.extend(sums.iter().map(|s| *s as usize));
         format!("{call}{}\n", shown(&numbers))
-    }
-}
-
-const SMALL: [&str; 12] = [
-    "version",
-    "record_words",
-    "tape_words",
-    "scratch_words",
-    "line_bytes",
-    "coin_count",
-    "deal_count",
-    "is_prime",
-    "has_inverse",
-    "to_residue",
-    "to_score",
-    "refusal_word",
-];
-
-/// Which step or drop stands for a record, as the end of a call's name.
-fn held(record: &[u8], call: u32) -> &'static str {
-    let due = if record.len() == RECORD { words_of(record)[7] } else { 0 };
-    match (Session::of(record), call) {
-        (Session::None | Session::Left(_), _) => " (no session)",
-        _ if due == 0 => " (closed)",
-        (Session::Right(_), NEXT) => " right last",
-        (Session::Solver(_), NEXT) if due == 2 => " solver second",
-        (Session::Solver(_), NEXT) => " solver last",
-        (Session::Blinder(_), NEXT) if due == 3 => " blinder second",
-        (Session::Blinder(_), NEXT) => " blinder last",
-        (Session::Right(_), _) => " right",
-        (Session::Solver(_), _) => " solver",
-        (Session::Blinder(_), _) => " blinder",
     }
 }
 

@@ -1,8 +1,9 @@
 //! Random calls of the engine beside the reference: `fuzz [COUNT] [SEED]`.
 //!
 //! Worlds of a few hundred calls: sessions of both sorts with damaged calls between the right ones, calls with any numbers on what is left,
-//! messages of any bytes, and small entries. After each call its answer and every byte of every array must be the same on both sides. The
-//! first difference ends the run; the script up to it is then in `failed.script`, which `replay` performs, here and in the reference.
+//! messages of any bytes, small entries, and windows of days. After each call its answer and every byte of every array must be the same on
+//! both sides. The first difference ends the run; the script up to it is then in `failed.script`, which `replay` performs, here and in the
+//! reference.
 //!
 //! What each call was answered by is printed as a table. A run of `WHOLE` calls or more fails where an answer that a call can get was not
 //! among them, and any run where one that it cannot get was.
@@ -51,6 +52,9 @@ fn world(random: &mut Random, writer: &mut Writer) {
     }
     for _ in 0..12 {
         writer.any_small(random);
+    }
+    for _ in 0..6 {
+        writer.any_window(random);
     }
 }
 

@@ -8,6 +8,7 @@ use super::plan::{matrix_seed, tape_size, Layout, Plan, Step};
 use super::random::Random;
 use super::records::records;
 use super::small::small;
+use super::windows::windows;
 use super::writer::Writer;
 use crate::faults::SINGULAR;
 use crate::machine::*;
@@ -264,7 +265,7 @@ fn sessions(writer: &mut Writer) {
 }
 
 /// Small entries and dealings at their edges; lines, valid and damaged; products and systems with every refusal of their steps; drops;
-/// hostile records; a thousand sessions.
+/// hostile records; a thousand sessions; windows of days.
 pub fn all() -> Writer {
     let mut writer = Writer::default();
     small(&mut writer);
@@ -275,5 +276,6 @@ pub fn all() -> Writer {
     drops(&mut writer);
     records(&mut writer);
     sessions(&mut writer);
+    windows(&mut writer);
     writer
 }

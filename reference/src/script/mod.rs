@@ -2,7 +2,7 @@
 //!
 //! `writer` writes lines, `plan` knows the calls of a session that keeps to the rules, `damage` how a call can go wrong, `driver` makes
 //! sessions of both, `rare` makes calls that damage makes too seldom, `noise` calls with any numbers; `tally` counts answers, and `reach`
-//! knows which each call can get; `cases`, `dealings`, `lines`, `records` and `small` have the parts of the stored script.
+//! knows which each call can get; `cases`, `dealings`, `lines`, `records`, `small` and `windows` have the parts of the stored script.
 
 pub mod cases;
 pub mod damage;
@@ -17,4 +17,5 @@ pub mod reach;
 pub mod records;
 pub mod small;
 pub mod tally;
+pub mod windows;
 pub mod writer;

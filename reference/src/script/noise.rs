@@ -1,4 +1,4 @@
-//! Calls with any numbers, on whatever the machine holds, and messages of any bytes.
+//! Calls with any numbers, on whatever the machine holds, messages of any bytes, and windows of days.
 
 use super::driver::{product_terms, system_terms};
 use super::random::Random;
@@ -131,6 +131,33 @@ impl Writer {
         }
         if call == HAS_INVERSE && random.once_in(16) {
             r[21] = 0;
+        }
+        self.call(call, &r);
+    }
+
+    /// A call on a run of days that mostly fits, near the edges of windows and runs, or with any number or day.
+    pub fn any_window(&mut self, random: &mut Random) {
+        let call = random.from(WINDOW_SHARE, FLAGS_FIT);
+        let (low, high) = *random.one_of(&[(0, 2), (2040, 2050), (1, 60), (1, 60), (1, 60)]);
+        let days = random.from(low, high);
+        let q = *random.one_of(&[2, 3, 31, 61, 2049, 2_147_483_646, 2_147_483_647]);
+        let w = random.from(1, days.min(q - 1).max(1));
+        let first = random.from(0, days.saturating_sub(w));
+        let modulus = if call == FLAGS_FIT { 2 } else { q };
+        self.say(&[1, INPUT as u32, 0, days + 2, random.from(1, 60_000), modulus]);
+        if random.once_in(3) {
+            let (any_day, any_value) = (random.from(0, days), number(random));
+            let day = *random.one_of(&[first, first + w - 1, first + w, any_day]);
+            let value = *random.one_of(&[modulus, modulus - 1, u32::MAX, any_value]);
+            self.put(INPUT, day as usize, &[value]);
+        }
+        let mut r = self.machine.registers;
+        (r[7], r[22], r[24], r[25]) = (q, 0, 0, 4 * days);
+        r[28..31].copy_from_slice(&[random.from(0, q - 1), first, w]);
+        if random.once_in(3) {
+            let register = *random.one_of(&[7, 25, 28, 29, 30]);
+            let near = r[register].wrapping_add_signed(*random.one_of(&[-1, 1]));
+            r[register] = if random.once_in(2) { near } else { number(random) };
         }
         self.call(call, &r);
     }

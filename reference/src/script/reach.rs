@@ -1,4 +1,4 @@
-//! What each call can be answered by (RULES 8.3, 11.4, 11.5): what a script or random calls should come to.
+//! What each call can be answered by (RULES 8.3, 11.4, 11.5, 12.3): what a script or random calls should come to.
 
 use super::tally::Tally;
 use crate::faults::word;
@@ -37,6 +37,9 @@ const ANSWERS: &[(&str, &str)] = &[
     ("to_residue", "accepted modulus residue"),
     ("to_score", "accepted modulus residue"),
     ("refusal_word", "accepted zero"),
+    ("window_share", "accepted modulus size residue"),
+    ("next_window", "accepted modulus size residue"),
+    ("flags_fit", "accepted size residue"),
 ];
 
 /// The calls that are refused for a matrix without an inverse, and that matrix.

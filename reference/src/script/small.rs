@@ -74,10 +74,11 @@ pub fn small(writer: &mut Writer) {
     scores(writer);
     refusal_words(writer);
     // no call at all
-    writer.call(26, &none);
+    writer.call(FLAGS_FIT + 1, &none);
 }
 
-fn with(values: &[(usize, u32)]) -> Registers {
+/// Registers of zeros but for these.
+pub fn with(values: &[(usize, u32)]) -> Registers {
     let mut r = [0; REGISTERS];
     for (i, value) in values {
         r[*i] = *value;
