@@ -2,15 +2,15 @@
  *
  * Two ends hold a private matrix each. In a product session each gets a share, and the shares add to the product modulo q; in a system session
  * the blinder learns the solution z of (L + M) z = x + y. A dealer hands out a tape for each session beforehand. docs/EMBEDDING.md goes from
- * here to a running app, docs/HOSTS.md has a host's duties in one page, docs/RULES.md section 11 has every rule.
+ * here to a running app, docs/HOSTS.md has a host's duties in one page, docs/RULES.md sections 11 and 12 have every rule.
  *
  * SLICES. A slice is a pointer to bytes and then its length in bytes. A slice of length 0 may have any pointer, also NULL.
  *   No two slices of one call may overlap. Nothing checks this, and nothing is promised of such a call: with one buffer as line and as result
  *   the line is destroyed, with one pool twice in a dealing a half is lost, and the call answers 0. That some overlap does no harm today is no
  *   promise. The pointers are declared restrict: gcc's -Wrestrict (in -Wall) finds a buffer that is named twice in a call; clang does not.
- * WORDS. Pools, inputs, raw words, scratches and results are words of 32 bits, the lowest byte first, at any alignment. Lengths are in bytes, and
- *   of these slices whole words, also where a step has no use of one; slot sizes (`size`), and sizes whose names end in _WORDS or _words,
- *   are in words.
+ * WORDS. Pools, inputs, raw words, scratches, results and runs of days are words of 32 bits, the lowest byte first, at any alignment. Lengths are
+ *   in bytes, and of these slices whole words, also where a step has no use of one; slot sizes (`size`), and sizes whose names end in _WORDS or
+ *   _words, are in words.
  * LINES. Messages are lines of text: kind, session, tape, q, m, k, p and then residues, in decimal, with commas between and byte 10 at the end.
  * ANSWERS. 0: done. Else the number of the lowest refusal that applies, the other numbers are 0, and no byte that was lent has changed; the one exception is
  *   YUTHSAOK_SINGULAR from the solver's last step, which closes its session and spends its tape.
@@ -35,8 +35,8 @@ extern "C" {
 
 /* ---- version */
 
-#define YUTHSAOK_VERSION 100 /* 10,000 * major + 100 * minor + patch; yuthsaok_version() tells the archive's */
-#define YUTHSAOK_VERSION_TEXT "0.1.0"
+#define YUTHSAOK_VERSION 200 /* 10,000 * major + 100 * minor + patch; yuthsaok_version() tells the archive's */
+#define YUTHSAOK_VERSION_TEXT "0.2.0"
 
 /* ---- numbers that calls take */
 
@@ -92,11 +92,11 @@ enum { /* refusals: the lowest that applies is given */
     YUTHSAOK_FORM = 1,      /* form: a message is no line of numbers, or of no known kind */
     YUTHSAOK_MODULUS = 2,   /* modulus: q outside 2 to 2,147,483,647 */
     YUTHSAOK_COMPOSITE = 3, /* composite: q is not prime, in a system */
-    YUTHSAOK_SIZE = 4,      /* size: a side, count, slot or length does not fit; a session or tape number of 0 */
+    YUTHSAOK_SIZE = 4,      /* size: a side, count, slot, length or window does not fit; a session or tape number of 0 */
     YUTHSAOK_TURN = 5,      /* turn: not the step or kind of message that is due; the session is closed, or already open */
     YUTHSAOK_MARK = 6,      /* mark: the tape's status is not the one that the call needs */
     YUTHSAOK_STRANGER = 7,  /* stranger: the tape's or the message's numbers are not the session's */
-    YUTHSAOK_RESIDUE = 8,   /* residue: a word of q or more; a score out of range */
+    YUTHSAOK_RESIDUE = 8,   /* residue: a word of q or more; a score out of range; a flag above 1 */
     YUTHSAOK_DRY = 9,       /* dry: too few raw words */
     YUTHSAOK_SINGULAR = 10  /* singular: a matrix that must have an inverse has none */
 };
@@ -117,6 +117,7 @@ enum { /* refusals: the lowest that applies is given */
 #define YUTHSAOK_MOST_INPUT 2048     /* residues of X (m*k), and of Y (k*p) */
 #define YUTHSAOK_MOST_UNKNOWNS 16    /* n of a system: m = k = n, p = n + 1 */
 #define YUTHSAOK_MOST_MESSAGE 3072   /* residues of a message */
+#define YUTHSAOK_MOST_DAYS 2048      /* of a run of flags or of day shares, and of a window; of one that is moved a day less */
 #define YUTHSAOK_MOST_LINE 65536     /* bytes of a line that is read, with its byte 10 */
 #define YUTHSAOK_MOST_NUMBER 4294967295u /* session and tape numbers: from 1 to this */
 
@@ -178,6 +179,11 @@ typedef struct yuthsaok_score {
     uint32_t number;
     int32_t score;
 } yuthsaok_score;
+
+typedef struct yuthsaok_share {
+    uint32_t number;
+    uint32_t share; /* of a window; 0 at a refusal */
+} yuthsaok_share;
 
 /* ---- the dealer */
 
@@ -250,6 +256,28 @@ yuthsaok_score yuthsaok_to_score(uint32_t q, uint32_t residue);
 
 /* The word of a refusal's number at the slice's start, and its length; 0 for another number or too short a slice. */
 size_t yuthsaok_refusal_word(uint32_t number, uint8_t *YUTHSAOK_RESTRICT word, size_t word_bytes);
+
+/* ---- windows of days
+ *
+ * Both ends have a flag for each day, 0 or 1, and play a product session of 1 by 1 by 1 a day, all with one q and each with a tape of its own. The
+ * results of an end are its day shares: `shares` is a run of them, a word a day, of 1 to YUTHSAOK_MOST_DAYS days, counted from 0. Both ends' runs
+ * have the same days in the same places. Then the two shares of a window add modulo q to the number of its days that both flags mark; w is below q,
+ * so that this residue is the number itself, and a sum above w shows that something is amiss. Nothing else can notice it.
+ * Refused: YUTHSAOK_MODULUS for q; YUTHSAOK_SIZE for a run of another length, a window that is not in the run, a w of 0 or not below q;
+ * YUTHSAOK_RESIDUE for a word of q or more among those that the call looks at. */
+
+/* The share of the window of `w` days from day `first` on: the sum of its day shares modulo q. It looks at these days alone. */
+yuthsaok_share yuthsaok_window_share(uint32_t q, const uint8_t *YUTHSAOK_RESTRICT shares, size_t shares_bytes, size_t first, size_t w);
+
+/* The share of the window of `w` days from day `first` + 1 on, which must be in the run. `first` is the first day of the window before it, and `share`
+ * that window's share: whether it is, nothing can tell. It looks at two days alone, whatever w is: `first`, which leaves, and `first` + w, which is
+ * new. */
+yuthsaok_share yuthsaok_next_window(uint32_t q, const uint8_t *YUTHSAOK_RESTRICT shares, size_t shares_bytes, size_t first, size_t w,
+                                    uint32_t share);
+
+/* 0 where a run of flags has 1 to YUTHSAOK_MOST_DAYS days and no flag above 1, as both ends' must; else YUTHSAOK_SIZE or YUTHSAOK_RESIDUE. An end
+ * can ask this of its own flags alone. */
+uint32_t yuthsaok_flags_fit(const uint8_t *YUTHSAOK_RESTRICT flags, size_t flags_bytes);
 
 #ifdef __cplusplus
 }

@@ -14,6 +14,7 @@
 //! | [`Head`], [`MOST_LINE`] | lines, before a step takes them |
 //! | [`Refusal`] | why a call is refused |
 //! | [`random`] | raw words for dealings and first steps |
+//! | [`window_share`], [`next_window`], [`flags_fit`] | windows of days, from a product a day |
 //! | [`is_prime`], [`has_inverse`], [`to_residue`], [`to_score`], [`version`] | before a session |
 //! | [`slices`] | the archive's entries on numbers and slices |
 //! | [`sys`] | the archive's entries as they are linked |
@@ -82,6 +83,7 @@ pub mod slices;
 mod small;
 #[allow(unsafe_code)]
 pub mod sys;
+mod window;
 mod words;
 
 pub use line::{Head, MOST_LINE};
@@ -91,3 +93,4 @@ pub use refusal::Refusal;
 pub use session::{Session, Step};
 pub use shape::{Shape, Terms};
 pub use small::{has_inverse, is_prime, to_residue, to_score, version, Version, VERSION};
+pub use window::{flags_fit, next_window, window_share, MOST_DAYS};

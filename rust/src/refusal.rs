@@ -24,7 +24,7 @@ pub enum Refusal {
     Modulus = 2,
     /// The modulus of a system is not prime.
     Composite = 3,
-    /// A side, a count, a slot or a length does not fit, or a number is 0.
+    /// A side, a count, a slot, a length or a window does not fit, or a number is 0.
     Size = 4,
     /// Not the step or the message that is due, or the session is closed.
     Turn = 5,
@@ -32,7 +32,7 @@ pub enum Refusal {
     Mark = 6,
     /// The numbers of the tape or of the message are not the session's.
     Stranger = 7,
-    /// A residue is not below the modulus, or a score is out of range.
+    /// A residue is not below the modulus, a score is out of range, or a flag is above 1.
     Residue = 8,
     /// Too few raw words: bring more, all of them fresh.
     Dry = 9,
@@ -77,11 +77,11 @@ impl Refusal {
             Form => "the message is not a line of numbers as it should be, or its kind is unknown",
             Modulus => "the modulus is below 2 or above 2147483647",
             Composite => "the modulus of a system is not prime",
-            Size => "a side, a count, a slot or a length does not fit, or a number is 0",
+            Size => "a side, a count, a slot, a length or a window does not fit, or a number is 0",
             Turn => "this is not the step or the message that is due, or the session is closed",
             Mark => "the tape is not ready, in use or free as the call needs it",
             Stranger => "the numbers of the tape or of the message are not the session's",
-            Residue => "a residue is not below the modulus, or a score is out of range",
+            Residue => "a residue is not below the modulus, a score is out of range, or a flag is above 1",
             Dry => "there are too few raw words",
             Singular => "a matrix that must have an inverse has none",
         }

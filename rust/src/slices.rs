@@ -1,8 +1,9 @@
-//! The archive's entries on slices (RULES 11.2), for those who keep records, pools and buffers as bytes of their own. They take any numbers
-//! and any bytes; that no two slices of a call overlap, which is all that they ask, the borrows see to. All `unsafe` of the crate stands here.
+//! The archive's entries on slices (RULES 11.2 and 12.3), for those who keep records, pools and buffers as bytes of their own. They take
+//! any numbers and any bytes; that no two slices of a call overlap, which is all that they ask, the borrows see to. All `unsafe` of the
+//! crate stands here.
 
 use crate::names::{SessionNumber, TapeNumber};
-use crate::sys::{self, Report, Residue, Score};
+use crate::sys::{self, Report, Residue, Score, Share};
 
 /// The tape that a call works on.
 pub struct At<'a> {
@@ -144,6 +145,30 @@ pub fn to_score(q: u32, residue: u32) -> Score {
 /// The word of a refusal's number at the slice's start, and its length.
 pub fn refusal_word(number: u32, word: &mut [u8]) -> usize {
     call!(yuthsaok_refusal_word: = number, mut word,)
+}
+
+/// The share of the window of w days from day `first` on.
+pub fn window_share(q: u32, shares: &[u8], first: usize, w: usize) -> Share {
+    call!(yuthsaok_window_share: = q, &shares, = first, = w,)
+}
+
+/// The share of the window after that of w days from day `first` on, whose share is handed over.
+pub fn next_window(q: u32, shares: &[u8], first: usize, w: usize, share: u32) -> Share {
+    call!(yuthsaok_next_window: = q, &shares, = first, = w, = share,)
+}
+
+/// 0 where a run of flags fits; else the number of a refusal.
+pub fn flags_fit(flags: &[u8]) -> u32 {
+    call!(yuthsaok_flags_fit: &flags,)
+}
+
+// The archive is built for x86-64 alone, whose words have their lowest byte first, as the archive's have.
+const _: () = assert!(cfg!(target_endian = "little"), "words in memory are not as the archive takes them");
+
+/// Words as the archive takes them, without a copy: a move of a window looks at two days, and would else copy the whole run.
+pub(crate) fn bytes_of(words: &[u32]) -> &[u8] {
+    // these are the words' own bytes, all of them set and lent for as long as the words are; bytes stand at any address
+    unsafe { std::slice::from_raw_parts(words.as_ptr().cast(), size_of_val(words)) }
 }
 
 extern "C" {

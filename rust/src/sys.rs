@@ -1,5 +1,5 @@
-//! The archive's entries as they are linked (RULES 11), for those who want no layer over them. A slice is its pointer and then its length
-//! in bytes; the slices of one call must not overlap. An empty slice's pointer is not read.
+//! The archive's entries as they are linked (RULES 11 and 12.3), for those who want no layer over them. A slice is its pointer and then its
+//! length in bytes; the slices of one call must not overlap. An empty slice's pointer is not read.
 
 /// What a dealing, a step or a drop answers.
 #[repr(C)]
@@ -31,6 +31,16 @@ pub struct Score {
     pub number: u32,
     /// The score of the residue.
     pub score: i32,
+}
+
+/// What [`yuthsaok_window_share`] and [`yuthsaok_next_window`] answer.
+#[repr(C)]
+#[derive(Clone, Copy, Debug, Default, PartialEq, Eq)]
+pub struct Share {
+    /// 0, or the number of the refusal.
+    pub number: u32,
+    /// The share of the window.
+    pub share: u32,
 }
 
 extern "C" {
@@ -135,4 +145,10 @@ extern "C" {
     pub fn yuthsaok_to_score(q: u32, residue: u32) -> Score;
     /// Writes the word of a refusal, and gives its length.
     pub fn yuthsaok_refusal_word(number: u32, word: *mut u8, word_bytes: usize) -> usize;
+    /// The share of the window of w days from day `first` on.
+    pub fn yuthsaok_window_share(q: u32, shares: *const u8, shares_bytes: usize, first: usize, w: usize) -> Share;
+    /// The share of the window after that one, which is handed over.
+    pub fn yuthsaok_next_window(q: u32, shares: *const u8, shares_bytes: usize, first: usize, w: usize, share: u32) -> Share;
+    /// 0 where a run of flags fits, else the refusal's number.
+    pub fn yuthsaok_flags_fit(flags: *const u8, flags_bytes: usize) -> u32;
 }

@@ -7,7 +7,7 @@
 
 #define HOLDS(c) ((c) ? (void)checks++ : (void)(printf("%s:%d: not so: %s\n", __FILE__, __LINE__, #c), exit(1)))
 
-enum { Q = YUTHSAOK_MOST_Q, K = YUTHSAOK_MOST_K, INPUT = YUTHSAOK_MOST_INPUT, UNKNOWNS = YUTHSAOK_MOST_UNKNOWNS };
+enum { Q = YUTHSAOK_MOST_Q, K = YUTHSAOK_MOST_K, INPUT = YUTHSAOK_MOST_INPUT, UNKNOWNS = YUTHSAOK_MOST_UNKNOWNS, DAYS = YUTHSAOK_MOST_DAYS };
 
 static unsigned long checks;
 static uint32_t seed = 1;
@@ -52,6 +52,7 @@ static void fixed(void) {
     HOLDS(strcmp(text, YUTHSAOK_VERSION_TEXT) == 0);
     HOLDS(yuthsaok_record_words() == YUTHSAOK_RECORD_WORDS && YUTHSAOK_RECORD_BYTES == 4 * YUTHSAOK_RECORD_WORDS);
     HOLDS(sizeof(yuthsaok_report) == YUTHSAOK_REPORT_BYTES && sizeof(yuthsaok_residue) == 8 && sizeof(yuthsaok_score) == 8);
+    HOLDS(sizeof(yuthsaok_share) == 8 && offsetof(yuthsaok_share, share) == 4);
     HOLDS(sizeof words / sizeof *words == YUTHSAOK_REFUSAL_COUNT + 1 && YUTHSAOK_SINGULAR == YUTHSAOK_REFUSAL_COUNT);
     for (uint32_t i = 0; i < 300; i++) {
         const char *right = i <= YUTHSAOK_REFUSAL_COUNT ? words[i] : "";
@@ -273,6 +274,99 @@ static void empty(void) {
     HOLDS(yuthsaok_next(NULL, 0, NULL, 0, 10, 0, NULL, 0, NULL, 0, NULL, 0, NULL, 0).number == YUTHSAOK_FORM);
     HOLDS(yuthsaok_drop(NULL, 0, NULL, 0, 10, 0, NULL, 0).number == YUTHSAOK_SIZE);
     HOLDS(yuthsaok_has_inverse(7, 1, NULL, 0) == YUTHSAOK_SIZE);
+    HOLDS(yuthsaok_window_share(7, NULL, 0, 0, 1).number == YUTHSAOK_SIZE && yuthsaok_next_window(7, NULL, 0, 0, 1, 0).number == YUTHSAOK_SIZE);
+    HOLDS(yuthsaok_flags_fit(NULL, 0) == YUTHSAOK_SIZE);
+}
+
+// ---- windows of days
+
+// Runs of either end, with room for a day more than the most.
+static uint8_t flags[2][4 * DAYS + 5], shares[2][4 * DAYS + 5];
+
+// The window of so many days as it should be: the sum of its day shares, or the days that both ends marked.
+static uint32_t sum_of(int i, size_t first, size_t w) {
+    uint64_t sum = 0;
+    for (size_t day = first; day < first + w; day++) sum += get(shares[i], day);
+    return (uint32_t)(sum % q);
+}
+
+static uint32_t count_of(size_t first, size_t w) {
+    uint32_t count = 0;
+    for (size_t day = first; day < first + w; day++) count += get(flags[0], day) & get(flags[1], day);
+    return count;
+}
+
+static yuthsaok_share afresh(int i, size_t days, size_t from, size_t w) { return yuthsaok_window_share(q, shares[i], 4 * days, from, w); }
+static yuthsaok_share moved(int i, size_t days, size_t from, size_t w, uint32_t share) {
+    return yuthsaok_next_window(q, shares[i], 4 * days, from, w, share);
+}
+static int gives(yuthsaok_share r, uint32_t share) { return r.number == 0 && r.share == share; }
+static int is_refused(yuthsaok_share r, uint32_t refusal) { return r.number == refusal && r.share == 0; }
+
+// A session a day, whose results are the day shares.
+static void play_days(uint32_t modulus, size_t days) {
+    for (size_t day = 0; day < days; day++) {
+        begin_session(YUTHSAOK_PRODUCT, modulus, 1, 1, 1);
+        for (int i = 0; i < 2; i++) put(flags[i], day, any() >> 7 & 1), put(input[i], 0, get(flags[i], day));
+        sends(first(1), 1, YUTHSAOK_KIND_Y1), sends(first(0), 0, YUTHSAOK_KIND_X1_R1), sends(next(1), 1, 0);
+        for (int i = 0; i < 2; i++) put(shares[i], day, get(result[i], 0));
+    }
+    HOLDS(yuthsaok_flags_fit(flags[0], 4 * days) == 0 && yuthsaok_flags_fit(flags[1], 4 * days) == 0);
+}
+
+// Every window of w days, moved to from the one before, as worked out here; and the two ends' shares add to its count.
+static void windows_of(size_t days, size_t w) {
+    uint32_t share[2] = {afresh(0, days, 0, w).share, afresh(1, days, 0, w).share};
+    for (size_t from = 0; from + w <= days; from++) {
+        for (int i = 0; i < 2; i++) HOLDS(share[i] == sum_of(i, from, w) && gives(afresh(i, days, from, w), share[i]));
+        HOLDS(((uint64_t)share[0] + share[1]) % q == count_of(from, w));
+        for (int i = 0; i < 2; i++) {
+            yuthsaok_share r = moved(i, days, from, w, share[i]);
+            HOLDS(from + w == days ? is_refused(r, YUTHSAOK_SIZE) : r.number == 0);
+            share[i] = r.share;
+        }
+    }
+}
+
+// Each refusal of both calls, alone and with those behind it; 12 days modulo 11.
+static void windows_refused(void) {
+    static const size_t huge[] = {SIZE_MAX, SIZE_MAX - 1, SIZE_MAX / 2 + 1, SIZE_MAX / 4 + 1};
+    q = 11;
+    for (size_t day = 0; day <= DAYS; day++) put(shares[1], day, (uint32_t)day % q);
+    HOLDS(gives(afresh(1, 12, 2, 5), 9) && gives(moved(1, 12, 2, 5, 9), 3)); // 2 + .. + 6 = 20, and 9 + 7 - 2
+    for (size_t bytes = 45; bytes < 48; bytes++) HOLDS(is_refused(yuthsaok_window_share(q, shares[1], bytes, 2, 5), YUTHSAOK_SIZE));
+    HOLDS(is_refused(yuthsaok_next_window(q, shares[1], 47, 2, 5, 9), YUTHSAOK_SIZE));
+    HOLDS(is_refused(afresh(1, 12, 2, 0), YUTHSAOK_SIZE) && is_refused(afresh(1, 12, 0, 11), YUTHSAOK_SIZE));
+    HOLDS(is_refused(moved(1, 12, 2, 10, 11), YUTHSAOK_SIZE) && is_refused(moved(1, 12, 2, 5, 11), YUTHSAOK_RESIDUE));
+    for (size_t i = 0; i < sizeof huge / sizeof *huge; i++) {
+        HOLDS(is_refused(afresh(1, 12, huge[i], 3), YUTHSAOK_SIZE) && is_refused(moved(1, 12, huge[i], 3, 0), YUTHSAOK_SIZE));
+        HOLDS(is_refused(afresh(1, 12, 3, huge[i]), YUTHSAOK_SIZE) && is_refused(moved(1, 12, 3, huge[i], 0), YUTHSAOK_SIZE));
+    }
+    HOLDS(gives(afresh(1, DAYS, DAYS - 1, 1), (DAYS - 1) % 11) && is_refused(afresh(1, DAYS + 1, 0, 1), YUTHSAOK_SIZE));
+    put(shares[1], 4, q);
+    HOLDS(is_refused(afresh(1, 12, 2, 5), YUTHSAOK_RESIDUE) && is_refused(moved(1, 12, 4, 5, 9), YUTHSAOK_RESIDUE));
+    HOLDS(gives(moved(1, 12, 2, 5, 9), 3) && gives(afresh(1, 12, 5, 5), 2)); // day 4 is not looked at
+    HOLDS(is_refused(afresh(1, 12, 4, 9), YUTHSAOK_SIZE));
+    for (q = 0; q < 2; q++) HOLDS(is_refused(afresh(1, 12, 4, 9), YUTHSAOK_MODULUS) && is_refused(moved(1, 0, 4, 9, 5), YUTHSAOK_MODULUS));
+    q = (uint32_t)Q + 1;
+    HOLDS(is_refused(afresh(1, 12, 5, 5), YUTHSAOK_MODULUS) && is_refused(moved(1, 12, 5, 5, 0), YUTHSAOK_MODULUS));
+}
+
+static void flags_refused(void) {
+    memset(flags, 0, sizeof flags);
+    HOLDS(yuthsaok_flags_fit(flags[1], 4 * DAYS) == 0 && yuthsaok_flags_fit(flags[1], 4 * DAYS + 4) == YUTHSAOK_SIZE);
+    HOLDS(yuthsaok_flags_fit(flags[1], 4 * DAYS - 1) == YUTHSAOK_SIZE && yuthsaok_flags_fit(flags[1], 4) == 0);
+    put(flags[1], DAYS - 1, 2);
+    HOLDS(yuthsaok_flags_fit(flags[1], 4 * DAYS) == YUTHSAOK_RESIDUE && yuthsaok_flags_fit(flags[1], 4 * DAYS - 4) == 0);
+    HOLDS(yuthsaok_flags_fit(flags[1], 4 * DAYS + 4) == YUTHSAOK_SIZE);
+    put(flags[1], 0, 256);
+    HOLDS(yuthsaok_flags_fit(flags[1], 4) == YUTHSAOK_RESIDUE);
+}
+
+static void windows(void) {
+    play_days(41, 40), windows_of(40, 1), windows_of(40, 30), windows_of(40, 40);
+    play_days(Q, 20), windows_of(20, 7);
+    windows_refused(), flags_refused();
 }
 
 int main(void) {
@@ -281,6 +375,7 @@ int main(void) {
     number = YUTHSAOK_MOST_NUMBER;
     product(7, 1, 2, 1), product(367, 1, 366, 1), product(Q, 2, 3, 4), product(Q, 32, 64, 32), product(Q, 1, K, 1), product(6, 3, 5, 2);
     system_of(5, 1), system_of(101, 3), system_of(Q, UNKNOWNS);
+    windows();
     printf("C: %lu checks hold, version %s\n", checks, YUTHSAOK_VERSION_TEXT);
     return 0;
 }

@@ -1,4 +1,4 @@
-// Every entry of yuthsaok.h called from C++: README's product, a system of one unknown, and the small entries.
+// Every entry of yuthsaok.h called from C++: README's product, a system of one unknown, the small entries, and windows of days.
 #include "yuthsaok.h"
 #include <cstdio>
 #include <cstdlib>
@@ -99,9 +99,21 @@ void small() {
     holds(std::string(word, word + yuthsaok_refusal_word(YUTHSAOK_DRY, word, sizeof word)) == "dry", "a refusal's word");
 }
 
+// Modulo 7 these days are 1, 0, 1 and 1.
+void windows() {
+    Bytes left = bytes({5, 2, 6, 0}), right = bytes({3, 5, 2, 1}), flags = bytes({1, 0, 1, 1});
+    auto one = yuthsaok_window_share(7, left.data(), left.size(), 0, 3), two = yuthsaok_window_share(7, right.data(), right.size(), 0, 3);
+    holds(one.number == 0 && two.number == 0 && one.share == 6 && two.share == 3 && (one.share + two.share) % 7 == 2, "a window's shares");
+    one = yuthsaok_next_window(7, left.data(), left.size(), 0, 3, one.share);
+    two = yuthsaok_next_window(7, right.data(), right.size(), 0, 3, two.share);
+    holds(one.number == 0 && two.number == 0 && one.share == 1 && two.share == 1, "the next window's shares");
+    holds(yuthsaok_next_window(7, left.data(), left.size(), 1, 3, 1).number == YUTHSAOK_SIZE, "the last window has no next");
+    holds(yuthsaok_flags_fit(flags.data(), flags.size()) == 0 && yuthsaok_flags_fit(left.data(), left.size()) == YUTHSAOK_RESIDUE, "flags");
+}
+
 } // namespace
 
 int main() {
-    product(), system_of_one(), small();
-    std::printf("C++: sessions and small entries as they should be\n");
+    product(), system_of_one(), small(), windows();
+    std::printf("C++: sessions, small entries and windows as they should be\n");
 }
