@@ -1,6 +1,7 @@
 // Two functions timed beside each other. Each turn of `ours` and `other` with the same number must return the same value.
 //   heading(title)                              a table's head
-//   row(name, ours, other, turns, bound)        one line: nanoseconds a turn, medians over the rounds, and the median of the rounds' ratios
+//   row(name, ours, other, turns, bound)        one line: nanoseconds a turn, medians over the rounds, and the median of the rounds' ratios,
+//                                               which it gives too
 //   point(series, size, f, turns)               one point of the plot of time against size: the least of the rounds
 //   random32()                                  seeded numbers, the same in every run
 // The two take turns in each round, and the other begins in every second one; the clock is the thread's CPU time.
@@ -48,7 +49,7 @@ static void heading(const char *title) {
 }
 
 // A bound of 0 is none.
-static void row(const char *name, work ours, work other, uint32_t turns, double bound) {
+static double row(const char *name, work ours, work other, uint32_t turns, double bound) {
     static double mine[ROUNDS], theirs[ROUNDS], ratios[ROUNDS];
     for (int r = -1; r < ROUNDS; r++) {
         double first, second;
@@ -68,6 +69,7 @@ static void row(const char *name, work ours, work other, uint32_t turns, double 
     if (bound > 0) printf(" %.2f%s", bound, ratio > bound ? "  ABOVE" : "");
     printf("\n");
     fflush(stdout);
+    return ratio;
 }
 
 // A line `series size nanoseconds` in the file that GROWTH names, if it names one.
