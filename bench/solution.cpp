@@ -1,4 +1,4 @@
-// NTL's part of bench/solution.h: rank and solution modulo a word-sized prime.
+// NTL's part of bench/solution.h: rank, determinant and solution modulo a word-sized prime.
 #include <NTL/mat_lzz_p.h>
 #include <cstddef>
 #include <cstdint>
@@ -23,6 +23,12 @@ extern "C" void ntl_start(uint32_t q, size_t n, const uint32_t *a, const uint32_
 extern "C" uint64_t ntl_rank(void) {
     mat_zz_p m = matrix;
     return gauss(m);
+}
+
+extern "C" uint64_t ntl_det(void) {
+    zz_p d;
+    determinant(d, matrix);
+    return rep(d);
 }
 
 extern "C" uint64_t ntl_solve(void) {

@@ -1,14 +1,16 @@
-// A system of linear equations as FLINT and NTL solve it (bench/solution.cpp).
-//   others_start(q, n, a, b)       both get the system a t = b of n unknowns; false where it has no single solution
-//   others_end()                   FLINT's matrices are freed
-//   flint_test, ntl_test           whether a has an inverse, by the rank
-//   flint_solution, ntl_solution   a sum of the solution, as solution_sum has it
+// A system of linear equations, and the determinant of its matrix, as FLINT and NTL find them (bench/solution.cpp).
+//   others_start(q, n, a, b)             both get the system a t = b of n unknowns; false where it has no single solution
+//   others_end()                         FLINT's matrices are freed
+//   flint_test, ntl_test                 whether a has an inverse, by the rank
+//   flint_determinant, ntl_determinant   the determinant of a
+//   flint_solution, ntl_solution         a sum of the solution, as solution_sum has it
 #include <flint/flint.h>
 #include <flint/nmod_mat.h>
 #include <stdbool.h>
 
 void ntl_start(uint32_t q, size_t n, const uint32_t *a, const uint32_t *b);
 uint64_t ntl_rank(void);
+uint64_t ntl_det(void);
 uint64_t ntl_solve(void);
 
 static nmod_mat_t others_matrix, others_right, others_found;
@@ -34,6 +36,8 @@ static uint64_t solution_sum(const uint32_t *t, size_t n) {
 
 static inline uint64_t flint_test(uint32_t i) { (void)i; return nmod_mat_rank(others_matrix) == (slong)others_n; }
 static inline uint64_t ntl_test(uint32_t i) { (void)i; return ntl_rank() == others_n; }
+static inline uint64_t flint_determinant(uint32_t i) { (void)i; return nmod_mat_det(others_matrix); }
+static inline uint64_t ntl_determinant(uint32_t i) { (void)i; return ntl_det(); }
 static inline uint64_t ntl_solution(uint32_t i) { (void)i; return ntl_solve(); }
 static inline uint64_t flint_solution(uint32_t i) {
     (void)i;

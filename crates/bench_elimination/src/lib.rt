@@ -1,4 +1,4 @@
-// What bench/elimination.c times: whether a matrix has an inverse, and the solution of a system. C hands over what is asked here.
+// What bench/elimination.c times: whether a matrix has an inverse, its determinant, and the solution of a system. C hands over what is asked here.
 // No function here is for hosts.
 ghost use mathlib.Core.Path.{_≡_};
 ghost use mathlib.Core.Bool.{true};
@@ -7,6 +7,7 @@ ghost use lib.ListN.{length};
 ghost use Rattle.algebra.specs.Matrix.{Residues};
 ghost use Rattle.algebra.specs.Prime.{isPrime};
 ghost use Rattle.algebra.specs.Elimination.{regular};
+ghost use Rattle.determinant.specs.Determinant.{det};
 
 #[no_mangle]
 pub extern "C" fn bench_has_inverse(q: u32, n: usize, a: &[u32]) -> bool
@@ -14,6 +15,14 @@ pub extern "C" fn bench_has_inverse(q: u32, n: usize, a: &[u32]) -> bool
     ensures { λ r. ⌜ r ≡ regular q n (now (a .entry)) ⌝ }
 {
     elimination::has_inverse(q, n, a)
+}
+
+#[no_mangle]
+pub extern "C" fn bench_determinant(q: u32, n: usize, a: &[u32]) -> u32
+    requires { ⌜ (isPrime q ≡ true) × (q < 2147483648) × (n ≤ 16) × Residues q (n * n) (now a) ⌝ }
+    ensures { λ r. ⌜ r ≡ det q n (now (a .entry)) ⌝ }
+{
+    elimination::determinant(q, n, a)
 }
 
 #[no_mangle]

@@ -4,8 +4,12 @@
 -- Loading   words to the array and back
 -- Shapes    the triangle that forward elimination leads to, and the identity that back substitution does
 -- Solutions row operations keep the solutions of a system
+-- Determinants  the loop that finds a determinant, turn by turn
+-- Expansions  determinants of few rows, written out
 pub mod Agree
 pub mod Turns
 pub mod Loading
 pub mod Shapes
 pub mod Solutions
+pub mod Determinants
+pub mod Expansions
