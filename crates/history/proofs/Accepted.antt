@@ -29,7 +29,7 @@ use Rattle.protocol.proofs.Judge.{refused≢done}
 use Rattle.protocol.proofs.Residues.{residues-drawn}
 use Rattle.protocol.proofs.Tests.{Decides, TermsFit, FirstFits, OpenFits, MessageFits, draw-tests}
 use Rattle.history.specs.Ends.{Session, absent, leftEnd, rightEnd, solverEnd, blinderEnd, isBegun, dueIn, termsIn, roleIn, asRight, asSolver, asBlinder}
-use Rattle.history.specs.Ends.{First, Later, StepKind, Turn, opens, awaits, drops, Row, row, kindFirst, kindLater, roleFirst, roleLater, asAny, ofAny}
+use Rattle.history.specs.Ends.{First, Later, StepKind, Turn, opens, awaits, drops, Row, nextKind, row, kindFirst, kindLater, roleFirst, roleLater, asAny, ofAny}
 use Rattle.history.specs.Contents.{coinsBy}
 use Rattle.history.specs.Seen.{inputOf, coinsDrawn, takenFirst, takenLater}
 
@@ -52,6 +52,13 @@ firstRow k = row (kindFirst k)
 
 abbrev pub laterRow : Later → Row
 laterRow k = row (kindLater k)
+
+-- the kind that is due after it, in a session with these terms
+abbrev pub firstNext : Terms → First → ℕ
+firstNext t k = nextKind (firstRow k .next) t
+
+abbrev pub laterNext : Later → Terms → ℕ
+laterNext k t = nextKind (laterRow k .next) t
 
 -- ---- what steps leave and send
 
@@ -81,7 +88,7 @@ Sends k e = ((e .sent ≡ noMessage) × ((row k .sends ≡ 0) ⊎ (e .answer ≡
 -- the message that it took fits; in a product the facing end sends no other
 abbrev pub Hears : Row → Terms → List Message → Type 0
 Hears r t [] = r .takes ≡ 0
-Hears r t (a ∷ _) = MessageFits (r .takes) t a × (sortOf (r .role) ≡ product → kindsSent (facing (r .role)) ≡ r .takes ∷ [])
+Hears r t (a ∷ _) = MessageFits (r .takes) t a × (sortOf (r .role) ≡ product → kindsSent (facing (r .role)) t ≡ r .takes ∷ [])
 
 pub in-system : {A : Type 0} → system ≡ product → A
 in-system e = absurd (let z : _≡_ {A = ℕ} 0 1 = cc in omega arith)
@@ -97,10 +104,10 @@ pub record Begins (t : Terms) (k : First) (s : Slot) (e : Effect Session) : Type
   pub is-begun : isBegun (e .session) ≡ true
   pub role-is : roleIn (e .session) ≡ roleFirst k
   pub terms-are : termsIn (e .session) ≡ t
-  pub due-is : dueIn (e .session) ≡ firstRow k .next
+  pub due-is : dueIn (e .session) ≡ firstNext t k
   pub turn-is : firstRow k .turn ≡ opens
   -- only left's session ends with it
-  pub stays : (roleFirst k ≡ left) ⊎ (0 < firstRow k .next)
+  pub stays : (roleFirst k ≡ left) ⊎ (0 < firstNext t k)
   pub first : FirstFits (roleFirst k) t s
   pub input-taken : Taken (roleFirst k) t (inputOf k)
   pub drew : Residues (t .q) (total (coinLayout (roleFirst k) t)) (coinsDrawn t k)
@@ -115,13 +122,13 @@ leftFirst t k s = record {
   begun = true;
   role = roleFirst k;
   terms = t;
-  due = firstRow k .next;
-  slot = leaveFirst (firstRow k .next) (roleFirst k) t s;
+  due = firstNext t k;
+  slot = leaveFirst (firstNext t k) (roleFirst k) t s;
   scratch = coinsBy t k;
 }
 
 module _ {t : Terms} {k : First} {s : Slot} {e : Effect Session} where
-  pub began : leftBy e ≡ leftFirst t k s → firstRow k .turn ≡ opens → (roleFirst k ≡ left) ⊎ (0 < firstRow k .next) → FirstFits (roleFirst k) t s
+  pub began : leftBy e ≡ leftFirst t k s → firstRow k .turn ≡ opens → (roleFirst k ≡ left) ⊎ (0 < firstNext t k) → FirstFits (roleFirst k) t s
       → Taken (roleFirst k) t (inputOf k) → Residues (t .q) (total (coinLayout (roleFirst k) t)) (coinsDrawn t k)
       → coinsFit (roleFirst k) t (parts (coinLayout (roleFirst k) t) (coinsDrawn t k)) ≡ true
       → Hears (firstRow k) t (takenFirst k) → Sends (kindFirst k) e → Begins t k s e
@@ -174,9 +181,9 @@ pub record Continues (k : Later) (x : Session) (s : Slot) (e : Effect Session) :
   pub is-begun : isBegun (e .session) ≡ true
   pub role-is : roleIn (e .session) ≡ roleIn x
   pub terms-are : termsIn (e .session) ≡ termsIn x
-  pub due-is : dueIn (e .session) ≡ laterRow k .next
+  pub due-is : dueIn (e .session) ≡ laterNext k (termsIn x)
   pub moved : (dueIn (e .session) ≡ 0) ⊎ (dueIn x < dueIn (e .session))
-  pub in-turn : InTurn (laterRow k .turn) (laterRow k .takes) (laterRow k .next) (dueIn x)
+  pub in-turn : InTurn (laterRow k .turn) (laterRow k .takes) (laterNext k (termsIn x)) (dueIn x)
   pub heard : Hears (laterRow k) (termsIn x) (takenLater k)
   pub wrote : e .slot ≡ leaveLater (dueIn (e .session)) (roleIn x) (termsIn x) s
   pub cleared : e .scratch ≡ wipeScratch (dueIn (e .session)) (roleIn x) (termsIn x)
@@ -236,12 +243,19 @@ leftLater next x s = record {
   scratch = wipeScratch next (roleIn x) (termsIn x);
 }
 
+-- while a message is due, the slot stays and nothing is written over the scratch
+pub left-open : (next : ℕ) (x : Session) (s : Slot) → 0 < next
+    → _≡_ {A = Left} (record { begun = true; role = roleIn x; terms = termsIn x; due = next; slot = slotWords s; scratch = [] }) (leftLater next x s)
+left-open zero x s h = absurd (omega (arith, h))
+left-open (suc next) x s h = refl
+
 pub went : {k : Later} (x : Session) {s : Slot} {e : Effect Session} → let y = ownEnd (roleLater k) x in let r = laterRow k in
-    leftBy e ≡ leftLater (r .next) y s → OpenFits (roleLater k) (dueIn y) (termsIn y) s → InTurn (r .turn) (r .takes) (r .next) (dueIn y)
+    leftBy e ≡ leftLater (laterNext k (termsIn y)) y s → OpenFits (roleLater k) (dueIn y) (termsIn y) s
+    → InTurn (r .turn) (r .takes) (laterNext k (termsIn y)) (dueIn y)
     → Hears r (termsIn y) (takenLater k) → Sends (kindLater k) e → Continues k y s e
 went {k} x {s} {e} l f turn h m =
     let y = ownEnd (roleLater k) x in
-    let due : dueIn (e .session) ≡ laterRow k .next = ap (λ (z : Left). z .due) l in
+    let due : dueIn (e .session) ≡ laterNext k (termsIn (ownEnd (roleLater k) x)) = ap (λ (z : Left). z .due) l in
     record {
       was-begun = own-begun (roleLater k) x .0;
       role-was = own-begun (roleLater k) x .1;
@@ -250,7 +264,7 @@ went {k} x {s} {e} l f turn h m =
       role-is = ap (λ (z : Left). z .role) l;
       terms-are = ap (λ (z : Left). z .terms) l;
       due-is = due;
-      moved = subst (λ (d : ℕ). (d ≡ 0) ⊎ (dueIn y < d)) (sym due) (moved-on (laterRow k .turn) (laterRow k .takes) (laterRow k .next) (dueIn y) turn);
+      moved = subst (λ (d : ℕ). (d ≡ 0) ⊎ (dueIn y < d)) (sym due) (moved-on (laterRow k .turn) (laterRow k .takes) (laterNext k (termsIn y)) (dueIn y) turn);
       in-turn = turn;
       heard = h;
       wrote = ap (λ (z : Left). z .slot) l ∙ ap (λ (d : ℕ). leaveLater d (roleIn y) (termsIn y) s) (sym due);

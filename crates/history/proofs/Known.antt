@@ -8,12 +8,13 @@ use mathlib.Core.Path.{_≡_, refl, sym, _∙_, subst, subst₂}
 use mathlib.Core.Bool.{true}
 use mathlib.Core.List.{List, [], _∷_}
 use Prim.Native.Nat.{ℕ, suc, _+_, _≤_, _<_}
-use lib.ListN.{length}
+use lib.ListN.{length, getD}
 use Rattle.algebra.specs.Matrix.{Residues, matMul}
 use Rattle.algebra.specs.Count.{part, parts, total}
 use Rattle.algebra.specs.Elimination.{regular}
 use Rattle.algebra.specs.Product.{rightShare}
 use Rattle.algebra.proofs.Parts.{Fits}
+use Rattle.determinant.specs.Session.{answer}
 use Rattle.protocol.specs.declared.Terms.{Terms}
 use Rattle.protocol.specs.declared.RightSession.{RightSession}
 use Rattle.protocol.specs.declared.SolverSession.{SolverSession}
@@ -21,15 +22,15 @@ use Rattle.protocol.specs.declared.BlinderSession.{BlinderSession}
 use Rattle.protocol.specs.Drawing.{wordsFor}
 use Rattle.protocol.specs.Bounds.{columns}
 use Rattle.protocol.specs.Tape.{Slot, slotWords, Role, left, right, blinder, solver, sortOf, layout, matrices}
-use Rattle.protocol.specs.Message.{messageLayout, messageSize}
+use Rattle.protocol.specs.Message.{lastKind, messageLayout, messageSize}
 use Rattle.protocol.specs.Step.{Effect}
-use Rattle.protocol.specs.System.{padded}
+use Rattle.protocol.specs.System.{padded, scratchLayout}
 use Rattle.protocol.specs.View.{View, facing, coinLayout, kindsSent}
 use Rattle.protocol.specs.Completion.{messagesOf, blinderMessages, coinsFit, Taken}
 use Rattle.protocol.proofs.Tests.{TermsFit, MessageFits}
 use Rattle.protocol.proofs.CompletionLaws.{halfSlot, viewOf}
 use Rattle.protocol.proofs.Completion.{Messages, ahead, ownMask, Arises}
-use Rattle.history.specs.Ends.{Session, absent, leftEnd, rightEnd, solverEnd, blinderEnd, First, roleFirst, isBegun, termsIn, roleIn, Row, Result, no-result, left-share, right-share, solution}
+use Rattle.history.specs.Ends.{Session, absent, leftEnd, rightEnd, solverEnd, blinderEnd, First, roleFirst, isBegun, termsIn, roleIn, Row, Result, no-result, left-share, right-share, solution, determinant}
 use Rattle.history.specs.Seen.{inputOf, coinsDrawn, takenFirst, heard, viewFirst}
 use Rattle.history.proofs.Accepted.{Begins}
 use Rattle.history.proofs.Replay.{said-is, solverOne, solverTwo, SolverBegan, blinderOne, BlinderBegan}
@@ -48,8 +49,8 @@ pub record Known (role : Role) (t : Terms) (v : View) : Type 0 where
   pub coins-fit : coinsFit role t (parts (coinLayout role t) (v .coins)) ≡ true
   -- its messages are those that its own steps send on what it received
   pub sent-is : v .sent ≡ messagesOf role t (halfSlot role t (v .half)) (v .coins) (v .input) (v .received)
-  pub sent-fit : Messages t (kindsSent role) (v .sent)
-  pub received-fit : Messages t (kindsSent (facing role)) (v .received)
+  pub sent-fit : Messages t (kindsSent role t) (v .sent)
+  pub received-fit : Messages t (kindsSent (facing role) t) (v .received)
   pub in-turn : length (v .received) ≤ length (v .sent) + ahead role
 
 pub arises : {role : Role} {t : Terms} {v : View} → Known role t v → Arises v
@@ -70,7 +71,7 @@ viewWith v sent got = record { role = v .role; terms = v .terms; input = v .inpu
 
 -- these messages sent and received
 pub known-with : {role : Role} {t : Terms} {v : View} → Known role t v → {sent got : List (List ℕ)} (sent′ got′ : List (List ℕ)) → sent ≡ sent′ → got ≡ got′
-    → sent′ ≡ messagesOf role t (halfSlot role t (v .half)) (v .coins) (v .input) got′ → Messages t (kindsSent role) sent′ → Messages t (kindsSent (facing role)) got′
+    → sent′ ≡ messagesOf role t (halfSlot role t (v .half)) (v .coins) (v .input) got′ → Messages t (kindsSent role t) sent′ → Messages t (kindsSent (facing role) t) got′
     → length got′ ≤ length sent′ + ahead role → Known role t (viewWith v sent got)
 known-with {role} {t} {v} k sent′ got′ es eg is ms mg l =
     subst₂ (λ (s g : List (List ℕ)). Known role t (viewWith v s g)) (sym es) (sym eg) (record {
@@ -115,7 +116,7 @@ pub record SolverSeen (y : SolverSession) (v : View) : Type 0 where
 pub data BlinderStage (t : Terms) (half : List (List ℕ)) (mm y coins : List ℕ) (z : BlinderSession) (got : List (List ℕ)) : Type 0 where
   b-first : (a : List ℕ) → Residues (t .q) (messageSize 1 t) a → got ≡ a ∷ [] → z ≡ blinderOne t half mm y coins a .session → BlinderStage t half mm y coins z got
   -- it has sent all that it will, whatever it gets
-  b-second : (a b b2 b4 : List ℕ) → Residues (t .q) (messageSize 1 t) a → Residues (t .q) (messageSize 3 t) b → got ≡ a ∷ b ∷ [] → z .due ≡ 5
+  b-second : (a b b2 b4 : List ℕ) → Residues (t .q) (messageSize 1 t) a → Residues (t .q) (messageSize 3 t) b → got ≡ a ∷ b ∷ [] → z .due ≡ lastKind (t .m) (t .p)
       → (z .mm ≡ padded 256 mm) × (z .y ≡ padded 16 y)
       → ((got : List (List ℕ)) → blinderMessages t (halfSlot blinder t half) (mm ∷ y ∷ []) (a ∷ b ∷ got) (wordsFor (t .q) coins) ≡ b2 ∷ b4 ∷ [])
       → BlinderStage t half mm y coins z got
@@ -155,6 +156,9 @@ ShareOf v z t a = z ≡ rightShare (t .q) (t .m) (t .k) (t .p) (part 0 (cut 2 t 
 abbrev pub AnswerOf : View → List ℕ → Terms → List ℕ → Type 0
 AnswerOf v z t a = z ≡ matMul (t .q) (t .m) (t .m) (columns (t .m) (t .p)) (part 2 (v .half)) (part 0 (cut 5 t a))
 
+abbrev pub DeterminantOf : View → List ℕ → Terms → List ℕ → Type 0
+DeterminantOf v z t a = z ≡ answer (t .q) (t .m) (part 0 (parts (scratchLayout t) (v .coins))) (part 2 (v .half)) (getD a 0 0) ∷ []
+
 -- an end that is to give a result awaits a message
 abbrev pub Short : Role → View → Type 0
 Short left v = length (v .received) < 1
@@ -162,12 +166,15 @@ Short right v = length (v .received) < 1
 Short blinder v = length (v .received) < 3
 Short solver v = Unit
 
--- left's share is U; right's, and the blinder's solution, are made of the last message
+-- left's share is U; right's, and the blinder's solution or determinant, are made of the last message
 abbrev pub GaveBy : Result → Role → Terms → (result : List ℕ) → View → Type 0
 GaveBy no-result r t z v = (z ≡ []) × Short r v
 GaveBy left-share r t z v = (r ≡ left) × (z ≡ v .coins)
 GaveBy right-share r t z v = (r ≡ right) × (a : List ℕ) × (v .received ≡ a ∷ []) × ShareOf v z t a
+GaveBy determinant r t z v =
+    (r ≡ blinder) × (m1 : List ℕ) × (m3 : List ℕ) × (m6 : List ℕ) × (v .received ≡ m1 ∷ m3 ∷ m6 ∷ []) × DeterminantOf v z t m6 × (lastKind (t .m) (t .p) ≡ 6)
 GaveBy solution r t z v = (r ≡ blinder) × (m1 : List ℕ) × (m3 : List ℕ) × (m5 : List ℕ) × (v .received ≡ m1 ∷ m3 ∷ m5 ∷ []) × AnswerOf v z t m5
+    × (lastKind (t .m) (t .p) ≡ 5)
 
 -- the step of this row gave it
 abbrev pub Gave : Row → Terms → (result : List ℕ) → View → Type 0
@@ -189,7 +196,7 @@ module _ (t : Terms) (k : First) (s : Slot) (ls : List (List ℕ)) (e : matrices
   pub first-known : {f : Effect Session} {kind : ℕ} → Begins t k s f → (roleFirst k ≡ blinder → regular (t .q) (t .m) (part 2 ls) ≡ true)
       → MessageFits (suc kind) t (f .sent)
       → f .sent .residues ∷ [] ≡ messagesOf (roleFirst k) t (halfSlot (roleFirst k) t ls) (coinsDrawn t k) (inputOf k) (heard (f .answer) (takenFirst k))
-      → Messages t (kindsSent (roleFirst k)) (f .sent .residues ∷ []) → Messages t (kindsSent (facing (roleFirst k))) (heard (f .answer) (takenFirst k))
+      → Messages t (kindsSent (roleFirst k) t) (f .sent .residues ∷ []) → Messages t (kindsSent (facing (roleFirst k)) t) (heard (f .answer) (takenFirst k))
       → length (heard (f .answer) (takenFirst k)) ≤ 1 + ahead (roleFirst k) → Known (roleFirst k) t (viewFirst t k ls f)
   first-known {f} g rq m is ms mg l = record {
     role-is = refl;
@@ -201,7 +208,7 @@ module _ (t : Terms) (k : First) (s : Slot) (ls : List (List ℕ)) (e : matrices
     coins-residues = g .drew;
     coins-fit = g .coins-fit;
     sent-is = said-is m ∙ is;
-    sent-fit = subst (Messages t (kindsSent (roleFirst k))) (sym (said-is m)) ms;
+    sent-fit = subst (Messages t (kindsSent (roleFirst k) t)) (sym (said-is m)) ms;
     received-fit = mg;
     in-turn = subst (λ (z : List (List ℕ)). length (heard (f .answer) (takenFirst k)) ≤ length z + ahead (roleFirst k)) (sym (said-is m)) l;
   }

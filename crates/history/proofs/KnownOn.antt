@@ -1,11 +1,11 @@
 -- What is known of a session's view after a later step or a drop, by what its own end's definition leaves.
 --   shut, drop-view                      a drop: the view stays
---   f-stage, t-stage, w-stage, z-stage   the later steps of a system, by what each is to give: F, t, W, z
+--   f-stage, t-stage, d-stage, w-stage, z-stage   the later steps of a system, by what each is to give: F, t or the determinant, W, the answer
 -- Assumes nothing.
 use mathlib.Core.Path.{_≡_, refl, sym, ap, ap₂, _∙_, subst}
 use mathlib.Core.Bool.{Bool, true, false}
 use mathlib.Core.List.{List, [], _∷_, _++_, append-nil}
-use Prim.Native.Nat.{ℕ, _<_}
+use Prim.Native.Nat.{ℕ, suc, _<_}
 use native.Mathlib.Omega.{arith}
 use lib.ListN.{length}
 use Rattle.algebra.specs.Matrix.{Residues}
@@ -19,18 +19,19 @@ use Rattle.protocol.specs.declared.Refusal.the-variants.{Singular}
 use Rattle.protocol.specs.Drawing.{wordsFor}
 use Rattle.protocol.specs.Bounds.{allBelow}
 use Rattle.protocol.specs.Tape.{Slot, slotWords, blinder, solver, matrices}
-use Rattle.protocol.specs.Message.{Message, noMessage, messageSize}
+use Rattle.protocol.specs.Message.{Message, noMessage, lastKind, messageSize}
 use Rattle.protocol.specs.Product.{closedRight}
-use Rattle.protocol.specs.System.{closedSolver, closedBlinder, keptS, keptM, keptY, jointSum, scratchParts, solverFirstEffect, solverSecondEffect, solverLastEffect, blinderFirstEffect, blinderSecondEffect}
+use Rattle.protocol.specs.System.{closedSolver, closedBlinder, keptS, keptM, keptY, jointSum, scratchParts, solverFirstEffect, solverSecondEffect, solverLastEffect, solverDeterminantEffect, blinderFirstEffect, blinderSecondEffect}
 use Rattle.protocol.specs.View.{View}
 use Rattle.protocol.specs.Completion.{said, rightMessages, solverMessages, blinderMessages}
 use Rattle.protocol.proofs.Tests.{MessageFits}
+use Rattle.protocol.proofs.SystemEnds.{last-late}
 use Rattle.protocol.proofs.StepTests as tests
 use Rattle.protocol.proofs.CompletionLaws.{halfSlot}
 use Rattle.protocol.proofs.Completion.{no-more, _before_}
 use Rattle.history.specs.Ends.{Session, absent, leftEnd, rightEnd, solverEnd, blinderEnd, dueIn, termsIn, roleIn, no-result}
 use Rattle.history.specs.Seen.{heard}
-use Rattle.history.proofs.Replay.{said-is, incoming-whole, f-sent, w-sent, t-sent, y1-sent, x1-sent, solverOne, solverTwo, solverThree, solver-none, solver-one, solver-two, f-is, t-is, blinderOne, blinderTwo, blinder-one, blinder-two, w-is}
+use Rattle.history.proofs.Replay.{said-is, incoming-whole, f-sent, w-sent, t-sent, d-sent, LastStep, system-step, determinant-step, y1-sent, x1-sent, solverOne, solverTwo, solverThree, solver-none, solver-one, solver-two, f-is, last-is, blinderOne, blinderTwo, blinder-one, blinder-two, w-is}
 use Rattle.history.proofs.Known.{Known, viewWith, known-with, known-still, SolverStage, s-first, s-second, s-over, SolverSeen, BlinderStage, b-first, b-second, b-over, BlinderSeen, SeenBy, Short, GaveBy}
 
 pub quiet : (l : List (List ℕ)) → l ++ said noMessage ≡ l
@@ -136,39 +137,57 @@ module _ (y : SolverSession) (s : Slot) (m : Message) where
   unfolding solverLastEffect
   refuses r = (rw r, rw r)
 
+-- where it accepts message 4, by the stage before it: of either sort
+module _ {kind : ℕ} (y : SolverSession) (v : View) (s : Slot) (m : Message) (room : ℕ) (seen : SolverSeen y v) (last : LastStep (y .terms) (suc kind))
+    (o : tests.SolverFits 4 y s m (messageSize (suc kind) (y .terms)) room) (e : matrices solver (y .terms) (slotWords s) ≡ v .half)
+    (own : MessageFits (suc kind) (y .terms) (last .effect y s m .sent)) (taken : last .effect y s m .answer ≡ Accepted 0) where
+  pub last-stage : SolverStage (y .terms) (v .half) (seen .l) (seen .x) y (v .received)
+      → Known solver (y .terms) (viewWith v (v .sent ++ said (last .effect y s m .sent)) (v .received ++ heard (last .effect y s m .answer) (m ∷ [])))
+  unfolding solverFirstEffect solverSecondEffect
+  last-stage (s-first p q) = absurd (omega (arith, o .later .due-is, ap (λ (z : SolverSession). z .due) q))
+  last-stage (s-second a ra p q) =
+      let t = y .terms in
+      let l = seen .l in
+      let x = seen .x in
+      let g = seen .began in
+      let rm = o .message .residues in
+      let below = subst (λ (z : SolverSession). allBelow (t .q) (keptS z) ≡ true) q (o .s-below) in
+      let now : last .effect y s m .sent ≡ solverThree t (v .half) l x last a (m .residues) .sent =
+      ap (λ (z : SolverSession). last .effect z s m .sent) q ∙ last-is t (v .half) l x g a ra last (m .residues) rm below s m (incoming-whole (o .message)) e
+      in
+      let own′ : MessageFits (suc kind) t (solverThree t (v .half) l x last a (m .residues) .sent) = subst (MessageFits (suc kind) t) now own in
+      known-with (seen .known)
+      (solverOne t (v .half) l x .sent .residues ∷ solverTwo t (v .half) l x a .sent .residues ∷ solverThree t (v .half) l x last a
+      (m .residues) .sent .residues ∷ []) (a ∷ m .residues ∷ [])
+      (ap₂ (λ (a b : List (List ℕ)). a ++ b) (solver-sent (seen .known) (seen .input-is) p ∙ solver-one t (v .half) l x g a ra)
+      (said-is own ∙ ap (λ (b : Message). b .residues ∷ []) now))
+      (ap₂ (λ (a : List (List ℕ)) (b : Answer). a ++ heard b (m ∷ [])) p taken)
+      (sym (solver-two t (v .half) l x g a ra last (m .residues) rm below own′)
+      ∙ ap (λ (i : List (List ℕ)). solverMessages t (halfSlot solver t (v .half)) i (a ∷ m .residues ∷ [])) (sym (seen .input-is)))
+      (y1-sent t _ l x (g .terms) .residues before f-sent (solverOne t (v .half) l x .session) _ _ (g .terms) .residues
+      before subst (λ (k : ℕ). Residues (t .q) (messageSize k t) (solverThree t (v .half) l x last a (m .residues) .sent .residues)) (sym (last .kind-is)) (own′ .residues)
+      before no-more)
+      (ra before rm before no-more) (omega arith)
+  last-stage (s-over d) = absurd (omega (arith, o .later .due-is, d))
+
 pub t-stage : (y : SolverSession) (v : View) (s : Slot) (m : Message) (room : ℕ) (seen : SolverSeen y v)
-    → tests.SolverFits 4 y s m (messageSize 5 (y .terms)) room
+    → tests.SolverLastFits 5 y s m (messageSize 5 (y .terms)) room
     → matrices solver (y .terms) (slotWords s) ≡ v .half → (b : Bool) → regular (y .terms .q) (y .terms .m) (jointSum y s m) ≡ b
-    → SolverStage (y .terms) (v .half) (seen .l) (seen .x) y (v .received)
     → Known solver (y .terms) (viewWith v (v .sent ++ said (solverLastEffect y s m .sent)) (v .received ++ heard (solverLastEffect y s m .answer) (m ∷ [])))
-unfolding solverFirstEffect solverSecondEffect
-t-stage y v s m room seen o e b r (s-first p q) = absurd (omega (arith, o .later .due-is, ap (λ (z : SolverSession). z .due) q))
-t-stage y v s m room seen o e true r (s-second a ra p q) =
-    let t = y .terms in
-    let l = seen .l in
-    let x = seen .x in
-    let g = seen .began in
-    let rm = o .message .residues in
-    let own = t-sent y s m (g .terms) r in
-    let below = subst (λ (z : SolverSession). allBelow (t .q) (keptS z) ≡ true) q (o .s-below) in
-    let is = t-is t (v .half) l x g a ra (m .residues) rm below s m (incoming-whole (o .message)) e in
-    let now : solverLastEffect y s m .sent ≡ solverThree t (v .half) l x a (m .residues) .sent = ap (λ (z : SolverSession). solverLastEffect z s m .sent) q ∙ is .0 in
-    let own′ : MessageFits 5 t (solverThree t (v .half) l x a (m .residues) .sent) = subst (MessageFits 5 t) now own in
-    known-with (seen .known)
-    (solverOne t (v .half) l x .sent .residues ∷ solverTwo t (v .half) l x a .sent .residues ∷ solverThree t (v .half) l x a
-    (m .residues) .sent .residues ∷ []) (a ∷ m .residues ∷ [])
-    (ap₂ (λ (a b : List (List ℕ)). a ++ b) (solver-sent (seen .known) (seen .input-is) p ∙ solver-one t (v .half) l x g a ra)
-    (said-is own ∙ ap (λ (b : Message). b .residues ∷ []) now))
-    (ap₂ (λ (a : List (List ℕ)) (b : Answer). a ++ heard b (m ∷ [])) p (takes y s m r))
-    (sym (solver-two t (v .half) l x g a ra (m .residues) rm below own′)
-    ∙ ap (λ (i : List (List ℕ)). solverMessages t (halfSlot solver t (v .half)) i (a ∷ m .residues ∷ [])) (sym (seen .input-is)))
-    (y1-sent t _ l x (g .terms) .residues before f-sent (solverOne t (v .half) l x .session) _ _ (g .terms) .residues before own′ .residues before no-more)
-    (ra before rm before no-more) (omega arith)
-t-stage y v s m room seen o e false r (s-second a ra p q) =
+t-stage y v s m room seen o e true r =
+    last-stage y v s m room seen (system-step (y .terms) (o .sort-is)) (o .fits) e (t-sent y s m (seen .began .terms) (o .sort-is) r) (takes y s m r) (seen .stage)
+t-stage y v s m room seen o e false r =
     let n = refuses y s m r in
     known-still (seen .known) (ap (λ (b : Message). v .sent ++ said b) (n .1) ∙ quiet (v .sent))
     (ap (λ (b : Answer). v .received ++ heard b (m ∷ [])) (n .0) ∙ append-nil (v .received))
-t-stage y v s m room seen o e b r (s-over d) = absurd (omega (arith, o .later .due-is, d))
+
+pub d-stage : (y : SolverSession) (v : View) (s : Slot) (m : Message) (room : ℕ) (seen : SolverSeen y v)
+    → tests.SolverLastFits 6 y s m (messageSize 6 (y .terms)) room → matrices solver (y .terms) (slotWords s) ≡ v .half
+    → Known solver (y .terms)
+    (viewWith v (v .sent ++ said (solverDeterminantEffect y s m .sent)) (v .received ++ heard (solverDeterminantEffect y s m .answer) (m ∷ [])))
+d-stage y v s m room seen o e =
+    last-stage y v s m room seen (determinant-step (y .terms) (o .sort-is)) (o .fits) e (d-sent y s m (seen .began .terms) (o .sort-is))
+    (unfold solverDeterminantEffect in refl) (seen .stage)
 
 -- ---- the blinder
 
@@ -214,20 +233,24 @@ w-stage z v s u m room seen o e c (b-first a ra p q) =
       began = g;
       stage = b-second a (m .residues) _ _ ra rm got refl (ap (λ (z : BlinderSession). z .mm) q, ap (λ (z : BlinderSession). z .y) q) two;
     }
-w-stage z v s u m room seen o e c (b-second a b b2 b4 ra rb p d kept two) = absurd (omega (arith, o .later .due-is, d))
+w-stage z v s u m room seen o e c (b-second a b b2 b4 ra rb p d kept two) = absurd (omega (arith, o .later .due-is, d, last-late (z .terms .m) (z .terms .p)))
 w-stage z v s u m room seen o e c (b-over d) = absurd (omega (arith, o .later .due-is, d))
 
-pub z-stage : (z : BlinderSession) (v : View) (m : Message) (seen : BlinderSeen z v) → z .due ≡ 5 → MessageFits 5 (z .terms) m
+-- either last step of the blinder
+pub z-stage : (kind : ℕ) (z : BlinderSession) (v : View) (m : Message) (seen : BlinderSeen z v) → 4 < kind → z .due ≡ kind → MessageFits kind (z .terms) m
     → BlinderStage (z .terms) (v .half) (seen .mm) (seen .y) (v .coins) z (v .received)
     → (a : List ℕ) × (b : List ℕ) × (v .received ≡ a ∷ b ∷ []) × Known blinder (z .terms) (viewWith v (v .sent) (v .received ++ (m .residues ∷ [])))
+    × (lastKind (z .terms .m) (z .terms .p) ≡ kind)
 unfolding blinderFirstEffect
-z-stage z v m seen w f (b-first a ra p q) = absurd (omega (arith, w, ap (λ (z : BlinderSession). z .due) q))
-z-stage z v m seen w f (b-second a b b2 b4 ra rb p d kept two) =
+z-stage kind z v m seen h w f (b-first a ra p q) = absurd (omega (arith, h, w, ap (λ (z : BlinderSession). z .due) q))
+z-stage kind z v m seen h w f (b-second a b b2 b4 ra rb p d kept two) =
     let k = seen .known in
+    let is : lastKind (z .terms .m) (z .terms .p) ≡ kind = sym d ∙ w in
     let all = blinder-sent k (seen .input-is) p ∙ two [] in
     let known = known-with k (v .sent) (a ∷ b ∷ m .residues ∷ []) refl (ap (λ (z : List (List ℕ)). z ++ (m .residues ∷ [])) p)
-    (all ∙ sym (two (m .residues ∷ [])) ∙ input-back k (seen .input-is) (a ∷ b ∷ m .residues ∷ [])) (k .sent-fit) (ra before rb before f .residues before no-more)
+    (all ∙ sym (two (m .residues ∷ [])) ∙ input-back k (seen .input-is) (a ∷ b ∷ m .residues ∷ [])) (k .sent-fit)
+    (ra before rb before subst (λ (k : ℕ). Residues (z .terms .q) (messageSize k (z .terms)) (m .residues)) (sym is) (f .residues) before no-more)
     (omega (arith, ap length all))
     in
-    (a, b, p, known)
-z-stage z v m seen w f (b-over d) = absurd (omega (arith, w, d))
+    (a, b, p, known, is)
+z-stage kind z v m seen h w f (b-over d) = absurd (omega (arith, h, w, d))

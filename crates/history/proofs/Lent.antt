@@ -23,7 +23,7 @@ use Rattle.history.specs.Ends.{Session, absent, isBegun, dueIn, termsIn,
 use Rattle.history.specs.Log.{choose, Party, State, Call, Did, Entry, did, run, lentAfter, lentTo, OwnScratchBy, Premises}
 use Rattle.history.specs.Contents.{tenantOf, tenantAfter, tenant, keptBy, coinsBy, coinsIn, keptWords, termsBy, scratchWords}
 use Rattle.history.proofs.Words.{over-over, over-nothing}
-use Rattle.history.proofs.Accepted.{firstRow, Begins, Continues, wipeScratch}
+use Rattle.history.proofs.Accepted.{firstNext, Begins, Continues, wipeScratch}
 use Rattle.history.proofs.Facts.{set-same, set-other, none≢, absent≢, same-some}
 use Rattle.history.proofs.Kept.{slotBy, stateAfter, Way, fresh, onward, Move}
 use Rattle.history.specs.Claim.{Empty}
@@ -204,7 +204,7 @@ module _ (size : Party → ℕ) (start : Party → List ℕ) (lent : ℕ → Lis
       -- of a blinder
       module _ (r : roleFirst k ≡ blinder) where
         open-now : 0 < dueIn (e .effect .session)
-        open-now = still-open (roleFirst k) (firstRow k .next) (dueIn (e .effect .session)) (g .stays) r (g .due-is)
+        open-now = still-open (roleFirst k) (firstNext t k) (dueIn (e .effect .session)) (g .stays) r (g .due-is)
 
         new-tenant : tenant (did e ∷ l) (e .scratch) ≡ some e
         new-tenant = tenant-new (ℕ-discrete (e .scratch) (e .scratch)) e (e .step) (tenant l (e .scratch)) s r refl

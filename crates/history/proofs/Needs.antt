@@ -1,7 +1,7 @@
 -- What an end's own session, half and scratch give of what its later steps ask for.
 --   Handed                    the other end's messages fit
 --   Fair, FairBy, fair-open   a later step that is due and is handed what fits, or a drop
---   solver-needs, blinder-needs, drop-needs   all that the tests of such a step ask
+--   solver-needs, solver-last-needs, blinder-needs, drop-needs   all that the tests of such a step ask
 -- Assumes nothing.
 use mathlib.Core.Path.{_≡_, refl, sym, ap, ap₂, _∙_, subst}
 use mathlib.Core.Bool.{true}
@@ -9,8 +9,9 @@ use mathlib.Core.List.{List, [], _∷_}
 use Prim.Native.Nat.{ℕ, _+_, _*_, _≤_, _<_}
 use native.Mathlib.Omega.{arith}
 use lib.ListN.{length, take, drop, length-append}
+use borrow.Author.Tests.{eqb-true, lt-ltb}
 use Rattle.algebra.specs.Matrix.{Residues, zeros}
-use Rattle.algebra.specs.Count.{total}
+use Rattle.algebra.specs.Count.{parts, part, total}
 use Rattle.algebra.specs.Words.{over}
 use Rattle.algebra.specs.Product.{rightShare}
 use Rattle.algebra.specs.System.{solverShare}
@@ -21,10 +22,10 @@ use Rattle.protocol.specs.declared.SolverSession.{SolverSession}
 use Rattle.protocol.specs.declared.BlinderSession.{BlinderSession}
 use Rattle.protocol.specs.Bounds.{allBelow, columns}
 use Rattle.protocol.specs.Tape.{Slot, IN-USE, Role, blinder, solver, sortOf}
-use Rattle.protocol.specs.Message.{Message}
-use Rattle.protocol.specs.System.{padded, sideSize, keptS, keptM, keptY, scratchSize, scratchLayout, solverFirstEffect, solverSecondEffect, blinderFirstEffect}
+use Rattle.protocol.specs.Message.{Message, lastKind, lastFits}
+use Rattle.protocol.specs.System.{padded, sideSize, keptS, keptM, keptY, scratchSize, scratchLayout, scratchParts, solverFirstEffect, solverSecondEffect, blinderFirstEffect}
 use Rattle.protocol.specs.View.{View}
-use Rattle.protocol.proofs.Residues.{residues-below, take-over, zeros-below}
+use Rattle.protocol.proofs.Residues.{residues-below, take-over, parts-over, zeros-below}
 use Rattle.protocol.proofs.Tests.{TermsFit, OpenFits, LaterFits, MessageFits}
 use Rattle.protocol.proofs.StepTests as tests
 use Rattle.protocol.proofs.Halves.{Holding, half-fits, later-fits}
@@ -74,7 +75,7 @@ blinder-below t ls mm y coins z got st e rm ry o =
 -- its message fits and there is room, or it is a drop of an open session
 abbrev pub Fair : Terms → (due : ℕ) → Row → (taken : List Message) (writes room : ℕ) → Type 0
 Fair t due r [] writes room = 0 < due
-Fair t due r (a ∷ _) writes room = (due ≡ r .takes) × MessageFits (r .takes) t a × (writes ≤ room)
+Fair t due r (a ∷ _) writes room = (due ≡ r .takes) × MessageFits (r .takes) t a × (writes ≤ room) × (lastFits (r .sends) (t .m) (t .p) ≡ true)
 
 abbrev pub FairBy : Session → Later → Type 0
 FairBy x k = Fair (termsIn x) (dueIn x) (laterRow k) (takenLater k) (going k .writes (termsIn x)) (going k .room)
@@ -103,6 +104,15 @@ module _ (v : View) (s : Slot) (ls : List (List ℕ)) where
         message-room = f .2;
       }
 
+  -- its last step, of the sort that the session has
+  pub solver-last-needs : (kind : ℕ) (a : Message) (size room : ℕ) (y : SolverSession) → 4 < kind → SolverSeen y v → Holding solver IN-USE (y .terms) ls s
+      → (y .due ≡ 4) × MessageFits 4 (y .terms) a × (size ≤ room) × (lastFits kind (y .terms .m) (y .terms .p) ≡ true) → tests.SolverLastFits kind y s a size room
+  unfolding lastFits
+  solver-last-needs kind a size room y h seen held f = record {
+    fits = solver-needs 4 a size room y seen held (omega arith) (f .0, f .1, f .2);
+    sort-is = sym (eqb-true kind (lastKind (y .terms .m) (y .terms .p)) (rw (lt-ltb 4 kind h) at (f .3)));
+  }
+
 -- P and U0 stand in the blinder's scratch
 abbrev pub Coins : View → (scratch : List ℕ) → Type 0
 Coins v u = (rest : List ℕ) × (u ≡ over (v .coins) rest)
@@ -119,6 +129,13 @@ module _ (v : View) (u : List ℕ) (c : Coins v u) where
   coins-below y seen =
       ap (λ (z : List ℕ). allBelow (y .terms .q) (take (total (scratchLayout (y .terms))) z)) (c .1)
       ∙ ap (allBelow (y .terms .q)) (take-over (c .0) (seen .known .coins-residues)) ∙ residues-below (seen .known .coins-residues)
+
+  -- P is that of its coins
+  pub own-p : (y : BlinderSession) → BlinderSeen y v → part 0 (scratchParts (y .terms) u) ≡ part 0 (parts (scratchLayout (y .terms)) (v .coins))
+  unfolding scratchParts
+  own-p y seen =
+      ap (λ (z : List ℕ). part 0 (parts (scratchLayout (y .terms)) z)) (c .1)
+      ∙ ap (part 0) (parts-over (scratchLayout (y .terms)) (c .0) (seen .known .coins-residues))
 
   pub blinder-needs : (s : Slot) (ls : List (List ℕ)) (kind : ℕ) (a : Message) (size room : ℕ) (y : BlinderSession) → BlinderSeen y v
       → Holding blinder IN-USE (y .terms) ls s → 0 < kind

@@ -11,10 +11,10 @@ use mathlib.Core.Option.{Option, some, none}
 use Prim.Native.Nat.{ℕ, zero, suc, _≤_, _<_}
 use native.Mathlib.Omega.{arith}
 use native.Mathlib.Decide.{ℕ-discrete, decLt}
-use Rattle.history.specs.Ends.{isBegun, dueIn, Step, StepKind, kind-eq, Turn, opens, awaits, drops, row, kindOf}
+use Rattle.history.specs.Ends.{isBegun, dueIn, termsIn, Step, StepKind, kind-eq, Turn, opens, awaits, drops, row, kindOf}
 use Rattle.history.specs.Log.{choose, both?, Party, State, Call, Did, Entry, did, run, Premises}
 use Rattle.history.specs.Claim.{timesBy, timesOf, times, Empty}
-use Rattle.history.proofs.Accepted.{firstRow, laterRow, InTurn}
+use Rattle.history.proofs.Accepted.{firstRow, laterRow, laterNext, InTurn}
 use Rattle.history.proofs.Facts.{set-same, set-other, absent≢}
 use Rattle.history.proofs.Kept.{Inv, stateAfter, Way, fresh, onward, Move}
 use Rattle.history.proofs.Along.{along}
@@ -149,7 +149,8 @@ module _ (size : Party → ℕ) (start : Party → List ℕ) where
           subst Goal (sym s) (first-turned (firstRow k .turn) (firstRow k .takes) (due e) (dueIn (e .effect .session)) (b .turn-is) (ap dueIn a))
       go (onward k s q g) =
           subst Goal (sym s)
-          (later-turned (laterRow k .turn) (laterRow k .takes) (laterRow k .next) (due e) (dueIn (e .effect .session)) (g .in-turn) (g .due-is) (g .moved))
+          (later-turned (laterRow k .turn) (laterRow k .takes) (laterNext k (termsIn (e .on .sessions (e .name)))) (due e) (dueIn (e .effect .session))
+          (g .in-turn) (g .due-is) (g .moved))
 
   pub once : Empty size start → (lent : ℕ → List ℕ) (cs : List Call) → Premises size (run size start lent cs .log) → (n : ℕ) (k : StepKind)
       → timesOf n k (run size start lent cs .log) ≤ 1

@@ -1,17 +1,19 @@
 -- What an end's own steps send depends on its half, its input, its coins and the messages received, and on nothing else of the pool that they run on.
 --   said-is                     a step's message, as it stands in a view
---   y-sent .. t-sent            what each step sends fits its kind
+--   y-sent .. t-sent, d-sent    what each step sends fits its kind
+--   LastStep, system-step, determinant-step   the solver's last step, of either sort
 --   y-same .. w-same            steps on two slots with the same half leave the same
 --   solver-none, solver-one, solver-two, blinder-one, blinder-two   an end's messages, as its own steps give them one after the other
 -- Assumes nothing.
 use mathlib.Core.Path.{_≡_, refl, sym, ap, _∙_, subst}
-use mathlib.Core.Bool.{true}
+use mathlib.Core.Bool.{Bool, true, false, cond}
 use mathlib.Core.List.{List, [], _∷_, _++_}
 use Prim.Native.Nat.{ℕ, suc, _+_, _*_, _≤_, _<_}
 use native.Mathlib.Nat.{le-refl}
 use native.Mathlib.Omega.{arith}
-use lib.Dec.{eqb·suc-zero}
+use lib.Dec.{ltb, eqb·suc-zero}
 use lib.ListN.{length, take}
+use borrow.Author.Tests.{eq-eqb}
 use Rattle.algebra.specs.Matrix.{Residues, zeros}
 use Rattle.algebra.specs.Count.{part}
 use Rattle.algebra.specs.Elimination.{regular}
@@ -22,22 +24,24 @@ use Rattle.algebra.proofs.Lists.{length-tabulate, add-residues, sub-residues}
 use Rattle.algebra.proofs.Parts.{Fits, none, _then_, fits-join}
 use Rattle.algebra.proofs.Prime.{prime-test}
 use Rattle.algebra.proofs.Elimination.{solution-solves}
+use Rattle.determinant.proofs.Determinant.{det-residue}
 use Rattle.protocol.specs.declared.Terms.{Terms}
 use Rattle.protocol.specs.declared.Head.{Head}
 use Rattle.protocol.specs.declared.SolverSession.{SolverSession}
 use Rattle.protocol.specs.declared.BlinderSession.{BlinderSession}
 use Rattle.protocol.specs.Judge.{done}
 use Rattle.protocol.specs.Drawing.{drawn, wordsFor}
-use Rattle.protocol.specs.Bounds.{product, system, fieldFits, columns, allBelow}
+use Rattle.protocol.specs.Bounds.{product, system, fieldFits, allBelow}
 use Rattle.protocol.specs.Tape.{Slot, slotWords, left, right, blinder, solver, READY, IN-USE, layout, matrices}
-use Rattle.protocol.specs.Message.{Message, messageLayout, messageSize}
+use Rattle.protocol.specs.Message.{Message, lastKind, lastFits, messageLayout, messageSize}
 use Rattle.protocol.specs.Step.{Effect, Outcome, scratchAfter}
 use Rattle.protocol.specs.Product.{rightFirstEffect, leftEffect}
-use Rattle.protocol.specs.System.{keptS, keptM, keptY, coinsOf, scratchLayout, scratchSize, scratchParts, jointSum, sideSize, solverFirst, solverFirstEffect, solverSecond, solverSecondEffect, solverLast, solverLastEffect, blinderFirst, blinderFirstEffect, blinderSecond, blinderSecondEffect}
+use Rattle.protocol.specs.System.{keptS, keptM, keptY, coinsOf, scratchLayout, scratchSize, scratchParts, jointSum, sideSize, solverFirst, solverFirstEffect, solverSecond, solverSecondEffect, solverLastEffect, solverDeterminantEffect, solverEnding, blinderFirst, blinderFirstEffect, blinderSecond, blinderSecondEffect}
 use Rattle.protocol.specs.Completion.{incoming, said, andThen, hearing, rightMessages, leftMessages, solverMessages, blinderMessages}
 use Rattle.protocol.proofs.Slots.{written}
-use Rattle.protocol.proofs.Residues.{residues-below, take-over, over-length, parts-over, zeros-below}
-use Rattle.protocol.proofs.Tests.{TermsFit, SystemSides, system-sides, MessageFits}
+use Rattle.protocol.proofs.Residues.{one-residue, residues-below, take-over, over-length, parts-over, zeros-below}
+use Rattle.protocol.proofs.Tests.{TermsFit, SystemSides, system-sides, MessageFits, early}
+use Rattle.protocol.proofs.SystemEnds.{one-column, ending-system, ending-determinant}
 use Rattle.protocol.proofs.StepTests as tests
 use Rattle.protocol.proofs.Halves.{Holding, holding-matrices, half-fits, first-fits, holding-used, holding-same}
 use Rattle.protocol.proofs.CompletionLaws.{halfSlot, dealt-alone, drawn-own, drawn-enough, then-accepted}
@@ -61,52 +65,78 @@ sides {t} f = system-sides (t .m) (t .k) (t .p) .0 (f .sides)
 -- what each step sends fits its kind
 pub y-sent : (t : Terms) (s : Slot) (y : List ℕ) → TermsFit product t → MessageFits 1 t (rightFirstEffect t s y .sent)
 unfolding rightFirstEffect messageSize messageLayout sendY
-y-sent t s y f = record { head-is = refl; residues = fits-join (sub-residues (positive f) (t .k * t .p) _ _ then none) }
+y-sent t s y f = record { head-is = refl; residues = fits-join (sub-residues (positive f) (t .k * t .p) _ _ then none); last = early _ _ 1 refl }
 
 pub x-sent : (t : Terms) (s : Slot) (x words : List ℕ) (a : Message) → TermsFit product t → MessageFits 2 t (leftEffect t s x words a .sent)
 unfolding leftEffect messageSize messageLayout sendX sendR
 x-sent t s x words a f = record {
   head-is = refl;
   residues = fits-join (add-residues (positive f) (t .m * t .k) _ _ then sub-residues (positive f) (t .m * t .p) _ _ then none);
+  last = early _ _ 2 refl;
 }
 
 pub y1-sent : (t : Terms) (s : Slot) (l x : List ℕ) → TermsFit system t → MessageFits 1 t (solverFirstEffect t s l x .sent)
 unfolding solverFirstEffect messageSize messageLayout sendY
-y1-sent t s l x f = record { head-is = refl; residues = fits-join (rw (sides f .k-is) (sub-residues (positive f) (t .m * t .p) _ _) then none) }
+y1-sent t s l x f = record {
+  head-is = refl;
+  residues = fits-join (rw (sides f .k-is) (sub-residues (positive f) (t .m * t .p) _ _) then none);
+  last = early _ _ 1 refl;
+}
 
 pub x1-sent : (t : Terms) (s : Slot) (mm y words : List ℕ) (a : Message) → TermsFit system t → MessageFits 2 t (blinderFirstEffect t s mm y words a .sent)
 unfolding blinderFirstEffect messageSize messageLayout sendX sendR
 x1-sent t s mm y words a f = record {
   head-is = refl;
   residues = fits-join (rw (sides f .k-is) (add-residues (positive f) (t .m * t .m) _ _) then sub-residues (positive f) (t .m * t .p) _ _ then none);
+  last = early _ _ 2 refl;
 }
 
 pub f-sent : (x : SolverSession) (s : Slot) (a : Message) → TermsFit system (x .terms) → MessageFits 3 (x .terms) (solverSecondEffect x s a .sent)
 unfolding solverSecondEffect messageSize messageLayout sendF
-f-sent x s a f = record { head-is = refl; residues = fits-join (rw (sides f .k-is) (sub-residues (positive f) (x .terms .m * x .terms .m) _ _) then none) }
+f-sent x s a f = record {
+  head-is = refl;
+  residues = fits-join (rw (sides f .k-is) (sub-residues (positive f) (x .terms .m * x .terms .m) _ _) then none);
+  last = early _ _ 3 refl;
+}
 
 pub w-sent : (x : BlinderSession) (s : Slot) (u : List ℕ) (a : Message) → TermsFit system (x .terms) → MessageFits 4 (x .terms) (blinderSecondEffect x s u a .sent)
 unfolding blinderSecondEffect messageSize messageLayout sendW sendC
 w-sent x s u a f = record {
   head-is = refl;
   residues = fits-join (rw (sides f .k-is) (sub-residues (positive f) (x .terms .m * x .terms .m) _ _) then add-residues (positive f) _ _ _ then none);
+  last = early _ _ 4 refl;
 }
 
-one-column : (m p : ℕ) → p ≡ m + 1 → columns m p ≡ 1
-unfolding columns
-one-column m p e = omega (arith, e)
+-- the last message of its sort
+pub last-of : (t : Terms) (kind : ℕ) → lastKind (t .m) (t .p) ≡ kind → lastFits kind (t .m) (t .p) ≡ true
+unfolding lastFits
+last-of t kind k = rw (k, eq-eqb kind kind refl) (either (ltb 4 kind))
+  where
+    either : (b : Bool) → cond b true true ≡ true
+    either true = refl
+    either false = refl
 
-pub t-sent : (x : SolverSession) (s : Slot) (a : Message) → TermsFit system (x .terms) → regular (x .terms .q) (x .terms .m) (jointSum x s a) ≡ true
-    → MessageFits 5 (x .terms) (solverLastEffect x s a .sent)
+pub t-sent : (x : SolverSession) (s : Slot) (a : Message) → TermsFit system (x .terms) → lastKind (x .terms .m) (x .terms .p) ≡ 5
+    → regular (x .terms .q) (x .terms .m) (jointSum x s a) ≡ true → MessageFits 5 (x .terms) (solverLastEffect x s a .sent)
 unfolding solverLastEffect messageSize messageLayout jointSum sumMatrix fieldFits
-t-sent x s a f r =
+t-sent x s a f k r =
     rw r (record {
       head-is = refl;
-      residues = fits-join (rw (one-column (x .terms .m) (x .terms .p) (sides f .p-is))
+      residues = fits-join (rw (one-column (x .terms) f k)
           (solution-solves (prime-test _ (f .field)) (x .terms .m) (add-residues (positive f) (x .terms .m * x .terms .m) _ _)
           (add-residues (positive f) (x .terms .m * 1) _ _) r .0)
           then none);
+      last = last-of (x .terms) 5 k;
     })
+
+pub d-sent : (x : SolverSession) (s : Slot) (a : Message) → TermsFit system (x .terms) → lastKind (x .terms .m) (x .terms .p) ≡ 6
+    → MessageFits 6 (x .terms) (solverDeterminantEffect x s a .sent)
+unfolding solverDeterminantEffect messageSize messageLayout
+d-sent x s a f k = record {
+  head-is = refl;
+  residues = fits-join (one-residue (det-residue (positive f) (x .terms .m) _) then none);
+  last = last-of (x .terms) 6 k;
+}
 
 -- ---- steps on two slots with the same half
 
@@ -130,10 +160,43 @@ pub f-same : (x : SolverSession) (s s′ : Slot) (a : Message) → matrices solv
 unfolding solverSecondEffect
 f-same x s s′ a e = (rw e, rw e)
 
+-- a last step of the solver, of the sort that the terms tell: what it leaves, and on two slots with the same half it sends the same
+pub record LastStep (t : Terms) (kind : ℕ) : Type 0 where
+  pub effect : SolverSession → Slot → Message → Effect SolverSession
+  pub kind-is : lastKind (t .m) (t .p) ≡ kind
+  pub ends : (x : SolverSession) (s : Slot) (a : Message) (room : ℕ) → x .terms ≡ t → tests.SolverFits 4 x s a (messageSize kind (x .terms)) room
+      → solverEnding x s a room ≡ done (effect x s a)
+  pub same : (x : SolverSession) (s s′ : Slot) (a : Message) → matrices solver (x .terms) (slotWords s) ≡ matrices solver (x .terms) (slotWords s′)
+      → effect x s a .sent ≡ effect x s′ a .sent
+
+pub own-kind : (x : SolverSession) {t : Terms} {kind : ℕ} → x .terms ≡ t → lastKind (t .m) (t .p) ≡ kind → lastKind (x .terms .m) (x .terms .p) ≡ kind
+own-kind x e k = ap (λ (t : Terms). lastKind (t .m) (t .p)) e ∙ k
+
 pub t-same : (x : SolverSession) (s s′ : Slot) (a : Message) → matrices solver (x .terms) (slotWords s) ≡ matrices solver (x .terms) (slotWords s′)
-    → (solverLastEffect x s a .sent ≡ solverLastEffect x s′ a .sent) × (jointSum x s a ≡ jointSum x s′ a)
+    → solverLastEffect x s a .sent ≡ solverLastEffect x s′ a .sent
 unfolding solverLastEffect jointSum
-t-same x s s′ a e = (rw e, rw e)
+t-same x s s′ a e = rw e
+
+pub d-same : (x : SolverSession) (s s′ : Slot) (a : Message) → matrices solver (x .terms) (slotWords s) ≡ matrices solver (x .terms) (slotWords s′)
+    → solverDeterminantEffect x s a .sent ≡ solverDeterminantEffect x s′ a .sent
+unfolding solverDeterminantEffect jointSum
+d-same x s s′ a e = rw e
+
+abbrev pub system-step : (t : Terms) → lastKind (t .m) (t .p) ≡ 5 → LastStep t 5
+system-step t k = record {
+  effect = solverLastEffect;
+  kind-is = k;
+  ends = λ x s a room e f. ending-system x s a room (own-kind x e k) ∙ tests.solver-last x s a room .accepts (record { fits = f; sort-is = own-kind x e k });
+  same = t-same;
+}
+
+abbrev pub determinant-step : (t : Terms) → lastKind (t .m) (t .p) ≡ 6 → LastStep t 6
+determinant-step t k = record {
+  effect = solverDeterminantEffect;
+  kind-is = k;
+  ends = λ x s a room e f. ending-determinant x s a room (own-kind x e k) ∙ tests.solver-determinant x s a room .accepts (record { fits = f; sort-is = own-kind x e k });
+  same = d-same;
+}
 
 pub x1-same : (t : Terms) (s s′ : Slot) (mm y words words′ : List ℕ) (a : Message) → matrices blinder t (slotWords s) ≡ matrices blinder t (slotWords s′)
     → coinsOf t words ≡ coinsOf t words′ → blinderFirstEffect t s mm y words a .sent ≡ blinderFirstEffect t s′ mm y words′ a .sent
@@ -178,7 +241,7 @@ module _ (t : Terms) (half : List (List ℕ)) where
         then-accepted _ _ _ _ (tests.left-step t (halfSlot left t half) x coined (incoming 1 t (a .residues)) (messageSize 2 t) (t .m * t .p) .accepts
         (record {
           first = first-fits left-alone (fits .first .terms);
-          message = record { head-is = refl; residues = fits .message .residues };
+          message = record { head-is = refl; residues = fits .message .residues; last = early _ _ 1 refl };
           x-fits = fits .x-fits;
           message-room = le-refl _;
           share-room = le-refl _;
@@ -205,8 +268,8 @@ module _ (t : Terms) (half : List (List ℕ)) (l x : List ℕ) where
   abbrev slotTwo : (m2 : List ℕ) → Slot
   slotTwo a = written slotOne (solverTwo a .slot)
 
-  abbrev pub solverThree : (m2 m4 : List ℕ) → Effect SolverSession
-  solverThree a b = solverLastEffect (solverTwo a .session) (slotTwo a) (incoming 4 t b)
+  abbrev pub solverThree : {kind : ℕ} → LastStep t kind → (m2 m4 : List ℕ) → Effect SolverSession
+  solverThree last a b = last .effect (solverTwo a .session) (slotTwo a) (incoming 4 t b)
 
 -- what its first step found
 pub record SolverBegan (t : Terms) (half : List (List ℕ)) (l x : List ℕ) : Type 0 where
@@ -255,7 +318,7 @@ module _ (t : Terms) (half : List (List ℕ)) (l x : List ℕ) (g : SolverBegan 
         session-open = record { is-open = omega arith; terms = g .terms; half = half-fits held1 };
         matrices-fit = subst (λ (ls : List (List ℕ)). Fits (t .q) (layout solver (t .m) (t .k) (t .p)) ls) (sym (holding-matrices solver IN-USE t half _ held1)) (g .fits);
       };
-      message = record { head-is = refl; residues = ra };
+      message = record { head-is = refl; residues = ra; last = early _ _ 2 refl };
       s-below = zeros-below (t .q) 16 (sideSize t) (positive (g .terms));
       message-room = le-refl _;
     })
@@ -282,41 +345,46 @@ module _ (t : Terms) (half : List (List ℕ)) (l x : List ℕ) (g : SolverBegan 
           o .1 ∙ ap (λ (m : Message). solverSecondEffect (solverOne t half l x .session) (slotOne t half l x) m .session) i,
         )
 
-    module _ (b : List ℕ) (rb : Residues (t .q) (messageSize 4 t) b) (below : allBelow (t .q) (keptS (solverTwo t half l x a .session)) ≡ true) where
-      accepts3 : solverLast (solverTwo t half l x a .session) (slotTwo t half l x a) (incoming 4 t b) (messageSize 5 t) ≡ done (solverThree t half l x a b)
+    module _ {kind : ℕ} (last : LastStep t kind) (b : List ℕ) (rb : Residues (t .q) (messageSize 4 t) b)
+        (below : allBelow (t .q) (keptS (solverTwo t half l x a .session)) ≡ true) where
+      abbrev room3 : ℕ
+      room3 = messageSize (lastKind (t .m) (t .p)) t
+
+      fits3 : tests.SolverFits 4 (solverTwo t half l x a .session) (slotTwo t half l x a) (incoming 4 t b) (messageSize kind t) room3
       unfolding solverFirstEffect solverSecondEffect
-      accepts3 = tests.solver-last (solverTwo t half l x a .session) (slotTwo t half l x a) (incoming 4 t b) (messageSize 5 t) .accepts (record {
+      fits3 = record {
         later = record {
           due-is = refl;
           session-open = record { is-open = omega arith; terms = g .terms; half = half-fits held2 };
           matrices-fit = subst (λ (ls : List (List ℕ)). Fits (t .q) (layout solver (t .m) (t .k) (t .p)) ls) (sym (holding-matrices solver IN-USE t half _ held2)) (g .fits);
         };
-        message = record { head-is = refl; residues = rb };
+        message = record { head-is = refl; residues = rb; last = early _ _ 4 refl };
         s-below = below;
-        message-room = le-refl _;
-      })
+        message-room = rw (last .kind-is) (le-refl _);
+      }
 
-      pub t-is : (s : Slot) (m : Message) → m ≡ incoming 4 t b → matrices solver t (slotWords s) ≡ half
-          → (solverLastEffect (solverTwo t half l x a .session) s m .sent ≡ solverThree t half l x a b .sent)
-          × (jointSum (solverTwo t half l x a .session) s m ≡ jointSum (solverTwo t half l x a .session) (slotTwo t half l x a) (incoming 4 t b))
+      accepts3 : solverEnding (solverTwo t half l x a .session) (slotTwo t half l x a) (incoming 4 t b) room3 ≡ done (solverThree t half l x last a b)
       unfolding solverFirstEffect solverSecondEffect
-      t-is s m i e =
-          let o = t-same (solverTwo t half l x a .session) s (slotTwo t half l x a) m (e ∙ sym (holding-matrices solver IN-USE t half _ held2)) in (
-            o .0 ∙ ap (λ (m : Message). solverLastEffect (solverTwo t half l x a .session) (slotTwo t half l x a) m .sent) i,
-            o .1 ∙ ap (λ (m : Message). jointSum (solverTwo t half l x a .session) (slotTwo t half l x a) m) i,
-          )
+      accepts3 = last .ends (solverTwo t half l x a .session) (slotTwo t half l x a) (incoming 4 t b) room3 refl fits3
 
-      pub solver-two : MessageFits 5 t (solverThree t half l x a b .sent) → solverMessages t alone (l ∷ x ∷ []) (a ∷ b ∷ [])
-          ≡ solverOne t half l x .sent .residues ∷ solverTwo t half l x a .sent .residues ∷ solverThree t half l x a b .sent .residues ∷ []
+      pub last-is : (s : Slot) (m : Message) → m ≡ incoming 4 t b → matrices solver t (slotWords s) ≡ half
+          → last .effect (solverTwo t half l x a .session) s m .sent ≡ solverThree t half l x last a b .sent
+      unfolding solverFirstEffect solverSecondEffect
+      last-is s m i e =
+          last .same (solverTwo t half l x a .session) s (slotTwo t half l x a) m (e ∙ sym (holding-matrices solver IN-USE t half _ held2))
+          ∙ ap (λ (m : Message). last .effect (solverTwo t half l x a .session) (slotTwo t half l x a) m .sent) i
+
+      pub solver-two : {j : ℕ} → MessageFits (suc j) t (solverThree t half l x last a b .sent) → solverMessages t alone (l ∷ x ∷ []) (a ∷ b ∷ [])
+          ≡ solverOne t half l x .sent .residues ∷ solverTwo t half l x a .sent .residues ∷ solverThree t half l x last a b .sent .residues ∷ []
       unfolding solverMessages hearing
       solver-two f =
           then-accepted _ _ _ _ accepts1
           ∙ ap (λ (z : List (List ℕ)). z ++ andThen (slotOne t half l x) (solverSecond (solverOne t half l x .session) (slotOne t half l x) (incoming 2 t a) (messageSize 3 t))
-          (λ x s. andThen s (solverLast x s (incoming 4 t b) (messageSize 5 t)) (λ x s. []))) says1
+          (λ x s. andThen s (solverEnding x s (incoming 4 t b) room3) (λ x s. []))) says1
           ∙ ap (λ (z : List (List ℕ)). solverOne t half l x .sent .residues ∷ z)
           (then-accepted _ _ _ _ accepts2
           ∙ ap (λ (z : List (List ℕ)). z ++ andThen (slotTwo t half l x a)
-          (solverLast (solverTwo t half l x a .session) (slotTwo t half l x a) (incoming 4 t b) (messageSize 5 t)) (λ x s. [])) says2
+          (solverEnding (solverTwo t half l x a .session) (slotTwo t half l x a) (incoming 4 t b) room3) (λ x s. [])) says2
           ∙ ap (λ (z : List (List ℕ)). solverTwo t half l x a .sent .residues ∷ z) (then-accepted _ _ _ _ accepts3 ∙ ap (λ (z : List (List ℕ)). z ++ []) (said-is f)))
 
 -- ---- the blinder
@@ -374,7 +442,7 @@ module _ (t : Terms) (half : List (List ℕ)) (mm y coins : List ℕ) (g : Blind
   takes1 : blinderFirst t by-itself (length lent) mm y (wordsFor (t .q) coins) (incoming 1 t a) (messageSize 2 t) ≡ done (blinderOne t half mm y coins a)
   takes1 = tests.blinder-first t by-itself (length lent) mm y (wordsFor (t .q) coins) (incoming 1 t a) (messageSize 2 t) .accepts (record {
     first = first-fits has (g .terms);
-    message = record { head-is = refl; residues = ra };
+    message = record { head-is = refl; residues = ra; last = early _ _ 1 refl };
     m-fits = g .m-fits;
     y-fits = g .y-fits;
     scratch-room = omega (arith, lent-length);
@@ -420,7 +488,7 @@ module _ (t : Terms) (half : List (List ℕ)) (mm y coins : List ℕ) (g : Blind
             session-open = record { is-open = omega arith; terms = g .terms; half = half-fits has1 };
             matrices-fit = subst (λ (ls : List (List ℕ)). Fits (t .q) (layout blinder (t .m) (t .k) (t .p)) ls) (sym (holding-matrices blinder IN-USE t half _ has1)) (g .fits);
           };
-          message = record { head-is = refl; residues = rb };
+          message = record { head-is = refl; residues = rb; last = early _ _ 3 refl };
           scratch-room = room;
           m-below = m-below;
           y-below = y-below;

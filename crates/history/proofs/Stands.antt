@@ -37,10 +37,10 @@ use Rattle.history.proofs.Views.{views}
 
 -- it fits the terms of the session that took it
 abbrev Fit : Step → Effect Session → Message → Type 0
-Fit k f a = Messages (termsIn (f .session)) (kindsSent (facing (roleOf k))) (a .residues ∷ [])
+Fit k f a = Messages (termsIn (f .session)) (kindsSent (facing (roleOf k)) (termsIn (f .session))) (a .residues ∷ [])
 
 heard-fit : (r : Row) (t : Terms) (ms : List Message) (a : Message) → Hears r t ms → ms ≡ a ∷ [] → sortOf (r .role) ≡ product
-    → Messages t (kindsSent (facing (r .role))) (a .residues ∷ [])
+    → Messages t (kindsSent (facing (r .role)) t) (a .residues ∷ [])
 heard-fit r t [] a h e p = absurd (let z : _≡_ {A = ℕ} 0 1 = cc in omega arith)
 heard-fit r t (m ∷ ms) a h e p =
     subst₂ (λ (ks : List ℕ) (m : Message). Messages t ks (m .residues ∷ [])) (sym (h .1 p)) (the-message e) (h .0 .residues before no-more)
@@ -52,11 +52,11 @@ taken-fit : (k : Step) (x : Session) (s : Slot) (u : List ℕ) (f : Effect Sessi
     → sortOf (roleOf k) ≡ product → Fit k f a
 taken-fit (begins t k) x s u f a h e p =
     let g = begins-sound t k s u f h in
-    subst (λ (t : Terms). Messages t (kindsSent (facing (roleFirst k))) (a .residues ∷ [])) (sym (g .terms-are))
+    subst (λ (t : Terms). Messages t (kindsSent (facing (roleFirst k)) t) (a .residues ∷ [])) (sym (g .terms-are))
     (heard-fit (firstRow k) t (takenFirst k) a (g .heard) e p)
 taken-fit (goes-on k) x s u f a h e p =
     let g = continues-sound k x s u f h in
-    subst (λ (t : Terms). Messages t (kindsSent (facing (roleLater k))) (a .residues ∷ [])) (sym (g .terms-are))
+    subst (λ (t : Terms). Messages t (kindsSent (facing (roleLater k)) t) (a .residues ∷ [])) (sym (g .terms-are))
     (heard-fit (laterRow k) (termsIn x) (takenLater k) a (g .heard) e p)
 
 -- the same message fits other terms with that tape
@@ -80,8 +80,15 @@ product-facing right e = refl
 product-facing blinder e = e
 product-facing solver e = e
 
+-- the kinds that an end of a product sends are the same on all terms
+product-kinds : (role : Role) (t t′ : Terms) → sortOf role ≡ product → kindsSent role t ≡ kindsSent role t′
+product-kinds left t t′ e = refl
+product-kinds right t t′ e = refl
+product-kinds blinder t t′ e = refl
+product-kinds solver t t′ e = in-system e
+
 -- an end of a product receives one message
-one-received : (role : Role) {t : Terms} {got : List (List ℕ)} → sortOf role ≡ product → Messages t (kindsSent (facing role)) got → length got ≤ 1 + ahead role
+one-received : (role : Role) {t : Terms} {got : List (List ℕ)} → sortOf role ≡ product → Messages t (kindsSent (facing role) t) got → length got ≤ 1 + ahead role
 one-received left e no-more = omega arith
 one-received left e (r before no-more) = omega arith
 one-received right e no-more = omega arith
@@ -135,15 +142,17 @@ module _ (size : Party → ℕ) (start : Party → List ℕ) (empty : Empty size
       let o = served size start empty lent cs p .of (c .step) (c .was-done) in
       let role = view l n .role in
       let s : sortOf (roleOf (c .step .step)) ≡ product = ap sortOf (c .other-end) ∙ product-facing role (c .in-product) in
-      let f : Messages (termsIn (st .sessions (c .step .name))) (kindsSent role) (a .residues ∷ []) =
-      subst₂ (λ (t : Terms) (r : Role). Messages t (kindsSent r) (a .residues ∷ [])) (sym (o .1)) (ap facing (c .other-end) ∙ facing-twice role)
+      let then = termsIn (st .sessions (c .step .name)) in
+      let f : Messages then (kindsSent role then) (a .residues ∷ []) =
+      subst₂ (λ (t : Terms) (r : Role). Messages t (kindsSent r t) (a .residues ∷ [])) (sym (o .1)) (ap facing (c .other-end) ∙ facing-twice role)
       (heard (c .step) (c .was-done) a (c .message) s)
       in
       record {
         terms-fit = k .terms-fit;
         half-fits = k .half-fits;
         mask-fits = k .mask-fits;
-        sent-fit = subst (λ (t : Terms). Messages t (kindsSent role) (a .residues ∷ [])) (sym (known n b .terms-are)) (same-tape (c .step .name) n (o .0) b (c .same-tape) f);
+        sent-fit = subst₂ (λ (t : Terms) (ks : List ℕ). Messages t ks (a .residues ∷ [])) (sym (known n b .terms-are)) (product-kinds role then (view l n .terms) (c .in-product))
+            (same-tape (c .step .name) n (o .0) b (c .same-tape) f);
         received-fit = k .received-fit;
         in-turn = one-received role (c .in-product) (k .received-fit);
         kept = λ y. in-system (sym y ∙ c .in-product);

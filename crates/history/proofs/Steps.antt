@@ -10,13 +10,15 @@ use mathlib.Core.Path.{_≡_, refl, sym, ap, _∙_, subst, subst₂}
 use mathlib.Core.Logic.{_⊎_, inl, inr, _↔_}
 use mathlib.Core.Bool.{Bool, true, false}
 use mathlib.Core.List.{List, [], _∷_, _++_}
-use Prim.Native.Nat.{ℕ, zero, suc, _*_}
+use Prim.Native.Nat.{ℕ, _*_}
 use native.Mathlib.Omega.{arith}
-use lib.ListN.{length}
-use Rattle.algebra.specs.Matrix.{zeros, matMul}
-use Rattle.algebra.specs.Count.{part}
+use lib.ListN.{length, getD}
+use lib.Seq.{take-all}
+use Rattle.algebra.specs.Matrix.{Residues, zeros, matMul}
+use Rattle.algebra.specs.Count.{parts, part}
 use Rattle.algebra.specs.Elimination.{regular}
 use Rattle.algebra.proofs.Lists.{residues-none}
+use Rattle.determinant.specs.Session.{answer}
 use Rattle.protocol.specs.declared.Terms.{Terms}
 use Rattle.protocol.specs.declared.SolverSession.{SolverSession}
 use Rattle.protocol.specs.declared.Answer.the-variants.{Refused}
@@ -24,34 +26,35 @@ use Rattle.protocol.specs.declared.Refusal.the-variants.{Singular}
 use Rattle.protocol.specs.Judge.{done}
 use Rattle.protocol.specs.Bounds.{system, columns}
 use Rattle.protocol.specs.Tape.{Slot, slotWords, Role, left, right, blinder, solver, sortOf, wordsSpent, matrices, READY, IN-USE}
-use Rattle.protocol.specs.Message.{Message, noMessage, messageSize, messageParts}
+use Rattle.protocol.specs.Message.{Message, noMessage, lastKind, messageLayout, messageSize, messageParts}
 use Rattle.protocol.specs.Step.{Effect}
 use Rattle.protocol.specs.Product.{closedRight, rightFirstEffect, leftEffect, rightLastEffect}
-use Rattle.protocol.specs.System.{closedSolver, closedBlinder, sideSize, scratchSize, scratchParts, coinsOf, jointSum, solverFirstEffect, blinderFirstEffect, solverSecondEffect, blinderSecondEffect, solverLastEffect, blinderLastEffect}
+use Rattle.protocol.specs.System.{closedSolver, closedBlinder, sideSize, scratchSize, scratchLayout, scratchParts, coinsOf, jointSum, solverFirstEffect, blinderFirstEffect, solverSecondEffect, blinderSecondEffect, solverLastEffect, blinderLastEffect, solverDeterminantEffect, blinderDeterminantEffect}
 use Rattle.protocol.specs.Drop.{dropped}
 use Rattle.protocol.specs.View.{View}
 use Rattle.protocol.specs.Completion.{takenTests}
 use Rattle.protocol.proofs.Judge.{passed}
 use Rattle.protocol.proofs.Residues.{input-residues}
 use Rattle.protocol.proofs.Tests.{Decides, TermsFit, OpenFits, MessageFits}
+use Rattle.protocol.proofs.SystemEnds.{last-late}
 use Rattle.protocol.proofs.StepTests as tests
 use Rattle.protocol.proofs.CompletionInputs.{taken-by-right, taken-by-left, taken-by-solver, taken-by-blinder}
 use Rattle.history.specs.Ends.{Session, leftEnd, rightEnd, solverEnd, blinderEnd, isBegun, dueIn, termsIn, roleIn, asRight, asSolver, asBlinder, First}
 use Rattle.history.specs.Ends.{right-first, left-only, solver-first, blinder-first, Later, right-last, solver-second, solver-last, blinder-second}
-use Rattle.history.specs.Ends.{blinder-last, right-drop, solver-drop, blinder-drop, kindOf, roleFirst, roleLater, asAny, runFirst, runLater, Step, begins}
+use Rattle.history.specs.Ends.{blinder-last, solver-determinant, blinder-determinant, Next, due, due-last, nextKind, right-drop, solver-drop, blinder-drop, kindOf, roleFirst, roleLater, asAny, runFirst, runLater, Step, begins}
 use Rattle.history.specs.Ends.{goes-on, runStep}
 use Rattle.history.specs.Seen.{takenLater, viewLater, viewFirst}
 use Rattle.history.specs.Claim.{Closes, Ends}
-use Rattle.history.proofs.Replay.{y-sent, x-sent, y1-sent, x1-sent, f-sent, w-sent, t-sent, said-is, incoming-whole, solver-none, blinder-one, right-sends, left-sends, SolverBegan, y1-is, BlinderBegan, x1-is}
+use Rattle.history.proofs.Replay.{y-sent, x-sent, y1-sent, x1-sent, f-sent, w-sent, t-sent, d-sent, said-is, incoming-whole, solver-none, blinder-one, right-sends, left-sends, SolverBegan, y1-is, BlinderBegan, x1-is}
 use Rattle.history.specs.Log.{World}
 use Rattle.history.specs.Right.{FairFirst}
-use Rattle.history.proofs.Accepted.{any-decides, firstRow, laterRow, Sends, in-system, Begins, began, coins-drawn, Continues, ownEnd, own-open, own-is, went, Waits}
+use Rattle.history.proofs.Accepted.{any-decides, firstRow, laterRow, Sends, in-system, Begins, began, coins-drawn, Continues, ownEnd, own-open, own-is, left-open, went, Waits}
 use Rattle.history.proofs.Known.{known-with, known-still, s-first, b-first, SeenBy, cut, Gave, half-now, first-known}
-use Rattle.history.proofs.KnownOn.{quiet, closed-solver, closed-blinder, open-short, drop-view, right-any, f-stage, t-stage, w-stage, z-stage}
-use Rattle.history.proofs.Needs.{Handed, FairBy, in-time, drop-needs, solver-needs, Coins, long-enough, blinder-needs}
+use Rattle.history.proofs.KnownOn.{quiet, closed-solver, closed-blinder, open-short, drop-view, right-any, f-stage, t-stage, d-stage, w-stage, z-stage}
+use Rattle.history.proofs.Needs.{Handed, FairBy, in-time, drop-needs, solver-needs, solver-last-needs, Coins, long-enough, own-p, blinder-needs}
 use Rattle.algebra.specs.Product.{rightShare}
 use Rattle.protocol.proofs.Completion.{no-more, _before_}
-use Rattle.protocol.proofs.Halves.{Holding, first-fits}
+use Rattle.protocol.proofs.Halves.{Holding, holding-matrices, first-fits}
 use Rattle.protocol.proofs.CompletionSystem.{taken-pair}
 
 -- ---- first steps
@@ -221,11 +224,24 @@ first-goes o handed t k s u terms held f = let law = first-law t k s u in (law .
 -- ---- later steps and drops
 
 -- t, or nothing where W + V is singular
-t-sends : (y : SolverSession) (s : Slot) (m : Message) → TermsFit system (y .terms) → (b : Bool) → regular (y .terms .q) (y .terms .m) (jointSum y s m) ≡ b
+t-sends : (y : SolverSession) (s : Slot) (m : Message) → TermsFit system (y .terms) → lastKind (y .terms .m) (y .terms .p) ≡ 5 → (b : Bool) → regular (y .terms .q) (y .terms .m) (jointSum y s m) ≡ b
     → let e = solverLastEffect y s m in
     ((e .sent ≡ noMessage) × ((_≡_ {A = ℕ} 5 0) ⊎ (e .answer ≡ Refused Singular))) ⊎ MessageFits 5 (y .terms) (e .sent)
-t-sends y s m t true e = inr (t-sent y s m t e)
-t-sends y s m t false e = inl (unfold solverLastEffect in (rw e, inr (rw e)))
+t-sends y s m t k true e = inr (t-sent y s m t k e)
+t-sends y s m t k false e = inl (unfold solverLastEffect in (rw e, inr (rw e)))
+
+-- message 6 is one part
+whole-six : (t : Terms) (a : List ℕ) → Residues (t .q) (messageSize 6 t) a → part 0 (cut 6 t a) ≡ a
+unfolding messageSize messageLayout parts
+whole-six t a r = take-all 1 a (omega (arith, r .size))
+
+-- the determinant that was received, divided by those of P and Q, in terms of the view
+determinant-of : (t : Terms) (v : View) (s : Slot) (u a : List ℕ) → Residues (t .q) (messageSize 6 t) a → matrices blinder t (slotWords s) ≡ v .half
+    → scratchParts t u ≡ scratchParts t (v .coins)
+    → answer (t .q) (t .m) (part 0 (scratchParts t u)) (part 2 (matrices blinder t (slotWords s))) (getD (part 0 (cut 6 t a)) 0 0) ∷ []
+    ≡ answer (t .q) (t .m) (part 0 (parts (scratchLayout t) (v .coins))) (part 2 (v .half)) (getD a 0 0) ∷ []
+unfolding scratchParts
+determinant-of t v s u a r e c = rw (e, c, whole-six t a r)
 
 -- y: the session, as its own end's
 pub record LaterLaw (k : Later) (x : Session) (s : Slot) (u : List ℕ) (y : Session) : Type 1 where
@@ -237,11 +253,11 @@ pub record LaterLaw (k : Later) (x : Session) (s : Slot) (u : List ℕ) (y : Ses
   pub seen : (v : View) → SeenBy y v → matrices (roleLater k) (termsIn y) (slotWords s) ≡ v .half
       → (roleLater k ≡ blinder → scratchParts (termsIn y) u ≡ scratchParts (termsIn y) (v .coins)) → Needs
       → SeenBy (effect .session) (viewLater v k effect) × Gave (laterRow k) (termsIn y) (effect .result) (viewLater v k effect)
-  pub met : (v : View) (ls : List (List ℕ)) → SeenBy y v → Holding (roleLater k) IN-USE (termsIn y) ls s → (roleLater k ≡ blinder → Coins v u) → FairBy y k
+  pub met : (v : View) (ls : List (List ℕ)) → v .half ≡ ls → SeenBy y v → Holding (roleLater k) IN-USE (termsIn y) ls s → (roleLater k ≡ blinder → Coins v u) → FairBy y k
       → Needs
 
 pub later-law : (k : Later) (x : Session) (s : Slot) (u : List ℕ) → LaterLaw k x s u (ownEnd (roleLater k) x)
-unfolding runLater rightLastEffect solverSecondEffect solverLastEffect blinderSecondEffect blinderLastEffect messageParts
+unfolding runLater rightLastEffect solverSecondEffect solverLastEffect solverDeterminantEffect blinderSecondEffect blinderLastEffect blinderDeterminantEffect messageParts
 later-law (right-last m room) x s u =
     let t = asRight x .terms in
     record {
@@ -267,7 +283,7 @@ later-law (right-last m room) x s u =
                   (part 1 (cut 2 t (m .residues))) (part 1 ls)) e,
             ),
           );
-      met = λ v ls sn held b f. record {
+      met = λ v ls own sn held b f. record {
         later = in-time 2 (asRight x .due) held (sn .known .terms-fit) (f .0) (omega arith);
         message = f .1;
         share-room = f .2;
@@ -282,18 +298,31 @@ later-law (solver-second m room) x s u = record {
       went x refl (n .later .session-open) (n .later .due-is, inr (omega arith)) (n .message, λ p. in-system p)
       (inr (f-sent (asSolver x) s m (n .later .session-open .terms)));
   seen = λ v sn e c n. (f-stage (asSolver x) v s m room sn n e (sn .stage), (refl, tt));
-  met = λ v ls sn held b f. solver-needs v s ls 2 m _ room (asSolver x) sn held (omega arith) f;
+  met = λ v ls own sn held b f. solver-needs v s ls 2 m _ room (asSolver x) sn held (omega arith) (f .0, f .1, f .2);
 }
 later-law (solver-last m room) x s u = record {
   waits = omega arith;
-  Needs = tests.SolverFits 4 (asSolver x) s m (messageSize 5 (asSolver x .terms)) room;
+  Needs = tests.SolverLastFits 5 (asSolver x) s m (messageSize 5 (asSolver x .terms)) room;
   effect = asAny solverEnd (solverLastEffect (asSolver x) s m);
   decides = any-decides solverEnd (tests.solver-last (asSolver x) s m room);
   known = λ n.
-      went x refl (n .later .session-open) (n .later .due-is, inl refl) (n .message, λ p. in-system p)
-      (t-sends (asSolver x) s m (n .later .session-open .terms) _ refl);
-  seen = λ v sn e c n. (closed-solver sn (t-stage (asSolver x) v s m room sn n e _ refl (sn .stage)), (refl, tt));
-  met = λ v ls sn held b f. solver-needs v s ls 4 m _ room (asSolver x) sn held (omega arith) f;
+      let later = n .fits .later in
+      went x refl (later .session-open) (later .due-is, inl refl) (n .fits .message, λ p. in-system p)
+      (t-sends (asSolver x) s m (later .session-open .terms) (n .sort-is) _ refl);
+  seen = λ v sn e c n. (closed-solver sn (t-stage (asSolver x) v s m room sn n e _ refl), (refl, tt));
+  met = λ v ls own sn held b f. solver-last-needs v s ls 5 m _ room (asSolver x) (omega arith) sn held f;
+}
+later-law (solver-determinant m room) x s u = record {
+  waits = omega arith;
+  Needs = tests.SolverLastFits 6 (asSolver x) s m (messageSize 6 (asSolver x .terms)) room;
+  effect = asAny solverEnd (solverDeterminantEffect (asSolver x) s m);
+  decides = any-decides solverEnd (tests.solver-determinant (asSolver x) s m room);
+  known = λ n.
+      let later = n .fits .later in
+      went x refl (later .session-open) (later .due-is, inl refl) (n .fits .message, λ p. in-system p)
+      (inr (d-sent (asSolver x) s m (later .session-open .terms) (n .sort-is)));
+  seen = λ v sn e c n. (closed-solver sn (d-stage (asSolver x) v s m room sn n e), (refl, tt));
+  met = λ v ls own sn held b f. solver-last-needs v s ls 6 m _ room (asSolver x) (omega arith) sn held f;
 }
 later-law (blinder-second m room) x s u = record {
   waits = omega arith;
@@ -301,12 +330,14 @@ later-law (blinder-second m room) x s u = record {
   effect = asAny blinderEnd (blinderSecondEffect (asBlinder x) s u m);
   decides = any-decides blinderEnd (tests.blinder-second (asBlinder x) s u m room);
   known = λ n.
-      went x refl (n .later .session-open) (n .later .due-is, inr (omega arith)) (n .message, λ p. in-system p)
+      let late = last-late (asBlinder x .terms .m) (asBlinder x .terms .p) in
+      went x (left-open _ (blinderEnd (asBlinder x)) s (omega (arith, late))) (n .later .session-open) (n .later .due-is, inr (omega (arith, late)))
+      (n .message, λ p. in-system p)
       (inr (w-sent (asBlinder x) s u m (n .later .session-open .terms)));
   seen = λ v sn e c n.
       let w = w-stage (asBlinder x) v s u m room sn n e (c refl) (sn .stage) in
-      (w, (refl, open-short _ (w .stage) (omega arith)));
-  met = λ v ls sn held b f. blinder-needs v u (b refl) s ls 3 m _ room (asBlinder x) sn held (omega arith) f;
+      (w, (refl, open-short _ (w .stage) (omega (arith, last-late (asBlinder x .terms .m) (asBlinder x .terms .p)))));
+  met = λ v ls own sn held b f. blinder-needs v u (b refl) s ls 3 m _ room (asBlinder x) sn held (omega arith) (f .0, f .1, f .2);
 }
 later-law (blinder-last m room) x s u =
     let t = asBlinder x .terms in
@@ -317,7 +348,7 @@ later-law (blinder-last m room) x s u =
       decides = any-decides blinderEnd (tests.blinder-last (asBlinder x) s u m room);
       known = λ n. went x refl (n .later .session-open) (n .later .due-is, inl refl) (n .message, λ p. in-system p) (inl (refl, inl refl));
       seen = λ v sn e c n.
-          let w = z-stage (asBlinder x) v m sn (n .later .due-is) (n .message) (sn .stage) in (
+          let w = z-stage 5 (asBlinder x) v m sn (omega arith) (n .later .due-is) (n .message) (sn .stage) in (
             closed-blinder sn (known-still (w .3) (quiet (v .sent)) refl),
             (
               refl,
@@ -326,9 +357,39 @@ later-law (blinder-last m room) x s u =
               m .residues,
               ap (λ (z : List (List ℕ)). z ++ (m .residues ∷ [])) (w .2),
               ap (λ (ls : List (List ℕ)). matMul (t .q) (t .m) (t .m) (columns (t .m) (t .p)) (part 2 ls) (part 0 (cut 5 t (m .residues)))) e,
+              w .4,
             ),
           );
-      met = λ v ls sn held b f. blinder-needs v u (b refl) s ls 5 m _ room (asBlinder x) sn held (omega arith) f;
+      met = λ v ls own sn held b f. blinder-needs v u (b refl) s ls 5 m _ room (asBlinder x) sn held (omega arith) (f .0, f .1, f .2);
+    }
+later-law (blinder-determinant m room) x s u =
+    let t = asBlinder x .terms in
+    record {
+      waits = omega arith;
+      Needs = tests.BlinderDeterminantFits (asBlinder x) s u m room;
+      effect = asAny blinderEnd (blinderDeterminantEffect (asBlinder x) s u m);
+      decides = any-decides blinderEnd (tests.blinder-determinant (asBlinder x) s u m room);
+      known = λ n.
+          let later = n .fits .later in
+          went x refl (later .session-open) (later .due-is, inl refl) (n .fits .message, λ p. in-system p) (inl (refl, inl refl));
+      seen = λ v sn e c n.
+          let w = z-stage 6 (asBlinder x) v m sn (omega arith) (n .fits .later .due-is) (n .fits .message) (sn .stage) in (
+            closed-blinder sn (known-still (w .3) (quiet (v .sent)) refl),
+            (
+              refl,
+              w .0,
+              w .1,
+              m .residues,
+              ap (λ (z : List (List ℕ)). z ++ (m .residues ∷ [])) (w .2),
+              determinant-of t v s u (m .residues) (n .fits .message .residues) e (c refl),
+              w .4,
+            ),
+          );
+      met = λ v ls own sn held b f. record {
+        fits = blinder-needs v u (b refl) s ls 6 m _ room (asBlinder x) sn held (omega arith) (f .0, f .1, f .2);
+        p-regular = ap (λ (z : List ℕ). regular (t .q) (t .m) z) (own-p v u (b refl) (asBlinder x) sn) ∙ sn .known .coins-fit;
+        q-regular = ap (λ (z : List (List ℕ)). regular (t .q) (t .m) (part 2 z)) (holding-matrices blinder IN-USE t ls s held ∙ sym own) ∙ sn .known .mask-fits;
+      };
     }
 later-law right-drop x s u = record {
   waits = refl;
@@ -337,7 +398,7 @@ later-law right-drop x s u = record {
   decides = any-decides rightEnd (tests.drop-right (asRight x) s);
   known = λ n. went x refl n refl refl (inl (refl, inl refl));
   seen = λ v sn e c n. drop-view (rightEnd (asRight x)) v sn (n .is-open);
-  met = λ v ls sn held b f. drop-needs held (sn .known .terms-fit) f;
+  met = λ v ls own sn held b f. drop-needs held (sn .known .terms-fit) f;
 }
 later-law solver-drop x s u = record {
   waits = refl;
@@ -346,7 +407,7 @@ later-law solver-drop x s u = record {
   decides = any-decides solverEnd (tests.drop-solver (asSolver x) s);
   known = λ n. went x refl n refl refl (inl (refl, inl refl));
   seen = λ v sn e c n. drop-view (solverEnd (asSolver x)) v sn (n .is-open);
-  met = λ v ls sn held b f. drop-needs held (sn .known .terms-fit) f;
+  met = λ v ls own sn held b f. drop-needs held (sn .known .terms-fit) f;
 }
 later-law blinder-drop x s u =
     let t = asBlinder x .terms in
@@ -357,7 +418,7 @@ later-law blinder-drop x s u =
       decides = any-decides blinderEnd (tests.drop-blinder (asBlinder x) s u);
       known = λ n. went x refl (n .session-open) refl refl (inl (refl, inl refl));
       seen = λ v sn e c n. drop-view (blinderEnd (asBlinder x)) v sn (n .session-open .is-open);
-      met = λ v ls sn held b f. record { session-open = drop-needs held (sn .known .terms-fit) f; scratch-room = long-enough v u (b refl) (asBlinder x) sn };
+      met = λ v ls own sn held b f. record { session-open = drop-needs held (sn .known .terms-fit) f; scratch-room = long-enough v u (b refl) (asBlinder x) sn };
     }
 
 -- an accepted one: its needs were met, its effect is the definition's, and the session that it was called for is its own end's
@@ -386,14 +447,14 @@ later-seen k x v s u f sn h e c =
     in
     subst₂ (λ (t : Terms) (f : Effect Session). SeenBy (f .session) (viewLater v k f) × Gave (laterRow k) t (f .result) (viewLater v k f)) t (m .1) both
 
-pub later-goes : (v : View) (s : Slot) (ls : List (List ℕ)) (u : List ℕ) (k : Later) (x : Session) → isBegun x ≡ true → roleIn x ≡ roleLater k → SeenBy x v
+pub later-goes : (v : View) (s : Slot) (ls : List (List ℕ)) (u : List ℕ) (k : Later) (x : Session) → v .half ≡ ls → isBegun x ≡ true → roleIn x ≡ roleLater k → SeenBy x v
     → Holding (roleLater k) IN-USE (termsIn x) ls s → (roleLater k ≡ blinder → Coins v u) → FairBy x k → (f : Effect Session) × (runLater k x s u ≡ done f)
-later-goes v s ls u k x b r seen held c f =
+later-goes v s ls u k x h b r seen held c f =
     let law = later-law k x s u in
     let own : ownEnd (roleLater k) x ≡ x = subst (λ (r : Role). ownEnd r x ≡ x) r (own-is x b) in
     let needs : law .Needs =
     subst (λ (y : Session). SeenBy y v → Holding (roleLater k) IN-USE (termsIn y) ls s → (roleLater k ≡ blinder → Coins v u) → FairBy y k → law .Needs) own
-    (law .met v ls)
+    (law .met v ls h)
     seen held c f
     in
     (law .effect, law .decides .accepts needs)
@@ -404,11 +465,11 @@ pub step-sends : (k : Step) (x : Session) (s : Slot) (u : List ℕ) (e : Effect 
 step-sends (begins t k) x s u e h = begins-sound t k s u e h .sends
 step-sends (goes-on k) x s u e h = continues-sound k x s u e h .sends
 
-closes-by : (d next : ℕ) → d ≡ next → (d ≡ 0) ↔ Closes next
-closes-by d zero e = (λ z. tt, λ z. e)
-closes-by d (suc n) e = (λ z. omega (arith, z, e), λ z. absurd z)
+closes-by : (d : ℕ) (next : Next) (t : Terms) → d ≡ nextKind next t → (d ≡ 0) ↔ Closes next
+closes-by d (due kind) t e = (λ z. sym e ∙ z, λ z. e ∙ z)
+closes-by d due-last t e = (λ z. absurd (omega (arith, z, e, last-late (t .m) (t .p))), λ z. absurd z)
 
 -- it leaves 0 due exactly where it is one of those that end a session
 pub step-ends : (k : Step) (x : Session) (s : Slot) (u : List ℕ) (e : Effect Session) → runStep k x s u ≡ done e → (dueIn (e .session) ≡ 0) ↔ Ends k
-step-ends (begins t k) x s u e h = closes-by (dueIn (e .session)) (firstRow k .next) (begins-sound t k s u e h .due-is)
-step-ends (goes-on k) x s u e h = closes-by (dueIn (e .session)) (laterRow k .next) (continues-sound k x s u e h .due-is)
+step-ends (begins t k) x s u e h = closes-by (dueIn (e .session)) (firstRow k .next) t (begins-sound t k s u e h .due-is)
+step-ends (goes-on k) x s u e h = closes-by (dueIn (e .session)) (laterRow k .next) (termsIn x) (continues-sound k x s u e h .due-is)

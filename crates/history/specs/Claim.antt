@@ -10,7 +10,7 @@ use mathlib.Core.Logic.{_≢_, _↔_}
 use mathlib.Core.Bool.{true}
 use mathlib.Core.List.{List, [], _∷_, _++_}
 use mathlib.Core.Option.{Option, some, none}
-use Prim.Native.Nat.{ℕ, zero, suc, _*_, _/_, _≤_, _<_}
+use Prim.Native.Nat.{ℕ, suc, _*_, _/_, _≤_, _<_}
 use native.Mathlib.Decide.{ℕ-discrete}
 use lib.ListN.{length, drop}
 use Rattle.protocol.specs.Judge.{done}
@@ -18,7 +18,7 @@ use Rattle.protocol.specs.Deal.{Dealt, deal}
 use Rattle.protocol.specs.Tape.{isSlot, slotWords, statusOf, EMPTY, blinder}
 use Rattle.protocol.specs.View.{View}
 use Rattle.protocol.specs.Completion.{Secret}
-use Rattle.history.specs.Ends.{Session, absent, isBegun, dueIn, roleIn, First, Later, Step, begins, goes-on, StepKind, kind-eq, row, kindFirst, kindLater}
+use Rattle.history.specs.Ends.{Session, absent, isBegun, dueIn, roleIn, First, Later, Step, begins, goes-on, StepKind, kind-eq, Next, due, due-last, row, kindFirst, kindLater}
 use Rattle.history.specs.Ends.{kindOf, roleOf, runStep}
 use Rattle.history.specs.Log.{choose, both?, Party, opposite, Call, dealing, beginning, continuing, Dealing, Did, Entry, dealt, did, World, begunIn, slotOf, run, halfRole, holds, here, place, WasDone, lentTo, Premises}
 use Rattle.history.specs.Contents.{halfWords, tenant, scratchWords}
@@ -58,9 +58,9 @@ current (dealt d ∷ l) n = current l n
 current (did e ∷ l) n = choose (ℕ-discrete (e .name) n) (e .effect .session) (current l n)
 
 -- no message is due next
-abbrev pub Closes : (next : ℕ) → Type 0
-Closes zero = Unit
-Closes (suc _) = ⊥
+abbrev pub Closes : Next → Type 0
+Closes (due kind) = kind ≡ 0
+Closes due-last = ⊥
 
 -- the steps that end a session: each end's last, which for the solver may be refused by 10, and drops. Left's one step begins and ends it
 abbrev pub EndsFirst : First → Type 0

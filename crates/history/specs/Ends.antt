@@ -16,10 +16,10 @@ use Rattle.protocol.specs.declared.BlinderSession.{BlinderSession}
 use Rattle.protocol.specs.Judge.{refused, done}
 use Rattle.protocol.specs.Drawing.{drawn}
 use Rattle.protocol.specs.Tape.{Slot, Role, left, right, blinder, solver}
-use Rattle.protocol.specs.Message.{Message, noTerms, messageSize}
+use Rattle.protocol.specs.Message.{Message, noTerms, lastKind, messageSize}
 use Rattle.protocol.specs.Step.{Effect, Outcome}
 use Rattle.protocol.specs.Product.{noRight, rightFirst, leftStep, rightLast}
-use Rattle.protocol.specs.System.{noSolver, noBlinder, sideSize, coinsOf, solverFirst, blinderFirst, solverSecond, blinderSecond, solverLast, blinderLast}
+use Rattle.protocol.specs.System.{noSolver, noBlinder, sideSize, coinsOf, solverFirst, blinderFirst, solverSecond, blinderSecond, solverLast, blinderLast, solverDeterminant, blinderDeterminant}
 use Rattle.protocol.specs.Drop.{dropRight, dropSolver, dropBlinder}
 
 -- ---- sessions
@@ -95,6 +95,7 @@ pub data First : Type 0 where
 -- later steps and drops, with what each is handed besides session, slot and scratch
 pub data Later : Type 0 where
   right-last solver-second solver-last blinder-second blinder-last : Message → (room : ℕ) → Later
+  solver-determinant blinder-determinant : Message → (room : ℕ) → Later
   right-drop solver-drop blinder-drop : Later
 
 -- the same effect, with its session as one of any end
@@ -111,6 +112,7 @@ ofAny f (done e) = done (asAny f e)
 pub data StepKind : Type 0 where
   first-right only-left first-solver first-blinder : StepKind
   last-right second-solver last-solver second-blinder last-blinder : StepKind
+  determinant-solver determinant-blinder : StepKind
   drop-right drop-solver drop-blinder : StepKind
   deriving Discrete as kind-eq
 
@@ -118,32 +120,43 @@ pub data StepKind : Type 0 where
 pub data Turn : Type 0 where
   opens awaits drops : Turn
 
--- what a step gives its caller: a share is left's or right's, and the solution is the blinder's
+-- what a step gives its caller: a share is left's or right's, and the solution or the determinant is the blinder's
 pub data Result : Type 0 where
-  no-result left-share right-share solution : Result
+  no-result left-share right-share solution determinant : Result
 
--- what each of them is. Messages by their kinds: the one that it takes, the one that it sends, and the one that is due after it, 0 where it ends its session
+-- the message that is due after a step: one of this kind, 0 where the step ends its session, or the solver's last one, which the terms tell
+pub data Next : Type 0 where
+  due : (kind : ℕ) → Next
+  due-last : Next
+
+abbrev pub nextKind : Next → Terms → ℕ
+nextKind (due kind) t = kind
+nextKind due-last t = lastKind (t .m) (t .p)
+
+-- what each of them is. Messages by their kinds: the one that it takes, the one that it sends, and the one that is due after it
 pub record Row : Type 0 where
   pub role : Role
   pub turn : Turn
   pub takes : ℕ
   pub sends : ℕ
   pub gives : Result
-  pub next : ℕ
+  pub next : Next
 
 abbrev pub row : StepKind → Row
-row first-right = record { role = right; turn = opens; takes = 0; sends = 1; gives = no-result; next = 2 }
-row only-left = record { role = left; turn = opens; takes = 1; sends = 2; gives = left-share; next = 0 }
-row first-solver = record { role = solver; turn = opens; takes = 0; sends = 1; gives = no-result; next = 2 }
-row first-blinder = record { role = blinder; turn = opens; takes = 1; sends = 2; gives = no-result; next = 3 }
-row last-right = record { role = right; turn = awaits; takes = 2; sends = 0; gives = right-share; next = 0 }
-row second-solver = record { role = solver; turn = awaits; takes = 2; sends = 3; gives = no-result; next = 4 }
-row last-solver = record { role = solver; turn = awaits; takes = 4; sends = 5; gives = no-result; next = 0 }
-row second-blinder = record { role = blinder; turn = awaits; takes = 3; sends = 4; gives = no-result; next = 5 }
-row last-blinder = record { role = blinder; turn = awaits; takes = 5; sends = 0; gives = solution; next = 0 }
-row drop-right = record { role = right; turn = drops; takes = 0; sends = 0; gives = no-result; next = 0 }
-row drop-solver = record { role = solver; turn = drops; takes = 0; sends = 0; gives = no-result; next = 0 }
-row drop-blinder = record { role = blinder; turn = drops; takes = 0; sends = 0; gives = no-result; next = 0 }
+row first-right = record { role = right; turn = opens; takes = 0; sends = 1; gives = no-result; next = due 2 }
+row only-left = record { role = left; turn = opens; takes = 1; sends = 2; gives = left-share; next = due 0 }
+row first-solver = record { role = solver; turn = opens; takes = 0; sends = 1; gives = no-result; next = due 2 }
+row first-blinder = record { role = blinder; turn = opens; takes = 1; sends = 2; gives = no-result; next = due 3 }
+row last-right = record { role = right; turn = awaits; takes = 2; sends = 0; gives = right-share; next = due 0 }
+row second-solver = record { role = solver; turn = awaits; takes = 2; sends = 3; gives = no-result; next = due 4 }
+row last-solver = record { role = solver; turn = awaits; takes = 4; sends = 5; gives = no-result; next = due 0 }
+row second-blinder = record { role = blinder; turn = awaits; takes = 3; sends = 4; gives = no-result; next = due-last }
+row last-blinder = record { role = blinder; turn = awaits; takes = 5; sends = 0; gives = solution; next = due 0 }
+row determinant-solver = record { role = solver; turn = awaits; takes = 4; sends = 6; gives = no-result; next = due 0 }
+row determinant-blinder = record { role = blinder; turn = awaits; takes = 6; sends = 0; gives = determinant; next = due 0 }
+row drop-right = record { role = right; turn = drops; takes = 0; sends = 0; gives = no-result; next = due 0 }
+row drop-solver = record { role = solver; turn = drops; takes = 0; sends = 0; gives = no-result; next = due 0 }
+row drop-blinder = record { role = blinder; turn = drops; takes = 0; sends = 0; gives = no-result; next = due 0 }
 
 -- a first step with what it is handed: its input, the coins that it draws, its message if it takes one, and the definition that it runs.
 -- `scratch`: what the caller lends; of no account but to a blinder
@@ -198,6 +211,20 @@ going (blinder-second a room) = record {
 }
 going (blinder-last a room) =
     record { kind = last-blinder; taken = a ∷ []; writes = sideSize; room = room; runs = λ x s u. ofAny blinderEnd (blinderLast (asBlinder x) s u a room) }
+going (solver-determinant a room) = record {
+  kind = determinant-solver;
+  taken = a ∷ [];
+  writes = messageSize 6;
+  room = room;
+  runs = λ x s u. ofAny solverEnd (solverDeterminant (asSolver x) s a room);
+}
+going (blinder-determinant a room) = record {
+  kind = determinant-blinder;
+  taken = a ∷ [];
+  writes = messageSize 6;
+  room = room;
+  runs = λ x s u. ofAny blinderEnd (blinderDeterminant (asBlinder x) s u a room);
+}
 going right-drop = record { kind = drop-right; taken = []; writes = λ t. 0; room = 0; runs = λ x s u. ofAny rightEnd (dropRight (asRight x) s) }
 going solver-drop = record { kind = drop-solver; taken = []; writes = λ t. 0; room = 0; runs = λ x s u. ofAny solverEnd (dropSolver (asSolver x) s) }
 going blinder-drop = record { kind = drop-blinder; taken = []; writes = λ t. 0; room = 0; runs = λ x s u. ofAny blinderEnd (dropBlinder (asBlinder x) s u) }

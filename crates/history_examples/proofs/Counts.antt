@@ -15,9 +15,10 @@ use Rattle.algebra.specs.Elimination.{inverse, solution, units}
 use Rattle.algebra.specs.System.{sumVector}
 use Rattle.algebra.proofs.Pairs.{pairTest, pairs}
 use Rattle.protocol.specs.declared.Terms.{Terms}
+use Rattle.protocol.specs.Bounds.{columns}
 use Rattle.protocol.specs.Tape.{Role, right, blinder, solver}
-use Rattle.protocol.specs.Completion.{completions, Taken, jointMatrix, jointVector}
-use Rattle.protocol.proofs.CompletionNumbers.{Numbers, numbers, solvedMatrix, solvedVector}
+use Rattle.protocol.specs.Completion.{completions, Taken, jointMatrix}
+use Rattle.protocol.proofs.CompletionNumbers.{Numbers, numbers, solvedMatrix, solvedVector, jointSides}
 use Rattle.history.specs.Ends.{isBegun}
 use Rattle.history.specs.Log.{Call, Premises}
 use Rattle.history.specs.Seen.{view}
@@ -79,7 +80,7 @@ pub solver-waits : (i : List (List ℕ)) → completions (view (after answering 
 solver-waits i =
     let s = stages .1 in
     numbers-at answering answering-kept 1 (s .0) .solver-waits (s .1) (s .3) i
-    ∙ ap (λ (t : Terms). units (t .q) (t .m) * (units (t .q) (t .m) * t .q ^ (t .m * t .m + t .m * (t .m + 1)))) (s .2)
+    ∙ ap (λ (t : Terms). units (t .q) (t .m) * (units (t .q) (t .m) * t .q ^ (t .m * t .m + t .m * t .p))) (s .2)
     ∙ ap (λ (u : ℕ). u * (u * 5 ^ 3)) four-units
 
 -- and after it: 4 × 4, for its own input of the blinder and for another
@@ -121,7 +122,7 @@ blinder-after-3 = (after-3 _ (taken .3), after-3 _ (taken .4))
 abbrev pairsFor : List (List ℕ) → ℕ
 pairsFor i =
     let v = view (after calls .log) 1 in
-    pairs (v .terms .q) (v .terms .m) 1 (jointMatrix v i) (jointVector v i) (solvedMatrix v) (solvedVector v)
+    pairs (v .terms .q) (v .terms .m) (columns (v .terms .m) (v .terms .p)) (jointMatrix v i) (jointSides v i) (solvedMatrix v) (solvedVector v)
 
 pairs-are : (pairsFor ((1 ∷ []) ∷ (1 ∷ []) ∷ []) ≡ 1) × (pairsFor ((2 ∷ []) ∷ (3 ∷ []) ∷ []) ≡ 1) × (pairsFor ((1 ∷ []) ∷ (2 ∷ []) ∷ []) ≡ 0)
 unfolding list-rules units count sumLists countParts pairs pairTest eqList idMat areInverse hasInverse sumVector

@@ -22,7 +22,7 @@ use Rattle.protocol.specs.Deal.{Request, productRequest, systemRequest, deal, d
 use Rattle.protocol.specs.Message.{Message}
 use Rattle.protocol.specs.Step.{answerNumber, answerAfter}
 use Rattle.protocol.specs.View.{View, facing, kindsSent, Finished}
-use Rattle.protocol.specs.Completion.{completions, Counted, solutionFor, answerSeen}
+use Rattle.protocol.specs.Completion.{completions, Counted, answerFor, answerSeen}
 use Rattle.history.specs.Ends.{Session, isBegun, dueIn, roleIn, right-first, left-only, solver-first, blinder-first, right-last, solver-second, solver-last, blinder-second, blinder-last, right-drop, solver-drop, blinder-drop, Step, goes-on, runFirst, runLater}
 use Rattle.history.specs.Log.{Party, first, second, opposite, Call, dealing, beginning, continuing, Dealing, Did, Entry, dealt, did, World, begunIn, slotOf, run, halfRole, holds, WasDealt, numberOf, Distinct, Premises}
 use Rattle.history.specs.Contents.{half}
@@ -67,7 +67,7 @@ abbrev pub a-product : (tape : ℕ) → Request
 a-product i = productRequest (record { 0 = i }) 7 1 2 1 (1 ∷ 4 ∷ 6 ∷ 3 ∷ 2 ∷ [])
 
 abbrev pub a-system : (tape : ℕ) → Request
-a-system i = systemRequest (record { 0 = i }) 5 1 (1 ∷ 4 ∷ 2 ∷ 0 ∷ 3 ∷ 3 ∷ 2 ∷ 1 ∷ [])
+a-system i = systemRequest (record { 0 = i }) 5 1 2 (1 ∷ 4 ∷ 2 ∷ 0 ∷ 3 ∷ 3 ∷ 2 ∷ 1 ∷ [])
 
 -- Each part of the list comes before those that follow it in time, newest first in each. Sessions have their names from 0 up, as their first steps are accepted.
 -- A system whose sum is singular: its solver is session 0 of the first party, its blinder session 1 of the second, on scratch 3
@@ -336,13 +336,13 @@ right-counts = record { taken = refl; sum = refl }
 
 -- both are finished, and the blinder has seen the solution
 ended : (isBegun (end .state .sessions 3) ≡ true) × (view (end .log) 3 .role ≡ blinder) × (length (view (end .log) 3 .received) ≡ 3)
-    × (answerSeen (view (end .log) 3) ≡ 3 ∷ []) × (solutionFor (view (end .log) 3) ((2 ∷ []) ∷ (3 ∷ []) ∷ []) ≡ 3 ∷ [])
+    × (answerSeen (view (end .log) 3) ≡ 3 ∷ []) × (answerFor (view (end .log) 3) ((2 ∷ []) ∷ (3 ∷ []) ∷ []) ≡ 3 ∷ [])
     × (isBegun (end .state .sessions 4) ≡ true) × (view (end .log) 4 .role ≡ right) × (length (view (end .log) 4 .received) ≡ 1)
 unfolding list-rules
 ended = (refl, refl, refl, refl, refl, refl, refl, refl)
 
-pub finished-by : (v : View) (r : Role) (n : ℕ) → v .role ≡ r → length (v .received) ≡ n → n ≡ length (kindsSent (facing r)) → Finished v
-finished-by v r n e l h = l ∙ h ∙ ap (λ (r : Role). length (kindsSent (facing r))) (sym e)
+pub finished-by : (v : View) (r : Role) (n : ℕ) → v .role ≡ r → length (v .received) ≡ n → n ≡ length (kindsSent (facing r) (v .terms)) → Finished v
+finished-by v r n e l h = l ∙ h ∙ ap (λ (r : Role). length (kindsSent (facing r) (v .terms))) (sym e)
 
 -- so each of these inputs has one completion
 pub counted-once : (completions (view (end .log) 3) ((2 ∷ []) ∷ (3 ∷ []) ∷ []) ≡ 1) × (completions (view (end .log) 4) ((3 ∷ 5 ∷ []) ∷ []) ≡ 1)
@@ -375,8 +375,8 @@ Ends-here o r n n′ i a sent′ b sent =
 pub paired : (o : World) (r : Role) (n n′ i : ℕ) (a sent′ b sent : List (List ℕ)) → Ends-here o r n n′ i a sent′ b sent → Paired o r n n′
 paired o r n n′ i a sent′ b sent h = record { begun = h .0; other-begun = h .1; role-is = h .2; other-role = h .3; same-tape = h .4 ∙ sym (h .5) }
 
-pub arrived : (o : World) (r : Role) (n n′ i : ℕ) (a b : List (List ℕ)) → Ends-here o r n n′ i a a b b → length a ≡ length (kindsSent (facing r))
-    → length b ≡ length (kindsSent (facing (facing r))) → Arrived (view (o .log) n) (view (o .log) n′)
+pub arrived : (o : World) (r : Role) (n n′ i : ℕ) (a b : List (List ℕ)) → Ends-here o r n n′ i a a b b → length a ≡ length (kindsSent (facing r) (view (o .log) n .terms))
+    → length b ≡ length (kindsSent (facing (facing r)) (view (o .log) n′ .terms)) → Arrived (view (o .log) n) (view (o .log) n′)
 arrived o r n n′ i a b h la lb = record {
   finished = finished-by (view (o .log) n) r (length a) (h .2) (ap length (h .6)) la;
   other-finished = finished-by (view (o .log) n′) (facing r) (length b) (h .3) (ap length (h .8)) lb;
@@ -410,7 +410,7 @@ product-here = subst₂ (AddTo (view (end .log) 5) (view (end .log) 4)) (gave .0
 
 pub system-here : OnlySolution (view (end .log) 3) (view (end .log) 2) (3 ∷ [])
 system-here = subst (OnlySolution (view (end .log) 3) (view (end .log) 2)) (gave .2)
-    (right-here .system 3 2 (paired end blinder 3 2 7 _ _ _ _ system-met) (arrived end blinder 3 2 7 _ _ system-met refl refl))
+    (right-here .system 3 2 (paired end blinder 3 2 7 _ _ _ _ system-met) (unfold list-rules in refl) (arrived end blinder 3 2 7 _ _ system-met refl refl))
 
 -- and the singular sum was answered by 10: the solver's last step was handed message 4 as it was sent
 abbrev stepIn : Option Did → Option Step

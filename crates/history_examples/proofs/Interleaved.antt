@@ -31,6 +31,7 @@ use Rattle.protocol.specs.Step.{Outcome}
 use Rattle.protocol.specs.System.{scratchSize, coinsOf, scratchParts}
 use Rattle.protocol.specs.View.{View, facing}
 use Rattle.protocol.specs.Completion.{said, Taken}
+use Rattle.protocol.proofs.Tests.{early}
 use Rattle.history.specs.Ends.{Session, Step, dueIn, right-first, left-only, solver-first, blinder-first, right-last, solver-second, solver-last, blinder-second, blinder-last, solver-drop, begins, goes-on, runStep, First, Later}
 use Rattle.history.specs.Log.{Party, first, second, opposite, Call, dealing, beginning, continuing, tryStep, begunIn, Dealing, Did, Entry, dealt, did, World}
 use Rattle.history.specs.Log.{slotOf, advanceDealing, advanceStep, advance, run, halfRole, holds, Premises, choose, party-eq, roleBy, Place, untouched, place}
@@ -240,7 +241,7 @@ second-product =
 pub the-system : OnlySolution (view (after calls .log) 4) (view (after calls .log) 1) (3 ∷ [])
 the-system =
     subst (OnlySolution (view (after calls .log) 4) (view (after calls .log) 1)) (gave .4)
-    (right-here .system 4 1 (paired (after calls) blinder 4 1 2 _ _ _ _ (ends .2)) (arrived (after calls) blinder 4 1 2 _ _ (ends .2) refl refl))
+    (right-here .system 4 1 (paired (after calls) blinder 4 1 2 _ _ _ _ (ends .2)) (unfold list-rules in refl) (arrived (after calls) blinder 4 1 2 _ _ (ends .2) refl refl))
 
 -- ---- what is read off a place and off a session's newest step
 
@@ -375,7 +376,7 @@ right-taken =
     halfway-right .later-taken (right-last (msg 2 (product-terms 1) (4 ∷ 2 ∷ 3 ∷ [])) 1) first 0 0 0 (d .0) (d .1) (role-there first second (d .0) (a-product 1) (d .2) (d .3))
     (λ e. other-role e (λ e. cc))
     (subst (λ (t : Terms). FairLater (after halfway) t (dueIn (after halfway .state .sessions 0)) (right-last (msg 2 (product-terms 1) (4 ∷ 2 ∷ 3 ∷ [])) 1)) (sym (f .8))
-    (f .10, sent-last (after halfway) right (product-terms 1) 2 3 _ (f .0) (f .1) (f .2) refl, omega arith))
+    (f .10, sent-last (after halfway) right (product-terms 1) 2 3 _ (f .0) (f .1) (f .2) refl, omega arith, early _ _ 0 refl))
 
 pub blinder-goes-on : TakenNow sizes (after halfway) first 1 3 4 (goes-on (blinder-second (msg 3 (system-terms 2) (4 ∷ [])) 2))
 blinder-goes-on =
@@ -384,7 +385,7 @@ blinder-goes-on =
     halfway-right .later-taken (blinder-second (msg 3 (system-terms 2) (4 ∷ [])) 2) first 1 3 4 (d .0) (d .1)
     (role-there first first (d .0) (a-system 2) (d .2) (d .3)) (λ e. f .12)
     (subst (λ (t : Terms). FairLater (after halfway) t (dueIn (after halfway .state .sessions 4)) (blinder-second (msg 3 (system-terms 2) (4 ∷ [])) 2)) (sym (f .9))
-    (f .11, sent-last (after halfway) blinder (system-terms 2) 3 1 _ (f .3) (f .4) (f .5) refl, omega (arith, f .13)))
+    (f .11, sent-last (after halfway) blinder (system-terms 2) 3 1 _ (f .3) (f .4) (f .5) refl, omega (arith, f .13), early _ _ 4 refl))
 
 -- the blinder's half lies somewhere, and serves session 4; by `halfway-facts` at the first party's place 1
 pub blinder-home : (w : Party) × (i : ℕ) × (d : Dealing) × (place (after halfway .log) w i ≡ holds d (some 4)) × (halfRole w d ≡ blinder)

@@ -31,7 +31,7 @@ use Rattle.protocol.proofs.Judge.{passed}
 use Rattle.protocol.proofs.Residues.{input-residues}
 use Rattle.protocol.proofs.Halves.{Holding, holding-matrices, first-fits}
 use Rattle.protocol.proofs.Messages.{message-parts, own-message}
-use Rattle.protocol.proofs.Tests.{TermsFit}
+use Rattle.protocol.proofs.Tests.{early, TermsFit}
 use Rattle.protocol.proofs.StepTests.{right-first, left-step}
 use Rattle.protocol.proofs.CompletionDealt.{left-dealt, right-dealt, left-held, right-held}
 use Rattle.protocol.proofs.CompletionLaws.{first-of, second-of, same-count, drawn-own, drawn-enough, message-fits, incoming-is, first-test, both-true, then-accepted, said-message, viewOf}
@@ -68,7 +68,7 @@ module _ (t : Terms) (terms : TermsFit product t) where
     unfolding y1
     left-accepts = left-step t s (part 0 input) (wordsFor (t .q) u) (messageOf 1 t y1) (messageSize 2 t) (t .m * t .p) .accepts (record {
       first = first-fits h terms;
-      message = own-message 1 t y1 (message-fits 1 t a ra);
+      message = own-message 1 t y1 (message-fits 1 t a ra) (early _ _ 1 refl);
       x-fits = input-residues (t .q) (t .m * t .k) (part 0 input) (passed (takenTests left t input) taken .0);
       message-room = le-refl _;
       share-room = le-refl _;

@@ -1,5 +1,6 @@
 -- What the ends of a system send, by their own steps, on whatever residues they get: algebra's formulas. Assumes nothing.
--- solver-sends-one, solver-sends-two, solver-sends-all   the solver's messages, as far as the messages that it gets carry it
+-- solver-sends-one, solver-sends-two                     the solver's messages, as far as the messages that it gets carry it
+-- solver-sends-all, solver-sends-determinant             all of them, in a system and in a determinant session; solver-sends-last: in either
 -- blinder-sends-one, blinder-sends-all                   the blinder's
 use mathlib.Core.Path.{_≡_, refl, _∙_}
 use mathlib.Core.Bool.{Bool, true, false, cond}
@@ -7,6 +8,7 @@ use mathlib.Core.List.{List, [], _∷_, _++_}
 use Prim.Native.Nat.{ℕ, _+_, _*_}
 use native.Mathlib.Nat.{le-refl}
 use native.Mathlib.Omega.{arith}
+use lib.Dec.{eqb}
 use lib.ListN.{length, take}
 use Rattle.algebra.specs.Matrix.{Residues, zeros}
 use Rattle.algebra.specs.Count.{parts, part, join}
@@ -15,6 +17,8 @@ use Rattle.algebra.specs.Elimination.{regular, solution}
 use Rattle.algebra.specs.Product.{sendY, sendX, sendR}
 use Rattle.algebra.specs.System.{solverShare, sendF, sendW, sendC, sumMatrix, sumVector}
 use Rattle.algebra.specs.Words.{over}
+use Rattle.determinant.specs.Determinant.{det}
+use Rattle.determinant.specs.Session.{sendD}
 use Rattle.algebra.proofs.Lists.{length-tabulate}
 use Rattle.algebra.proofs.Parts.{Fits, none, _then_, fits-join, parts-join}
 use Rattle.protocol.specs.declared.SessionId.{SessionId}
@@ -23,14 +27,14 @@ use Rattle.protocol.specs.declared.Terms.{Terms}
 use Rattle.protocol.specs.Drawing.{wordsFor}
 use Rattle.protocol.specs.Bounds.{system, inputTests}
 use Rattle.protocol.specs.Tape.{Slot, blinder, solver, READY}
-use Rattle.protocol.specs.Message.{noMessage, messageOf, messageLayout, messageSize}
-use Rattle.protocol.specs.System.{sideSize, scratchSize, scratchParts, regularTests, coinsOf, solverFirstEffect, blinderFirstEffect, solverSecondEffect, solverSecond, blinderSecond, solverLast}
+use Rattle.protocol.specs.Message.{noMessage, messageOf, lastKind, messageLayout, messageSize}
+use Rattle.protocol.specs.System.{sideSize, scratchSize, scratchParts, regularTests, coinsOf, solverFirstEffect, blinderFirstEffect, solverSecondEffect, solverSecond, blinderSecond, solverEnding}
 use Rattle.protocol.specs.Completion.{incoming, said, andThen, hearing, solverMessages, blinderMessages, Taken, pairTests}
 use Rattle.protocol.proofs.Judge.{all-split, passed}
 use Rattle.protocol.proofs.Tests.{TermsFit}
 use Rattle.protocol.proofs.Residues.{input-residues}
 use Rattle.protocol.proofs.Halves.{Holding}
-use Rattle.protocol.proofs.SystemEnds.{wideTerms, SolverEnd, BlinderEnd, y1, step1, sent1, solver1, slot1, slot3, share, f, solver3, sum, target, step3, sent3, session3, step5, sent5, coins, pm, u0, x1, blinder2, r1, w, c, slot2, step2, sent2, step4, sent4}
+use Rattle.protocol.proofs.SystemEnds.{wideTerms, system-kind, determinant-kind, ending-system, ending-determinant, SolverEnd, BlinderEnd, y1, step1, sent1, solver1, slot1, slot3, share, f, solver3, sum, target, step3, sent3, session3, step5, sent5, step5-determinant, sent5-determinant, coins, pm, u0, x1, blinder2, r1, w, c, slot2, step2, sent2, step4, sent4}
 use Rattle.protocol.proofs.CompletionLaws.{drawn-own, drawn-enough, message-fits, incoming-is, then-accepted, said-message}
 
 -- ---- the inputs that the steps take
@@ -83,7 +87,7 @@ module _ (session : SessionId) (tape : TapeId) (q n rhs : ℕ) (terms : TermsFit
     after1 : List (List ℕ) → List (List ℕ)
     after1 got = hearing got (λ a got.
         andThen (slot1 S) (solverSecond (solver1 S) (slot1 S) (incoming 2 t a) (messageSize 3 t)) (λ x s. hearing got (λ a got.
-        andThen s (solverLast x s (incoming 4 t a) (messageSize 5 t)) (λ x s. []))))
+        andThen s (solverEnding x s (incoming 4 t a) (messageSize (lastKind n (n + rhs)) t)) (λ x s. []))))
 
     sends1 : (got : List (List ℕ)) → solverMessages t s input got ≡ join (y1 S ∷ []) ∷ after1 got
     unfolding solverMessages after1 solver1 slot1 solverFirstEffect
@@ -91,7 +95,8 @@ module _ (session : SessionId) (tape : TapeId) (q n rhs : ℕ) (terms : TermsFit
 
     -- and after message 2
     after3 : List ℕ → List (List ℕ) → List (List ℕ)
-    after3 a got = hearing got (λ b got. andThen (slot3 S) (solverLast (solver3 S (cut 2 a)) (slot3 S) (incoming 4 t b) (messageSize 5 t)) (λ x s. []))
+    after3 a got = hearing got (λ b got.
+        andThen (slot3 S) (solverEnding (solver3 S (cut 2 a)) (slot3 S) (incoming 4 t b) (messageSize (lastKind n (n + rhs)) t)) (λ x s. []))
 
     sends3 : (a : List ℕ) → Residues q (messageSize 2 t) a → (got : List (List ℕ)) → after1 (a ∷ got) ≡ join (f S (cut 2 a) ∷ []) ∷ after3 a got
     unfolding after1 hearing
@@ -101,17 +106,25 @@ module _ (session : SessionId) (tape : TapeId) (q n rhs : ℕ) (terms : TermsFit
         ∙ rw (sent3 S (cut 2 a) (message-fits 2 t a ra), said-message, session3 S (cut 2 a) (message-fits 2 t a ra))
         (unfold after3 slot3 solverSecondEffect solver1 in refl))
 
-    sends5 : (a b : List ℕ) → Residues q (messageSize 4 t) b → (got : List (List ℕ))
+    sends5 : lastKind n (n + rhs) ≡ 5 → (a b : List ℕ) → Residues q (messageSize 4 t) b → (got : List (List ℕ))
         → after3 a (b ∷ got) ≡ cond (regular q n (sum S (cut 4 b))) (join (solution q n (sum S (cut 4 b)) (target S (cut 2 a) (cut 4 b)) ∷ []) ∷ []) []
     unfolding after3 hearing said
-    sends5 a b rb got =
-        rw (incoming-is 4 t b rb)
-        (then-accepted (slot3 S) _ _ _ (step5 S (cut 2 a) (cut 4 b) (message-fits 4 t b rb) (messageSize 5 t) (le-refl _))
+    sends5 k a b rb got =
+        rw (incoming-is 4 t b rb, ending-system (solver3 S (cut 2 a)) (slot3 S) (messageOf 4 t (cut 4 b)) (messageSize (lastKind n (n + rhs)) t) (unfold solver3 in k), k)
+        (then-accepted (slot3 S) _ _ _ (step5 S (cut 2 a) (cut 4 b) (message-fits 4 t b rb) k (messageSize 5 t) (le-refl _))
         ∙ rw (sent5 S (cut 2 a) (cut 4 b) (message-fits 4 t b rb)) (go (regular q n (sum S (cut 4 b))) (solution q n (sum S (cut 4 b)) (target S (cut 2 a) (cut 4 b)))))
       where
         go : (x : Bool) (z : List ℕ) → said (cond x (messageOf 5 t (z ∷ [])) noMessage) ++ [] ≡ cond x (join (z ∷ []) ∷ []) []
         go true z = refl
         go false z = refl
+
+    sends6 : lastKind n (n + rhs) ≡ 6 → (a b : List ℕ) → Residues q (messageSize 4 t) b → (got : List (List ℕ))
+        → after3 a (b ∷ got) ≡ join ((det q n (sum S (cut 4 b)) ∷ []) ∷ []) ∷ []
+    unfolding after3 hearing said
+    sends6 k a b rb got =
+        rw (incoming-is 4 t b rb, ending-determinant (solver3 S (cut 2 a)) (slot3 S) (messageOf 4 t (cut 4 b)) (messageSize (lastKind n (n + rhs)) t) (unfold solver3 in k), k)
+        (then-accepted (slot3 S) _ _ _ (step5-determinant S (cut 2 a) (cut 4 b) (message-fits 4 t b rb) k (messageSize 6 t) (le-refl _))
+        ∙ rw (sent5-determinant S (cut 2 a) (cut 4 b) (message-fits 4 t b rb)) refl)
 
     -- the solver's messages, as far as the messages that it gets carry it
     pub solver-sends-one : (got : List (List ℕ)) → take 1 (solverMessages t s input got) ≡ join (sendY q n n (n + rhs) (beside n n rhs (part 0 input) (part 1 input)) y0 ∷ []) ∷ []
@@ -127,13 +140,38 @@ module _ (session : SessionId) (tape : TapeId) (q n rhs : ℕ) (terms : TermsFit
     unfolding y1 f share
     solver-sends-two a ra got = rw (sends1 (a ∷ got), sends3 a ra got)
 
-    pub solver-sends-all : (a b : List ℕ) → Residues q (messageSize 2 t) a → Residues q (messageSize 4 t) b → (got : List (List ℕ)) → solverMessages t s input (a ∷ b ∷ got)
+    pub solver-sends-all : lastKind n (n + rhs) ≡ 5 → (a b : List ℕ) → Residues q (messageSize 2 t) a → Residues q (messageSize 4 t) b → (got : List (List ℕ)) → solverMessages t s input (a ∷ b ∷ got)
         ≡ join (sendY q n n (n + rhs) (beside n n rhs (part 0 input) (part 1 input)) y0 ∷ []) ∷ join (sendF q n rhs r (shareOf a) ∷ [])
         ∷ cond (regular q n (sumMatrix q n (part 0 (parts (messageLayout 4 n n (n + rhs)) b)) v))
         (join (solution q n (sumMatrix q n (part 0 (parts (messageLayout 4 n n (n + rhs)) b)) v)
         (sumVector q n rhs (part 1 (parts (messageLayout 4 n n (n + rhs)) b)) (shareOf a)) ∷ []) ∷ []) []
     unfolding y1 f share sum target
-    solver-sends-all a b ra rb got = rw (sends1 (a ∷ b ∷ got), sends3 a ra (b ∷ got), sends5 a b rb got)
+    solver-sends-all k a b ra rb got = rw (sends1 (a ∷ b ∷ got), sends3 a ra (b ∷ got), sends5 k a b rb got)
+
+    pub solver-sends-determinant : lastKind n (n + rhs) ≡ 6 → (a b : List ℕ) → Residues q (messageSize 2 t) a → Residues q (messageSize 4 t) b → (got : List (List ℕ))
+        → solverMessages t s input (a ∷ b ∷ got)
+        ≡ join (sendY q n n (n + rhs) (beside n n rhs (part 0 input) (part 1 input)) y0 ∷ []) ∷ join (sendF q n rhs r (shareOf a) ∷ [])
+        ∷ join ((sendD q n (part 0 (parts (messageLayout 4 n n (n + rhs)) b)) v ∷ []) ∷ []) ∷ []
+    unfolding y1 f share sum sendD
+    solver-sends-determinant k a b ra rb got = rw (sends1 (a ∷ b ∷ got), sends3 a ra (b ∷ got), sends6 k a b rb got)
+
+    -- of either sort: what its last step sends, if anything
+    abbrev pub lastSaid : (m2 m4 : List ℕ) → List (List ℕ)
+    lastSaid a b =
+        cond (eqb (n + rhs) n) (join ((sendD q n (part 0 (parts (messageLayout 4 n n (n + rhs)) b)) v ∷ []) ∷ []) ∷ [])
+        (cond (regular q n (sumMatrix q n (part 0 (parts (messageLayout 4 n n (n + rhs)) b)) v))
+        (join (solution q n (sumMatrix q n (part 0 (parts (messageLayout 4 n n (n + rhs)) b)) v)
+        (sumVector q n rhs (part 1 (parts (messageLayout 4 n n (n + rhs)) b)) (shareOf a)) ∷ []) ∷ []) [])
+
+    pub solver-sends-last : (a b : List ℕ) → Residues q (messageSize 2 t) a → Residues q (messageSize 4 t) b → (got : List (List ℕ))
+        → solverMessages t s input (a ∷ b ∷ got)
+        ≡ join (sendY q n n (n + rhs) (beside n n rhs (part 0 input) (part 1 input)) y0 ∷ []) ∷ join (sendF q n rhs r (shareOf a) ∷ []) ∷ lastSaid a b
+    solver-sends-last a b ra rb got = go (eqb (n + rhs) n) refl
+      where
+        go : (c : Bool) → eqb (n + rhs) n ≡ c → solverMessages t s input (a ∷ b ∷ got)
+            ≡ join (sendY q n n (n + rhs) (beside n n rhs (part 0 input) (part 1 input)) y0 ∷ []) ∷ join (sendF q n rhs r (shareOf a) ∷ []) ∷ lastSaid a b
+        go true e = solver-sends-determinant (determinant-kind t e) a b ra rb got ∙ rw e refl
+        go false e = solver-sends-all (system-kind t e) a b ra rb got ∙ rw e refl
 
   -- ---- the blinder, with P and U0
 

@@ -2,7 +2,7 @@
 --   short-room            with too short a slice, parsing gives what reading gives
 --   form-first            a line of another form is refused by 1, whatever else is tested
 --   on-lines              one step whose tests contain the message's own: what was accepted was written, and the lowest number of both is given
---   parse-and-step        the seven steps that take a message
+--   parse-and-step        the nine steps that take a message
 -- Assumes nothing.
 use mathlib.Core.Path.{_≡_, refl, sym, ap, _∙_}
 use mathlib.Core.Bool.{Bool, true, false, cond, false≢true}
@@ -25,10 +25,11 @@ use Rattle.protocol.specs.Judge.{refusals, isSame, placeIn, placeOf, Tes
 use Rattle.protocol.specs.Bounds.{product, system, within, shapeTests, termsTests, inputTests, roomTests}
 use Rattle.protocol.specs.Drawing.{drawTests}
 use Rattle.protocol.specs.Tape.{Slot, slotTests, halfTests, tapeTests, bodyTests, Role, sortOf, left, right, blinder}
-use Rattle.protocol.specs.Message.{Message, messageTests, dueTests}
+use Rattle.protocol.specs.Message.{Message, kindKnown, messageTests, dueTests}
 use Rattle.protocol.specs.Step.{firstTests, openTests, laterTests}
 use Rattle.protocol.specs.Product.{leftTests, leftStep, rightLastTests, rightLast}
 use Rattle.protocol.specs.System.{regularTests, keptTests, blinderTests, solverTests, blinderFirstTests, blinderFirst, solverSecondTests, solverSecond, blinderSecondTests, blinderSecond, solverLastTests, solverLast, blinderLastTests, blinderLast}
+use Rattle.protocol.specs.System.{lastTests, solverDeterminantTests, solverDeterminant, blinderDeterminantTests, blinderDeterminant}
 use Rattle.protocol.specs.Line.{numbersOf, messageFrom, messageLine, parseMessage, parseTests, parsedFrom, parseInto, readTests, readWith, readInto, writeTests, writeInto}
 use Rattle.protocol.specs.LineStep.{openTerms, andThen, jointFrom, jointly, ModulusFits, OnLines, ShortRoom, PARSE-AND-STEP}
 use Rattle.protocol.proofs.Judge.{All, all-append, accepts, passed, refused≢done, all-clear, clear-all, clear-append, same-judge, earlier, Lowest, lowest, refused-first}
@@ -70,7 +71,7 @@ module _ (room : ℕ) (xs : List ℕ) where
   unfolding clear messageTests
   same-short e r =
       rw (e, given-true (messageTests (messageFrom xs)))
-      (ap (both (cond (isSame r Form) (leb 7 (length xs)) true)) (twice (cond (isSame r Form) (within 1 5 (getD xs 0 0)) true) _))
+      (ap (both (cond (isSame r Form) (leb 7 (length xs)) true)) (twice (cond (isSame r Form) (kindKnown (getD xs 0 0)) true) _))
 
   read-clear : (r : Refusal) → clear r (readTests room xs) ≡ true
       → (clear r (messageTests (messageFrom xs)) ≡ true) × (clear r (roomTests (length (drop 7 xs)) room) ≡ true)
@@ -139,7 +140,7 @@ module _ {A : Type 0} (step : Message → Judged A) (tests : Message → List Te
     -- enough room
     held : length (drop 7 xs) ≤ room → andThen (parsedFrom room (some xs)) step ≡ jointFrom room tests effect (some xs)
     unfolding judge roomTests
-    held h = go (leb 7 (length xs)) (within 1 5 (getD xs 0 0)) refl refl
+    held h = go (leb 7 (length xs)) (kindKnown (getD xs 0 0)) refl refl
       where
         a : Message
         a = messageFrom xs
@@ -148,7 +149,7 @@ module _ {A : Type 0} (step : Message → Judged A) (tests : Message → List Te
             → andThen (parsedFrom room (some xs)) step ≡ jointFrom room tests effect (some xs)
         formless p j = ap (λ (o : Judged Message). andThen o step) (form-first (parseTests room xs) a p) ∙ sym (form-first (readTests room xs ++ tests a) (effect a) j)
 
-        go : (b c : Bool) → leb 7 (length xs) ≡ b → within 1 5 (getD xs 0 0) ≡ c → andThen (parsedFrom room (some xs)) step ≡ jointFrom room tests effect (some xs)
+        go : (b c : Bool) → leb 7 (length xs) ≡ b → kindKnown (getD xs 0 0) ≡ c → andThen (parsedFrom room (some xs)) step ≡ jointFrom room tests effect (some xs)
         go true true d e =
             let asked = given (ltb room (length (drop 7 xs))) (messageTests a) in
             let holds : All asked = rw (le-ltb room (length (drop 7 xs)) h) (given-false (messageTests a)) in
@@ -239,6 +240,10 @@ regular-quiet : (q n : ℕ) (m : List ℕ) → Quiet (regularTests q n m)
 unfolding regularTests clear both
 regular-quiet q n m = quiet refl refl refl
 
+last-quiet : (kind : ℕ) (t : Terms) → Quiet (lastTests kind t)
+unfolding lastTests clear both
+last-quiet kind t = quiet refl refl refl
+
 -- the message's tests, then others
 begins : {a : Message} {terms : List Test} (us : List Test) → clear Form us ≡ clear Form terms → clear Modulus us ≡ clear Modulus terms → clear Composite us ≡ clear Composite terms
     → Takes a terms (messageTests a ++ us)
@@ -272,10 +277,10 @@ blinder-begins : (kind : ℕ) (x : BlinderSession) (s : Slot) (scratch : List �
 unfolding blinderTests roomTests keptTests laterTests openTests given termsTests shapeTests slotTests halfTests tapeTests bodyTests clear both
 blinder-begins kind x s scratch a = begins (blinderTests kind x s scratch) refl refl refl
 
--- ---- the seven steps
+-- ---- the nine steps
 
 pub parse-and-step : PARSE-AND-STEP
-unfolding leftStep leftTests rightLast rightLastTests blinderFirst blinderFirstTests solverSecond solverSecondTests blinderSecond blinderSecondTests solverLast solverLastTests blinderLast blinderLastTests
+unfolding leftStep leftTests rightLast rightLastTests blinderFirst blinderFirstTests solverSecond solverSecondTests blinderSecond blinderSecondTests solverLast solverLastTests blinderLast blinderLastTests solverDeterminant solverDeterminantTests blinderDeterminant blinderDeterminantTests
 parse-and-step = (
   short-room,
   λ t s x words room shareRoom. on-lines _ _ _ _ (λ a. refl)
@@ -285,6 +290,9 @@ parse-and-step = (
       (λ a. first-begins blinder t s a then due-quiet _ _ _ then input-quiet _ _ _ then input-quiet _ _ _ then room-quiet _ _ then room-quiet _ _ then draw-quiet _ _ _ then regular-quiet _ _ _ then regular-quiet _ _ _),
   λ x s room. on-lines _ _ _ _ (λ a. refl) (λ a. solver-begins 2 x s a then due-quiet _ _ _ then open-room-quiet _ _ _),
   λ x s scratch room. on-lines _ _ _ _ (λ a. refl) (λ a. blinder-begins 3 x s scratch a then due-quiet _ _ _ then open-room-quiet _ _ _),
-  λ x s room. on-lines _ _ _ _ (λ a. refl) (λ a. solver-begins 4 x s a then due-quiet _ _ _ then open-room-quiet _ _ _),
+  λ x s room. on-lines _ _ _ _ (λ a. refl) (λ a. solver-begins 4 x s a then due-quiet _ _ _ then open-room-quiet _ _ _ then last-quiet _ _),
   λ x s scratch answerRoom. on-lines _ _ _ _ (λ a. refl) (λ a. blinder-begins 5 x s scratch a then due-quiet _ _ _ then open-room-quiet _ _ _),
+  λ x s room. on-lines _ _ _ _ (λ a. refl) (λ a. solver-begins 4 x s a then due-quiet _ _ _ then open-room-quiet _ _ _ then last-quiet _ _),
+  λ x s scratch answerRoom. on-lines _ _ _ _ (λ a. refl)
+      (λ a. blinder-begins 6 x s scratch a then due-quiet _ _ _ then open-room-quiet _ _ _ then regular-quiet _ _ _ then regular-quiet _ _ _),
 )

@@ -20,7 +20,7 @@ use Rattle.algebra.proofs.Tests.{and-left, and-right, and-both}
 use Rattle.protocol.specs.declared.Terms.{Terms}
 use Rattle.protocol.specs.Judge.{done}
 use Rattle.protocol.specs.Bounds.{within, columns, allBelow, Sort, product, system, sidesFit, termsTests}
-use Rattle.protocol.specs.Message.{Message, kindSort, messageLayout, messageSize, messageTests}
+use Rattle.protocol.specs.Message.{Message, kindKnown, kindSort, messageLayout, messageSize, messageTests}
 use Rattle.protocol.specs.Line.{decimal, endByte, line, numbersOf, messageNumbers, messageLine, messageFrom, parseMessage, readFrom, readMessage, mostSent}
 use Rattle.protocol.proofs.Judge.{Pass, split, here, rest, accepts, passed, refused≢done}
 use Rattle.protocol.proofs.Residues.{residues-below}
@@ -60,12 +60,12 @@ system-size : (t : Terms) → TermsFit system t → (t .m * t .k ≤ 256) × (t 
 unfolding columns
 system-size t f =
     let s = system-sides (t .m) (t .k) (t .p) .0 (f .sides) in
-    let one : columns (t .m) (t .p) ≤ 1 = omega (arith, s .p-is) in (
+    let one : columns (t .m) (t .p) ≤ 1 = omega (arith, s .high) in (
       mul-le-mul {n₁ = t .m} {m₁ = t .k} {n₂ = 16} {m₂ = 16} (s .few) (omega (arith, s .few, s .k-is)),
       mul-le-mul {n₁ = t .m} {m₁ = columns (t .m) (t .p)} {n₂ = 16} {m₂ = 1} (s .few) one,
     )
 
-pub sent-size : (kind : ℕ) (t : Terms) → within 1 5 kind ≡ true → TermsFit (kindSort kind) t → messageSize kind t ≤ mostSent
+pub sent-size : (kind : ℕ) (t : Terms) → kindKnown kind ≡ true → TermsFit (kindSort kind) t → messageSize kind t ≤ mostSent
 unfolding within kindSort messageSize messageLayout
 sent-size zero t k f = absurd (let l : 1 ≤ 0 = leb-true 1 0 (and-left _ _ k) in omega arith)
 sent-size (suc zero) t k f = product-size t f .0
@@ -73,8 +73,9 @@ sent-size (suc (suc zero)) t k f = product-size t f .1
 sent-size (suc (suc (suc zero))) t k f = omega (arith, system-size t f .0)
 sent-size (suc (suc (suc (suc zero)))) t k f = omega (arith, system-size t f .0, system-size t f .1)
 sent-size (suc (suc (suc (suc (suc zero))))) t k f = omega (arith, system-size t f .1)
-sent-size (suc (suc (suc (suc (suc (suc n)))))) t k f =
-    absurd (let l : suc (suc (suc (suc (suc (suc n))))) ≤ 5 = leb-true _ _ (and-right _ _ k) in omega arith)
+sent-size (suc (suc (suc (suc (suc (suc zero)))))) t k f = omega arith
+sent-size (suc (suc (suc (suc (suc (suc (suc n))))))) t k f =
+    absurd (let l : suc (suc (suc (suc (suc (suc (suc n)))))) ≤ 6 = leb-true _ _ (and-right _ _ k) in omega arith)
 
 -- ---- messages
 
@@ -89,16 +90,16 @@ small-sides product {m} {k} {p} e =
     (omega (arith, s .few-m), omega (arith, s .few-k), omega (arith, s .few-p))
 small-sides system {m} {k} {p} e =
     let s = system-sides m k p .0 e in
-    (omega (arith, s .few), omega (arith, s .few, s .k-is), omega (arith, s .few, s .p-is))
+    (omega (arith, s .few), omega (arith, s .few, s .k-is), omega (arith, s .few, s .high))
 
 module _ (a : Message) (session : a .head .terms .session .0 < 2 ^ 32) (tape : a .head .terms .tape .0 < 2 ^ 32) (fits : Pass (messageTests a)) where
-  known : within 1 5 (a .head .kind) ≡ true
+  known : kindKnown (a .head .kind) ≡ true
   unfolding messageTests
   known = here fits
 
   terms : TermsFit (kindSort (a .head .kind)) (a .head .terms)
   unfolding messageTests
-  terms = terms-tests _ _ .0 (split {ts = termsTests (kindSort (a .head .kind)) (a .head .terms)} (rest fits) .0)
+  terms = terms-tests _ _ .0 (split {ts = termsTests (kindSort (a .head .kind)) (a .head .terms)} (rest (rest fits)) .0)
 
   sides : (a .head .terms .m < 2 ^ 32) × (a .head .terms .k < 2 ^ 32) × (a .head .terms .p < 2 ^ 32)
   sides = small-sides (kindSort (a .head .kind)) (terms .sides)
@@ -106,8 +107,8 @@ module _ (a : Message) (session : a .head .terms .session .0 < 2 ^ 32) (tape : a
   words : Words (messageNumbers a)
   unfolding messageTests within
   words =
-      let r = input-tests _ _ _ .0 (split {ts = termsTests (kindSort (a .head .kind)) (a .head .terms)} (rest fits) .1) in
-      let kind : a .head .kind ≤ 5 = leb-true _ _ (and-right _ _ known) in (
+      let r = input-tests _ _ _ .0 (split {ts = termsTests (kindSort (a .head .kind)) (a .head .terms)} (rest (rest fits)) .1) in
+      let kind : a .head .kind ≤ 6 = leb-true _ _ (and-right _ _ known) in (
         omega arith,
         (
           session,
@@ -124,7 +125,7 @@ module _ (a : Message) (session : a .head .terms .session .0 < 2 ^ 32) (tape : a
   pub message-line-short : length (messageLine a) ≤ 65536
   unfolding messageLine messageTests
   message-line-short =
-      let r = input-tests _ _ _ .0 (split {ts = termsTests (kindSort (a .head .kind)) (a .head .terms)} (rest fits) .1) in
+      let r = input-tests _ _ _ .0 (split {ts = termsTests (kindSort (a .head .kind)) (a .head .terms)} (rest (rest fits)) .1) in
       let n : length (a .residues) ≤ mostSent = omega (arith, r .size, sent-size (a .head .kind) (a .head .terms) known terms) in
       omega (arith, line-short (messageNumbers a) words)
 

@@ -28,14 +28,14 @@ use Rattle.protocol.specs.Drawing.{drawn, drawTests}
 use Rattle.protocol.specs.Bounds.{largestModulus, within, allBelow, product, shapeTests, termsTests, inputTests, roomTests}
 use Rattle.protocol.specs.Tape.{Slot, slotAt, isSlot, slotWords, headerWords, READY, IN-USE, Role, left, right, sortOf, bodySize, tapeSize, statusOf, body, matrices, slotTests, halfTests, tapeTests, bodyTests}
 use Rattle.protocol.specs.Deal.{drawSize, drawnParts, dealtB, isFree, dealTests, dealtOver, dealtEffect}
-use Rattle.protocol.specs.Message.{Message, kindSort, messageLayout, messageSize, messageTests, dueTests}
+use Rattle.protocol.specs.Message.{Message, kindKnown, kindSort, messageLayout, messageSize, messageTests, dueTests}
 use Rattle.protocol.specs.Step.{Effect, isOpen, firstTests, openTests, laterTests}
 use Rattle.protocol.specs.Product.{rightFirstEffect, rightFirstTests, leftEffect, leftTests, rightLastTests}
 use Rattle.protocol.specs.Rehearsal.{Input, request, rehearsalTests, slotSize, leftSlot, rightSlot, callTests}
 use Rattle.protocol.proofs.Judge.{Pass, _next_, nothing, Covers, clear-append, covers-self, covers-pass, covers-rest, _too_, covers-split, covers-given, same-lowest, bad-modulus, Lowest, lowest}
 use Rattle.protocol.proofs.Residues.{residues-below, below-append, below-take, below-drop, drawn-below}
 use Rattle.protocol.proofs.Slots.{written}
-use Rattle.protocol.proofs.Tests.{HalfFits, half-slot, half-room, half-tape, body-fits, fits-body, open-due, MessageFits, message-due, input-tests, room-tests}
+use Rattle.protocol.proofs.Tests.{early, HalfFits, half-slot, half-room, half-tape, body-fits, fits-body, open-due, MessageFits, message-due, input-tests, room-tests}
 use Rattle.protocol.proofs.Halves.{tapeWords, Holding, header-fits, half-fits, matrices-fit, fits-holding, holding-used}
 use Rattle.protocol.proofs.Messages.{own-message}
 use Rattle.protocol.proofs.Dealing.{requestFor, wordsBehind, dealt-inside, dealt-words}
@@ -65,12 +65,12 @@ module _ {ts : List Test} (role : Role) (t : Terms) (c : Covers ts (termsTests (
       too covers-pass (open-due kind .1 due next half-tape role IN-USE t s f))
       too covers-pass (fits-body role IN-USE t s f (matrices-fit h))
 
-module _ {ts : List Test} (kind : ℕ) (t : Terms) (a : Message) (known : within 1 5 kind ≡ true) (c : Covers ts (termsTests (kindSort kind) t)) where
+module _ {ts : List Test} (kind : ℕ) (t : Terms) (a : Message) (known : kindKnown kind ≡ true) (c : Covers ts (termsTests (kindSort kind) t)) where
   message-covers : MessageFits kind t a → Covers ts (messageTests a)
   unfolding messageTests
   message-covers m =
       subst (λ (h : Head). Covers ts (messageTests (record { head = h; residues = a .residues }))) (sym (m .head-is))
-      (covers-pass (known next nothing) too c too covers-pass (input-tests (t .q) (messageSize kind t) (a .residues) .1 (m .residues)))
+      (covers-pass (known next m .last next nothing) too c too covers-pass (input-tests (t .q) (messageSize kind t) (a .residues) .1 (m .residues)))
 
 -- ---- what is drawn from too few words is too short, and its elements are residues all the same
 
@@ -165,11 +165,11 @@ module _ (i : Input) (h0 : 0 < i .terms .q) where
 
   message-one : MessageFits 1 t (one .sent)
   unfolding rightFirstEffect messageLayout sendY
-  message-one = own-message 1 t (_ ∷ []) (sub-residues h0 _ _ _ then none)
+  message-one = own-message 1 t (_ ∷ []) (sub-residues h0 _ _ _ then none) (early _ _ 1 refl)
 
   message-two : MessageFits 2 t (two .sent)
   unfolding leftEffect messageLayout sendX sendR
-  message-two = own-message 2 t (_ ∷ _ ∷ []) (add-residues h0 _ _ _ then sub-residues h0 _ _ _ then none)
+  message-two = own-message 2 t (_ ∷ _ ∷ []) (add-residues h0 _ _ _ then sub-residues h0 _ _ _ then none) (early _ _ 2 refl)
 
   used : Holding right IN-USE t (matrices right t (slotWords b)) (written b (one .slot))
   unfolding rightFirstEffect

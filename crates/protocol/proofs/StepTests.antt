@@ -1,15 +1,17 @@
 -- Each call as a record of what it needs: it is accepted exactly where the record holds, and then has its effect. Nobody reads tests by their position.
 --   RightFirstFits, LeftFits, RightLastFits                       right-first, left-step, right-last
 --   SolverFirstFits, BlinderFirstFits                             solver-first, blinder-first
---   SolverFits (steps 3 and 5), BlinderFits (steps 4 and 6)       solver-second, solver-last, blinder-second, blinder-last
+--   SolverFits (steps 3 and 5), BlinderFits (steps 4 and 6)       solver-second, blinder-second, blinder-last
+--   SolverLastFits, BlinderDeterminantFits                        solver-last, solver-determinant, blinder-determinant
 --   OpenFits (of Tests), DropBlinderFits                          drop-right, drop-solver, drop-blinder
 -- Assumes nothing.
-use mathlib.Core.Path.{_≡_, refl}
+use mathlib.Core.Path.{_≡_, refl, sym}
 use mathlib.Core.Logic.{_↔_}
 use mathlib.Core.Bool.{true}
 use mathlib.Core.List.{List, [], _++_}
 use Prim.Native.Nat.{ℕ, _*_, _≤_}
 use lib.ListN.{length, take}
+use borrow.Author.Tests.{eqb-true, eq-eqb}
 use Rattle.algebra.specs.Matrix.{Residues, zeros}
 use Rattle.algebra.specs.Count.{both, part}
 use Rattle.algebra.specs.Elimination.{regular}
@@ -20,15 +22,16 @@ use Rattle.protocol.specs.declared.BlinderSession.{BlinderSession}
 use Rattle.protocol.specs.Judge.{given}
 use Rattle.protocol.specs.Drawing.{residuesOf}
 use Rattle.protocol.specs.Bounds.{system, within, allBelow, roomTests}
-use Rattle.protocol.specs.Tape.{Slot, slotWords, left, right, blinder, solver, wordsSpent}
-use Rattle.protocol.specs.Message.{Message, kindSort, messageSize, messageTests, dueTests}
+use Rattle.protocol.specs.Tape.{Slot, slotWords, left, right, blinder, solver, matrices, wordsSpent}
+use Rattle.protocol.specs.Message.{Message, kindKnown, kindSort, lastKind, messageSize, messageTests, dueTests}
 use Rattle.protocol.specs.Step.{isOpen}
 use Rattle.protocol.specs.Product.{closedRight, rightFirstEffect, rightFirstTests, rightFirst, leftEffect, leftTests, leftStep, rightLastEffect, rightLastTests, rightLast}
 use Rattle.protocol.specs.System.{closedSolver, closedBlinder, sideSize, keptS, keptM, keptY, scratchSize, scratchParts, regularTests, keptTests}
 use Rattle.protocol.specs.System.{blinderTests, solverTests, coinsOf, solverFirstEffect, solverFirstTests, solverFirst, blinderFirstEffect}
 use Rattle.protocol.specs.System.{blinderFirstTests, blinderFirst, solverSecondEffect, solverSecondTests, solverSecond, blinderSecondEffect}
 use Rattle.protocol.specs.System.{blinderSecondTests, blinderSecond, solverLastEffect, solverLastTests, solverLast, blinderLastEffect, blinderLastTests}
-use Rattle.protocol.specs.System.{blinderLast}
+use Rattle.protocol.specs.System.{blinderLast, lastTests, solverDeterminantEffect, solverDeterminantTests, solverDeterminant}
+use Rattle.protocol.specs.System.{blinderDeterminantEffect, blinderDeterminantTests, blinderDeterminant}
 use Rattle.protocol.specs.Drop.{dropped, dropRight, dropSolver, dropBlinder}
 use Rattle.protocol.proofs.Judge.{Pass, _also_, _next_, nothing, split, here, pass-given, given-pass}
 use Rattle.protocol.proofs.Tests.{Decides, decides, TermsFit, product-of-system, FirstFits, first-tests, open-due, OpenFits, open-tests, LaterFits, later-tests, MessageFits, message-facts, message-own, message-due, input-tests, room-tests, draw-tests}
@@ -199,7 +202,7 @@ pub record SolverFits (kind : ℕ) (x : SolverSession) (s : Slot) (a : Message) 
   pub s-below : allBelow (x .terms .q) (keptS x) ≡ true
   pub message-room : size ≤ room
 
-module _ (kind : ℕ) (x : SolverSession) (s : Slot) (a : Message) (size room : ℕ) (known : within 1 5 kind ≡ true)
+module _ (kind : ℕ) (x : SolverSession) (s : Slot) (a : Message) (size room : ℕ) (known : kindKnown kind ≡ true)
     (own : TermsFit system (x .terms) → TermsFit (kindSort kind) (x .terms)) where
   solver-tests : _↔_ {0, 0} (Pass (messageTests a ++ solverTests kind x s ++ dueTests kind (x .terms) a ++ given (isOpen (x .due)) (roomTests size room)))
       (SolverFits kind x s a size room)
@@ -229,11 +232,33 @@ unfolding solverSecond solverSecondTests
 solver-second x s a room =
     decides _ _ (solver-tests 2 x s a (messageSize 3 (x .terms)) room (unfold within both in refl) (unfold kindSort in product-of-system (x .terms)))
 
+-- and the session is of the step's sort
+pub record SolverLastFits (kind : ℕ) (x : SolverSession) (s : Slot) (a : Message) (size room : ℕ) : Type 0 where
+  pub fits : SolverFits 4 x s a size room
+  pub sort-is : lastKind (x .terms .m) (x .terms .p) ≡ kind
+
+module _ (kind : ℕ) (x : SolverSession) (s : Slot) (a : Message) (size room : ℕ) where
+  solver-last-tests : _↔_ {0, 0}
+      (Pass (messageTests a ++ solverTests 4 x s ++ dueTests 4 (x .terms) a ++ given (isOpen (x .due)) (roomTests size room) ++ lastTests kind (x .terms)))
+      (SolverLastFits kind x s a size room)
+  unfolding lastTests
+  solver-last-tests =
+      let tests = solver-tests 4 x s a size room (unfold within both in refl) (unfold kindSort in λ f. f) in (
+        λ h.
+            let (h1, in-sort) = split h in
+            record { fits = tests .0 h1; sort-is = sym (eqb-true _ _ (here in-sort)) },
+        λ f. tests .1 (f .fits) also (eq-eqb kind _ (sym (f .sort-is)) next nothing),
+      )
+
 pub solver-last : (x : SolverSession) (s : Slot) (a : Message) (room : ℕ)
-    → Decides (solverLast x s a room) (solverLastEffect x s a) (SolverFits 4 x s a (messageSize 5 (x .terms)) room)
+    → Decides (solverLast x s a room) (solverLastEffect x s a) (SolverLastFits 5 x s a (messageSize 5 (x .terms)) room)
 unfolding solverLast solverLastTests
-solver-last x s a room =
-    decides _ _ (solver-tests 4 x s a (messageSize 5 (x .terms)) room (unfold within both in refl) (unfold kindSort in λ f. f))
+solver-last x s a room = decides _ _ (solver-last-tests 5 x s a (messageSize 5 (x .terms)) room)
+
+pub solver-determinant : (x : SolverSession) (s : Slot) (a : Message) (room : ℕ)
+    → Decides (solverDeterminant x s a room) (solverDeterminantEffect x s a) (SolverLastFits 6 x s a (messageSize 6 (x .terms)) room)
+unfolding solverDeterminant solverDeterminantTests
+solver-determinant x s a room = decides _ _ (solver-last-tests 6 x s a (messageSize 6 (x .terms)) room)
 
 pub record BlinderFits (kind : ℕ) (x : BlinderSession) (s : Slot) (scratch : List ℕ) (a : Message) (size room : ℕ) : Type 0 where
   pub later : LaterFits blinder kind (x .due) (x .terms) s
@@ -244,7 +269,7 @@ pub record BlinderFits (kind : ℕ) (x : BlinderSession) (s : Slot) (scratch : L
   pub scratch-below : allBelow (x .terms .q) (take (scratchSize (x .terms)) scratch) ≡ true
   pub write-room : size ≤ room
 
-module _ (kind : ℕ) (x : BlinderSession) (s : Slot) (scratch : List ℕ) (a : Message) (size room : ℕ) (known : within 1 5 kind ≡ true)
+module _ (kind : ℕ) (x : BlinderSession) (s : Slot) (scratch : List ℕ) (a : Message) (size room : ℕ) (known : kindKnown kind ≡ true)
     (own : TermsFit system (x .terms) → TermsFit (kindSort kind) (x .terms)) where
   blinder-tests : _↔_ {0, 0} (Pass (messageTests a ++ blinderTests kind x s scratch ++ dueTests kind (x .terms) a ++ given (isOpen (x .due)) (roomTests size room)))
       (BlinderFits kind x s scratch a size room)
@@ -290,6 +315,25 @@ pub blinder-last : (x : BlinderSession) (s : Slot) (scratch : List ℕ) (a : Mes
 unfolding blinderLast blinderLastTests
 blinder-last x s scratch a answerRoom =
     decides _ _ (blinder-tests 5 x s scratch a (sideSize (x .terms)) answerRoom (unfold within both in refl) (unfold kindSort in λ f. f))
+
+-- and P and Q, by whose determinants it divides, have an inverse
+pub record BlinderDeterminantFits (x : BlinderSession) (s : Slot) (scratch : List ℕ) (a : Message) (room : ℕ) : Type 0 where
+  pub fits : BlinderFits 6 x s scratch a (messageSize 6 (x .terms)) room
+  pub p-regular : regular (x .terms .q) (x .terms .m) (part 0 (scratchParts (x .terms) scratch)) ≡ true
+  pub q-regular : regular (x .terms .q) (x .terms .m) (part 2 (matrices blinder (x .terms) (slotWords s))) ≡ true
+
+pub blinder-determinant : (x : BlinderSession) (s : Slot) (scratch : List ℕ) (a : Message) (answerRoom : ℕ)
+    → Decides (blinderDeterminant x s scratch a answerRoom) (blinderDeterminantEffect x s scratch a) (BlinderDeterminantFits x s scratch a answerRoom)
+unfolding blinderDeterminant blinderDeterminantTests regularTests
+blinder-determinant x s scratch a answerRoom =
+    let tests = blinder-tests 6 x s scratch a (messageSize 6 (x .terms)) answerRoom (unfold within both in refl) (unfold kindSort in λ f. f) in
+    decides _ _ (
+      λ h.
+          let (h1, in-q) = split h in
+          let (h2, in-p) = split h1 in
+          record { fits = tests .0 h2; p-regular = here in-p; q-regular = here in-q },
+      λ f. tests .1 (f .fits) also (f .p-regular next nothing) also (f .q-regular next nothing),
+    )
 
 -- ---- drops
 

@@ -2,16 +2,21 @@
 -- slices long enough, each step is accepted, and what it sends are algebra's formulas.
 --   systemTerms, wideTerms   the terms of a system, with one column and with any number
 --   SolverEnd, BlinderEnd    an end that holds its half, with an input that its first step takes
---   step1, step3, step5      the solver's steps are accepted; sent1, sent3, sent5: what they send
---   step2, step4, step6      the blinder's; sent2, sent4, answer6
+--   last-system, last-determinant, last-late, of-system, of-determinant, system-kind, determinant-kind, one-column   which last steps a session has
+--   ending-system, ending-determinant   and the solver's
+--   step1, step3, step5, step5-determinant   the solver's steps are accepted; sent1, sent3, sent5, sent5-determinant: what they send
+--   step2, step4, step6, step6-determinant   the blinder's; sent2, sent4, answer6, answer6-determinant
 -- That L and M have an inverse is used for the tests of steps 1 and 2 alone.
 -- Assumes nothing.
-use mathlib.Core.Path.{_≡_}
-use mathlib.Core.Bool.{true, cond}
+use mathlib.Core.Path.{_≡_, refl, sym, _∙_}
+use mathlib.Core.Bool.{Bool, true, false, cond, false≢true}
 use mathlib.Core.List.{List, [], _∷_}
 use Prim.Native.Nat.{ℕ, _+_, _*_, _≤_, _<_}
 use native.Mathlib.Omega.{arith}
-use lib.ListN.{length, take}
+use native.Mathlib.Decide.{decLt}
+use lib.Dec.{ltb, eqb}
+use lib.ListN.{length, getD, take}
+use borrow.Author.Tests.{eq-eqb, ne-eqb}
 use Rattle.algebra.specs.Matrix.{Residues, zeros, matMul}
 use Rattle.algebra.specs.Count.{part, total}
 use Rattle.algebra.specs.Columns.{beside}
@@ -19,6 +24,8 @@ use Rattle.algebra.specs.Words.{over}
 use Rattle.algebra.specs.Elimination.{regular, solution}
 use Rattle.algebra.specs.Product.{sendY, sendX, sendR, rightShare}
 use Rattle.algebra.specs.System.{lastCols, solverShare, sendF, sendW, sendC, sumMatrix, sumVector}
+use Rattle.determinant.specs.Determinant.{det}
+use Rattle.determinant.specs.Session.{answer}
 use Rattle.algebra.proofs.Lists.{add-residues, sub-residues}
 use Rattle.algebra.proofs.Columns.{cols-residues}
 use Rattle.algebra.proofs.Parts.{Fits, none, _then_, fits-parts}
@@ -33,14 +40,15 @@ use Rattle.protocol.specs.Judge.{done}
 use Rattle.protocol.specs.Drawing.{residuesOf}
 use Rattle.protocol.specs.Bounds.{system, columns, allBelow}
 use Rattle.protocol.specs.Tape.{Slot, slotWords, blinder, solver, READY, IN-USE}
-use Rattle.protocol.specs.Message.{noMessage, messageOf, messageLayout, messageSize}
+use Rattle.protocol.specs.Message.{Message, noMessage, messageOf, isDeterminant, lastKind, lastFits, messageLayout, messageSize}
 use Rattle.protocol.specs.System.{padded, sideSize, keptS, keptM, keptY, scratchLayout, scratchSize, scratchParts, coinsOf, jointSum, solverFirstEffect}
 use Rattle.protocol.specs.System.{solverFirst, blinderFirstEffect, blinderFirst, solverSecondEffect, solverSecond, blinderSecondEffect, blinderSecond}
 use Rattle.protocol.specs.System.{solverLastEffect, solverLast, blinderLastEffect, blinderLast}
+use Rattle.protocol.specs.System.{solverDeterminantEffect, solverDeterminant, solverEnding, blinderDeterminantEffect, blinderDeterminant}
 use Rattle.protocol.proofs.Slots.{written}
 use Rattle.protocol.proofs.Residues.{residues-below, residues-drawn, take-over, parts-over, over-length, zeros-below}
-use Rattle.protocol.proofs.Tests.{TermsFit, draw-tests}
-use Rattle.protocol.proofs.StepTests.{solver-first, blinder-first, solver-second, blinder-second, solver-last, blinder-last}
+use Rattle.protocol.proofs.Tests.{early, TermsFit, system-sides, draw-tests}
+use Rattle.protocol.proofs.StepTests.{solver-first, blinder-first, solver-second, blinder-second, SolverFits, solver-last, solver-determinant, BlinderFits, blinder-last, blinder-determinant}
 use Rattle.protocol.proofs.Halves.{Holding, holding-matrices, holding-used, holding-same, first-fits, later-fits}
 use Rattle.protocol.proofs.Messages.{message-parts, own-message}
 
@@ -59,6 +67,64 @@ columns-are n rhs = omega arith
 pub side-are : (session : SessionId) (tape : TapeId) (q n rhs : ℕ) → sideSize (wideTerms session tape q n rhs) ≡ n * rhs
 unfolding sideSize
 side-are session tape q n rhs = rw (columns-are n rhs)
+
+-- one column, and none
+pub last-system : (n : ℕ) → lastKind n (n + 1) ≡ 5
+unfolding lastKind
+last-system n = rw (ne-eqb (n + 1) n (omega arith))
+
+pub last-determinant : (n : ℕ) → lastKind n (n + 0) ≡ 6
+unfolding lastKind
+last-determinant n = rw (eq-eqb (n + 0) n (omega arith))
+
+-- either comes after message 4
+pub last-late : (m p : ℕ) → 4 < lastKind m p
+unfolding lastKind
+last-late m p = go (eqb p m)
+  where
+    go : (b : Bool) → 4 < cond b 6 5
+    go true = omega arith
+    go false = omega arith
+
+-- by its terms
+pub system-kind : (t : Terms) → isDeterminant t ≡ false → lastKind (t .m) (t .p) ≡ 5
+unfolding lastKind
+system-kind t e = rw e
+
+pub determinant-kind : (t : Terms) → isDeterminant t ≡ true → lastKind (t .m) (t .p) ≡ 6
+unfolding lastKind
+determinant-kind t e = rw e
+
+kind-of : (b : Bool) → (_≡_ {A = ℕ} (cond b 6 5) 5 → b ≡ false) × (_≡_ {A = ℕ} (cond b 6 5) 6 → b ≡ true)
+kind-of true = (λ e. absurd (omega (arith, e)), λ e. refl)
+kind-of false = (λ e. refl, λ e. absurd (omega (arith, e)))
+
+pub of-system : (t : Terms) → lastKind (t .m) (t .p) ≡ 5 → isDeterminant t ≡ false
+unfolding lastKind
+of-system t = kind-of (isDeterminant t) .0
+
+pub of-determinant : (t : Terms) → lastKind (t .m) (t .p) ≡ 6 → isDeterminant t ≡ true
+unfolding lastKind
+of-determinant t = kind-of (isDeterminant t) .1
+
+-- one column where a solution is asked for
+pub one-column : (t : Terms) → TermsFit system t → lastKind (t .m) (t .p) ≡ 5 → columns (t .m) (t .p) ≡ 1
+unfolding columns
+one-column t f k =
+    let s = system-sides (t .m) (t .k) (t .p) .0 (f .sides) in
+    elim (decLt (t .m) (t .p)) [
+      | yes l ↦ omega (arith, l, s .high)
+      | no l ↦ absurd (false≢true (sym (of-system t k) ∙ eq-eqb (t .p) (t .m) (let e : t .p ≡ t .m = omega (arith, l, s .low) in e)))
+    ]
+
+module _ (x : SolverSession) (s : Slot) (a : Message) (room : ℕ) where
+  pub ending-system : lastKind (x .terms .m) (x .terms .p) ≡ 5 → solverEnding x s a room ≡ solverLast x s a room
+  unfolding solverEnding
+  ending-system e = rw (of-system (x .terms) e)
+
+  pub ending-determinant : lastKind (x .terms .m) (x .terms .p) ≡ 6 → solverEnding x s a room ≡ solverDeterminant x s a room
+  unfolding solverEnding
+  ending-determinant e = rw (of-determinant (x .terms) e)
 
 -- ---- the solver
 
@@ -172,7 +238,7 @@ module _ {rhs : ℕ} (E : SolverEnd rhs) where
     unfolding solver1 keptS
     step3 room long = solver-second solver1 slot1 (messageOf 2 t c2) room .accepts (record {
       later = later-fits held1 (E .terms-fit) (omega arith);
-      message = own-message 2 t c2 f2;
+      message = own-message 2 t c2 f2 (early _ _ 2 refl);
       s-below = zeros-below q 16 (sideSize t) h0;
       message-room = long;
     })
@@ -194,15 +260,20 @@ module _ {rhs : ℕ} (E : SolverEnd rhs) where
     unfolding keptS solver3 padded
     kept-s = rw (side-are (E .session) (E .tape) (E .q) (E .n) rhs) (take-over (zeros 16) last-residues)
 
-    pub step5 : (room : ℕ) → messageSize 5 t ≤ room
-        → solverLast (solver3 c2) slot3 (messageOf 4 t c4) room ≡ done (solverLastEffect (solver3 c2) slot3 (messageOf 4 t c4))
+    -- either last step
+    last-fits : {size : ℕ} (room : ℕ) → size ≤ room → SolverFits 4 (solver3 c2) slot3 (messageOf 4 t c4) size room
     unfolding solver3
-    step5 room long = solver-last (solver3 c2) slot3 (messageOf 4 t c4) room .accepts (record {
+    last-fits room long = record {
       later = later-fits held3 (E .terms-fit) (omega arith);
-      message = own-message 4 t c4 f4;
+      message = own-message 4 t c4 f4 (early _ _ 4 refl);
       s-below = rw kept-s (residues-below last-residues);
       message-room = long;
-    })
+    }
+
+    pub step5 : lastKind n (n + rhs) ≡ 5 → (room : ℕ) → messageSize 5 t ≤ room
+        → solverLast (solver3 c2) slot3 (messageOf 4 t c4) room ≡ done (solverLastEffect (solver3 c2) slot3 (messageOf 4 t c4))
+    unfolding solver3
+    step5 k room long = solver-last (solver3 c2) slot3 (messageOf 4 t c4) room .accepts (record { fits = last-fits room long; sort-is = k })
 
     joint-is : jointSum (solver3 c2) slot3 (messageOf 4 t c4) ≡ sum c4
     unfolding jointSum solver3 sum
@@ -216,6 +287,15 @@ module _ {rhs : ℕ} (E : SolverEnd rhs) where
     pub answer5 : solverLastEffect (solver3 c2) slot3 (messageOf 4 t c4) .answer ≡ cond (regular q n (sum c4)) (Accepted 0) (Refused Singular)
     unfolding solverLastEffect solver3
     answer5 = rw joint-is
+
+    pub step5-determinant : lastKind n (n + rhs) ≡ 6 → (room : ℕ) → messageSize 6 t ≤ room
+        → solverDeterminant (solver3 c2) slot3 (messageOf 4 t c4) room ≡ done (solverDeterminantEffect (solver3 c2) slot3 (messageOf 4 t c4))
+    unfolding solver3
+    step5-determinant k room long = solver-determinant (solver3 c2) slot3 (messageOf 4 t c4) room .accepts (record { fits = last-fits room long; sort-is = k })
+
+    pub sent5-determinant : solverDeterminantEffect (solver3 c2) slot3 (messageOf 4 t c4) .sent ≡ messageOf 6 t ((det q n (sum c4) ∷ []) ∷ [])
+    unfolding solverDeterminantEffect solver3
+    sent5-determinant = rw joint-is
 
 -- ---- the blinder
 
@@ -292,7 +372,7 @@ module _ {rhs : ℕ} (E : BlinderEnd rhs) where
   blinder2 = record { terms = bt; due = 3; mm = padded 256 (E .mm); y = padded 16 (E .y) }
 
   unfoldable pub blinder4 : BlinderSession
-  blinder4 = record { terms = bt; due = 5; mm = padded 256 (E .mm); y = padded 16 (E .y) }
+  blinder4 = record { terms = bt; due = lastKind (E .n) (E .n + rhs); mm = padded 256 (E .mm); y = padded 16 (E .y) }
 
   kept-m : keptM blinder2 ≡ E .mm
   unfolding keptM blinder2 padded
@@ -361,7 +441,7 @@ module _ {rhs : ℕ} (E : BlinderEnd rhs) where
         ≡ done (blinderFirstEffect bt (E .slot) (E .mm) (E .y) (E .words) (messageOf 1 bt c1))
     step2 room long = blinder-first bt (E .slot) (length (E .scratch)) (E .mm) (E .y) (E .words) (messageOf 1 bt c1) room .accepts (record {
       first = first-fits (E .half) (E .terms-fit);
-      message = own-message 1 bt c1 f1;
+      message = own-message 1 bt c1 f1 (early _ _ 1 refl);
       m-fits = E .m-fits;
       y-fits = E .y-fits;
       scratch-room = E .scratch-room;
@@ -382,7 +462,7 @@ module _ {rhs : ℕ} (E : BlinderEnd rhs) where
     unfolding blinder2
     step4 room long = blinder-second blinder2 (slot2 c1) (over coins (E .scratch)) (messageOf 3 bt c3) room .accepts (record {
       later = later-fits (held2 c1) (E .terms-fit) (omega arith);
-      message = own-message 3 bt c3 f3;
+      message = own-message 3 bt c3 f3 (early _ _ 3 refl);
       scratch-room = scratch-room;
       m-below = m-below;
       y-below = y-below;
@@ -394,22 +474,50 @@ module _ {rhs : ℕ} (E : BlinderEnd rhs) where
     unfolding blinderSecondEffect blinder2 w c pm u0
     sent4 = rw (bcolumns-is, holding-matrices blinder IN-USE bt _ (slot2 c1) (held2 c1), message-parts 3 bt c3 f3, scratch-parts, kept-m, kept-y)
 
+  -- either last step
+  last-step : (c1 : List (List ℕ)) (kind : ℕ) (c : List (List ℕ)) → Fits (E .q) (messageLayout kind (E .n) (E .n) (E .n + rhs)) c
+      → lastKind (E .n) (E .n + rhs) ≡ kind → 0 < kind → {size : ℕ} (room : ℕ) → size ≤ room
+      → BlinderFits kind blinder4 (slot4 c1) (over coins (E .scratch)) (messageOf kind bt c) size room
+  unfolding blinder4
+  last-step c1 kind c f k some room long = record {
+    later = rw k (later-fits (held4 c1) (E .terms-fit) some);
+    message = own-message kind bt c f (unfold lastFits in rw (k, eq-eqb kind kind refl) (either (ltb 4 kind)));
+    scratch-room = scratch-room;
+    m-below = unfold keptM blinder2 in m-below;
+    y-below = unfold keptY blinder2 in y-below;
+    scratch-below = scratch-below;
+    write-room = long;
+  }
+    where
+      either : (b : Bool) → cond b true true ≡ true
+      either true = refl
+      either false = refl
+
   module _ (c1 c5 : List (List ℕ)) (f5 : Fits (E .q) (messageLayout 5 (E .n) (E .n) (E .n + rhs)) c5) where
-    pub step6 : (room : ℕ) → sideSize bt ≤ room
+    pub step6 : lastKind (E .n) (E .n + rhs) ≡ 5 → (room : ℕ) → sideSize bt ≤ room
         → blinderLast blinder4 (slot4 c1) (over coins (E .scratch)) (messageOf 5 bt c5) room
         ≡ done (blinderLastEffect blinder4 (slot4 c1) (over coins (E .scratch)) (messageOf 5 bt c5))
     unfolding blinder4
-    step6 room long = blinder-last blinder4 (slot4 c1) (over coins (E .scratch)) (messageOf 5 bt c5) room .accepts (record {
-      later = later-fits (held4 c1) (E .terms-fit) (omega arith);
-      message = own-message 5 bt c5 f5;
-      scratch-room = scratch-room;
-      m-below = unfold keptM blinder2 in m-below;
-      y-below = unfold keptY blinder2 in y-below;
-      scratch-below = scratch-below;
-      write-room = long;
-    })
+    step6 k room long = blinder-last blinder4 (slot4 c1) (over coins (E .scratch)) (messageOf 5 bt c5) room .accepts (last-step c1 5 c5 f5 k (omega arith) room long)
 
     -- z = Q × t
     pub answer6 : blinderLastEffect blinder4 (slot4 c1) (over coins (E .scratch)) (messageOf 5 bt c5) .result ≡ matMul (E .q) (E .n) (E .n) rhs (E .qm) (part 0 c5)
     unfolding blinderLastEffect blinder4
     answer6 = rw (bcolumns-is, holding-matrices blinder IN-USE bt _ (slot4 c1) (held4 c1), message-parts 5 bt c5 f5)
+
+  module _ (c1 c6 : List (List ℕ)) (f6 : Fits (E .q) (messageLayout 6 (E .n) (E .n) (E .n + rhs)) c6) (q-regular : regular (E .q) (E .n) (E .qm) ≡ true) where
+    pub step6-determinant : lastKind (E .n) (E .n + rhs) ≡ 6 → (room : ℕ) → messageSize 6 bt ≤ room
+        → blinderDeterminant blinder4 (slot4 c1) (over coins (E .scratch)) (messageOf 6 bt c6) room
+        ≡ done (blinderDeterminantEffect blinder4 (slot4 c1) (over coins (E .scratch)) (messageOf 6 bt c6))
+    unfolding blinder4
+    step6-determinant k room long = blinder-determinant blinder4 (slot4 c1) (over coins (E .scratch)) (messageOf 6 bt c6) room .accepts (record {
+      fits = last-step c1 6 c6 f6 k (omega arith) room long;
+      p-regular = rw scratch-parts (unfold pm in pm-regular);
+      q-regular = rw (holding-matrices blinder IN-USE bt _ (slot4 c1) (held4 c1)) q-regular;
+    })
+
+    -- the determinant, divided by those of P and Q
+    pub answer6-determinant : blinderDeterminantEffect blinder4 (slot4 c1) (over coins (E .scratch)) (messageOf 6 bt c6) .result
+        ≡ answer (E .q) (E .n) pm (E .qm) (getD (part 0 c6) 0 0) ∷ []
+    unfolding blinderDeterminantEffect blinder4 pm
+    answer6-determinant = rw (holding-matrices blinder IN-USE bt _ (slot4 c1) (held4 c1), message-parts 6 bt c6 f6, scratch-parts)

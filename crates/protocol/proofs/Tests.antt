@@ -8,12 +8,12 @@
 -- Assumes nothing.
 use mathlib.Core.Path.{_≡_, refl, sym, ap, _∙_, subst}
 use mathlib.Core.Logic.{_↔_}
-use mathlib.Core.Bool.{true}
+use mathlib.Core.Bool.{true, false}
 use mathlib.Core.List.{List}
 use Prim.Native.Nat.{ℕ, zero, suc, _+_, _*_, _≤_, _<_}
 use native.Mathlib.Nat.{mul-le-mul}
 use native.Mathlib.Omega.{arith}
-use lib.Dec.{eqb·suc-zero}
+use lib.Dec.{ltb, eqb·suc-zero}
 use lib.ListN.{length, getD, take, drop, length-drop}
 use lib.Seq.{length-take-le}
 use borrow.Author.Tests.{eq-eqb, eqb-true, le-leb, leb-true}
@@ -27,7 +27,7 @@ use Rattle.protocol.specs.Judge.{Test, Judged, done, judge}
 use Rattle.protocol.specs.Drawing.{residuesOf, drawTests}
 use Rattle.protocol.specs.Bounds.{largestModulus, longestSide, longestInner, mostResidues, mostUnknowns, within, allBelow, Sort, product, system, fieldFits, sidesFit, shapeTests, termsTests, inputTests, roomTests}
 use Rattle.protocol.specs.Tape.{Slot, isSlot, slotWords, tapeAt, sortAt, qAt, mAt, kAt, pAt, sortNumber, headerSize, READY, IN-USE, Role, sortOf, layout, bodySize, tapeSize, statusOf, body, matrices, slotTests, halfTests, tapeTests, bodyTests}
-use Rattle.protocol.specs.Message.{Message, kindSort, messageLayout, messageSize, messageParts, messageTests, dueTests}
+use Rattle.protocol.specs.Message.{Message, kindKnown, kindSort, lastFits, messageLayout, messageSize, messageParts, messageTests, dueTests}
 use Rattle.protocol.specs.Step.{firstTests, isOpen, openTests, laterTests}
 use Rattle.protocol.proofs.Judge.{Pass, _also_, _next_, nothing, split, here, rest, pass-given, given-pass, accepts, passed}
 use Rattle.protocol.proofs.Residues.{residues-below, input-residues, residues-input, below-residues, join-cut}
@@ -115,7 +115,8 @@ pub record SystemSides (m k p : ℕ) : Type 0 where
   pub some : 1 ≤ m
   pub few : m ≤ mostUnknowns
   pub k-is : k ≡ m
-  pub p-is : p ≡ m + 1
+  pub low : m ≤ p
+  pub high : p ≤ m + 1
 
 pub system-sides : (m k p : ℕ) → _↔_ {0, 0} (sidesFit system m k p ≡ true) (SystemSides m k p)
 unfolding sidesFit within
@@ -124,9 +125,10 @@ system-sides m k p = (
     some = leb-true _ _ (and-left _ _ (and-left _ _ e));
     few = leb-true _ _ (and-right _ _ (and-left _ _ e));
     k-is = eqb-true _ _ (and-left _ _ (and-right _ _ e));
-    p-is = eqb-true _ _ (and-right _ _ (and-right _ _ e));
+    low = leb-true _ _ (and-left _ _ (and-right _ _ (and-right _ _ e)));
+    high = leb-true _ _ (and-right _ _ (and-right _ _ (and-right _ _ e)));
   },
-  λ f. and-both (and-both (le-leb _ _ (f .some)) (le-leb _ _ (f .few))) (and-both (eq-eqb _ _ (f .k-is)) (eq-eqb _ _ (f .p-is))),
+  λ f. and-both (and-both (le-leb _ _ (f .some)) (le-leb _ _ (f .few))) (and-both (eq-eqb _ _ (f .k-is)) (and-both (le-leb _ _ (f .low)) (le-leb _ _ (f .high)))),
 )
 
 -- a system's terms fit a product's bounds too, which kinds 1 and 2 are held to
@@ -140,12 +142,12 @@ product-of-system t f =
     wide {m} {k} {p} g =
         let square : m * m ≤ 256 = mul-le-mul {n₁ = m} {m₁ = m} {n₂ = 16} {m₂ = 16} (g .few) (g .few) in
         let x : m * k ≤ 2048 = rw (g .k-is) (omega arith) in
-        let y : k * p ≤ 2048 = rw (g .k-is, g .p-is) (omega (arith, square, g .few)) in
+        let y : k * p ≤ 2048 = rw (g .k-is) (omega (arith, mul-le-mul {n₁ = m} {m₁ = p} {n₂ = 16} {m₂ = 17} (g .few) (omega (arith, g .few, g .high)))) in
         record {
           some-m = g .some;
           few-m = omega (arith, g .few);
-          some-p = omega (arith, g .p-is);
-          few-p = omega (arith, g .few, g .p-is);
+          some-p = omega (arith, g .some, g .low);
+          few-p = omega (arith, g .few, g .high);
           some-k = omega (arith, g .some, g .k-is);
           few-k = omega (arith, g .few, g .k-is);
           few-x = x;
@@ -312,6 +314,12 @@ later-tests role kind due t s = (
 pub record MessageFits (kind : ℕ) (t : Terms) (a : Message) : Type 0 where
   pub head-is : a .head ≡ record { kind = kind; terms = t }
   pub residues : Residues (t .q) (messageSize kind t) (a .residues)
+  pub last : lastFits kind (t .m) (t .p) ≡ true
+
+-- kinds 1 to 4 have sides of either sort
+pub early : (m p kind : ℕ) → ltb 4 kind ≡ false → lastFits kind m p ≡ true
+unfolding lastFits
+early m p kind e = rw e
 
 -- its parts
 pub message-parts-fit : {kind : ℕ} {t : Terms} {a : Message} → MessageFits kind t a → Fits (t .q) (messageLayout kind (t .m) (t .k) (t .p)) (messageParts kind t a)
@@ -339,17 +347,18 @@ module _ (kind : ℕ) (t : Terms) (a : Message) where
   unfolding messageTests
   message-facts m d =
       let e = same-head d in
-      let (m1, m2) = split {ts = termsTests (kindSort (a .head .kind)) (a .head .terms)} (rest m) in
+      let (m1, m2) = split {ts = termsTests (kindSort (a .head .kind)) (a .head .terms)} (rest (rest m)) in
       record {
         head-is = e;
         residues = subst (λ (h : Head). Residues (h .terms .q) (messageSize (h .kind) (h .terms)) (a .residues)) e (input-tests _ _ _ .0 m2);
+        last = subst (λ (h : Head). lastFits (h .kind) (h .terms .m) (h .terms .p) ≡ true) e (here (rest m));
       }
 
-  pub message-own : within 1 5 kind ≡ true → TermsFit (kindSort kind) t → MessageFits kind t a → Pass (messageTests a)
+  pub message-own : kindKnown kind ≡ true → TermsFit (kindSort kind) t → MessageFits kind t a → Pass (messageTests a)
   unfolding messageTests
   message-own k f m =
       subst (λ (h : Head). Pass (messageTests (record { head = h; residues = a .residues }))) (sym (m .head-is))
-      ((k next terms-tests (kindSort kind) t .1 f) also input-tests (t .q) (messageSize kind t) (a .residues) .1 (m .residues))
+      ((k next m .last next terms-tests (kindSort kind) t .1 f) also input-tests (t .q) (messageSize kind t) (a .residues) .1 (m .residues))
 
   pub message-due : MessageFits kind t a → Pass (dueTests kind t a)
   unfolding dueTests

@@ -4,7 +4,8 @@
 -- isCompletion          a tape and coins of the other end that give a view (RULES 10.3.3)
 -- completions           how many there are
 -- Counted               the inputs that are counted over
--- solutionFor           the solution for the viewer's input and another one of the other end
+-- solutionFor, answerFor the solution, and the blinder's answer, for the viewer's input and another one of the other end
+-- answerSeen            the answer that a blinder got
 -- Secret                demand 3's counts for one view
 use mathlib.Core.Path.{_≡_}
 use mathlib.Core.Logic.{_≢_, _↔_}
@@ -12,22 +13,25 @@ use mathlib.Core.Bool.{Bool, true, false, cond}
 use mathlib.Core.List.{List, [], _∷_, _++_}
 use Prim.Native.Nat.{ℕ, _+_, _*_}
 use lib.Dec.{eqb}
-use lib.ListN.{length, take, drop}
+use lib.ListN.{length, getD, take, drop}
 use Rattle.algebra.specs.Matrix.{zeros, matAdd, matMul}
-use Rattle.algebra.specs.Count.{both, eqList, part, join, countParts}
+use Rattle.algebra.specs.Count.{both, eqList, parts, part, join, countParts}
 use Rattle.algebra.specs.Inverse.{hasInverse}
 use Rattle.algebra.specs.Elimination.{regular, solution}
 use Rattle.algebra.specs.Words.{over}
+use Rattle.determinant.specs.Determinant.{det}
+use Rattle.determinant.specs.Rank.{rank}
+use Rattle.determinant.specs.Session.{answer}
 use Rattle.protocol.specs.declared.Terms.{Terms}
 use Rattle.protocol.specs.Judge.{Test, Judged, refused, done, judge}
 use Rattle.protocol.specs.Drawing.{wordsFor}
 use Rattle.protocol.specs.Bounds.{Sort, product, system, inputTests}
 use Rattle.protocol.specs.Tape.{Slot, slotAt, slotWords, poolWith, Role, left, right, blinder, solver, sortOf, layout, tapeSize, matrices}
 use Rattle.protocol.specs.Deal.{firstRole, secondRole, Dealt, deal, firstAfter, secondAfter}
-use Rattle.protocol.specs.Message.{Message, messageSize}
+use Rattle.protocol.specs.Message.{Message, isDeterminant, lastKind, messageSize}
 use Rattle.protocol.specs.Step.{Outcome, scratchAfter}
 use Rattle.protocol.specs.Product.{rightFirst, leftStep}
-use Rattle.protocol.specs.System.{sideSize, scratchSize, regularTests, solverFirst, blinderFirst, solverSecond, blinderSecond, solverLast}
+use Rattle.protocol.specs.System.{sideSize, scratchSize, regularTests, solverFirst, blinderFirst, solverSecond, blinderSecond, solverEnding}
 use Rattle.protocol.specs.View.{View, facing, coinLayout, Finished, Unfinished}
 
 -- ---- the messages that an end sends
@@ -65,7 +69,7 @@ module _ (t : Terms) (s : Slot) (input got : List (List ℕ)) where
   solverMessages =
       andThen s (solverFirst t s (part 0 input) (part 1 input) (messageSize 1 t)) (λ x s. hearing got (λ a got.
       andThen s (solverSecond x s (incoming 2 t a) (messageSize 3 t)) (λ x s. hearing got (λ a got.
-      andThen s (solverLast x s (incoming 4 t a) (messageSize 5 t)) (λ x s. [])))))
+      andThen s (solverEnding x s (incoming 4 t a) (messageSize (lastKind (t .m) (t .p)) t)) (λ x s. [])))))
 
   unfoldable pub blinderMessages : (words : List ℕ) → List (List ℕ)
   blinderMessages words =
@@ -199,11 +203,12 @@ jointMatrix v i = jointPart 0 (v .terms .m * v .terms .m) v i
 abbrev pub jointVector : View → (input : List (List ℕ)) → List ℕ
 jointVector v i = jointPart 1 (v .terms .m * 1) v i
 
+-- a determinant is asked of any sum
 abbrev pub sumFits : Sort → View → (input : List (List ℕ)) → Bool
 sumFits product v i = true
-sumFits system v i = hasInverse (v .terms .q) (v .terms .m) (jointMatrix v i)
+sumFits system v i = cond (isDeterminant (v .terms)) true (hasInverse (v .terms .q) (v .terms .m) (jointMatrix v i))
 
--- the inputs counted over: the other end's first step takes them and, in a system, the sum with the viewer's matrix has an inverse
+-- the inputs counted over: the other end's first step takes them and, in a system with right-hand sides, the sum with the viewer's matrix has an inverse
 pub record Counted (v : View) (i : List (List ℕ)) : Type 0 where
   pub taken : Taken (facing (v .role)) (v .terms) i
   pub sum : sumFits (sortOf (v .role)) v i ≡ true
@@ -212,9 +217,19 @@ pub record Counted (v : View) (i : List (List ℕ)) : Type 0 where
 abbrev pub solutionFor : View → (input : List (List ℕ)) → List ℕ
 solutionFor v i = solution (v .terms .q) (v .terms .m) (jointMatrix v i) (jointVector v i)
 
--- the answer z = Q × t of a blinder
+-- what the blinder is to learn: that z, or the determinant of L + M
+abbrev pub answerFor : View → (input : List (List ℕ)) → List ℕ
+answerFor v i = cond (isDeterminant (v .terms)) (det (v .terms .q) (v .terms .m) (jointMatrix v i) ∷ []) (solutionFor v i)
+
+-- P of a blinder's own coins
+abbrev pub ownBlinding : View → List ℕ
+ownBlinding v = part 0 (parts (coinLayout blinder (v .terms)) (v .coins))
+
+-- what a blinder's last step answers by its view: z = Q × t, or the determinant received, divided by those of P and Q
 abbrev pub answerSeen : View → List ℕ
-answerSeen v = matMul (v .terms .q) (v .terms .m) (v .terms .m) 1 (part 2 (v .half)) (part 2 (v .received))
+answerSeen v =
+    cond (isDeterminant (v .terms)) (answer (v .terms .q) (v .terms .m) (ownBlinding v) (part 2 (v .half)) (getD (part 2 (v .received)) 0 0) ∷ [])
+    (matMul (v .terms .q) (v .terms .m) (v .terms .m) 1 (part 2 (v .half)) (part 2 (v .received)))
 
 -- ---- demand 3's counts, for one view
 
@@ -223,9 +238,12 @@ pub record Secret (v : View) : Type 0 where
   pub unfinished : Unfinished v → (i j : List (List ℕ)) → Counted v i → Counted v j → completions v i ≡ completions v j
   -- in a finished product every input has exactly one completion
   pub finished-product : sortOf (v .role) ≡ product → Finished v → (i : List (List ℕ)) → Counted v i → completions v i ≡ 1
-  -- in a finished system the blinder's view has exactly one for a solver's input with the solution seen, and none for another
-  pub finished-blinder : v .role ≡ blinder → Finished v → (i : List (List ℕ)) → Counted v i → solutionFor v i ≡ answerSeen v → completions v i ≡ 1
-  pub other-solution : v .role ≡ blinder → Finished v → (i : List (List ℕ)) → Counted v i → solutionFor v i ≢ answerSeen v → completions v i ≡ 0
-  -- and the solver's view has as many for any two blinder's inputs whose solutions are both zero or both not
-  pub finished-solver : v .role ≡ solver → Finished v → (i j : List (List ℕ)) → Counted v i → Counted v j
+  -- in a finished system the blinder's view has exactly one for a solver's input with the answer seen, a solution or a determinant, and none for another
+  pub finished-blinder : v .role ≡ blinder → Finished v → (i : List (List ℕ)) → Counted v i → answerFor v i ≡ answerSeen v → completions v i ≡ 1
+  pub other-answer : v .role ≡ blinder → Finished v → (i : List (List ℕ)) → Counted v i → answerFor v i ≢ answerSeen v → completions v i ≡ 0
+  -- a solver's view has as many for any two blinder's inputs: whose sums with its own have the same rank, where the determinant is asked for, ..
+  pub same-rank : v .role ≡ solver → isDeterminant (v .terms) ≡ true → Finished v → (i j : List (List ℕ)) → Counted v i → Counted v j
+      → rank (v .terms .q) (v .terms .m) (jointMatrix v i) ≡ rank (v .terms .q) (v .terms .m) (jointMatrix v j) → completions v i ≡ completions v j
+  -- .. and whose solutions are both zero or both not, where a solution is
+  pub finished-solver : v .role ≡ solver → isDeterminant (v .terms) ≡ false → Finished v → (i j : List (List ℕ)) → Counted v i → Counted v j
       → (solutionFor v i ≡ zeros (v .terms .m * 1)) ↔ (solutionFor v j ≡ zeros (v .terms .m * 1)) → completions v i ≡ completions v j

@@ -4,7 +4,7 @@
 --   ModulusFits      of a session's own numbers none is refused by less than 4
 --   jointly          line, room, message and step judged together
 --   OnLines          what a host may rely on, of one step that takes a message
---   PARSE-AND-STEP   of all seven, and of a slice that is too short
+--   PARSE-AND-STEP   of all nine, and of a slice that is too short
 -- Assumes nothing.
 use mathlib.Core.Path.{_≡_}
 use mathlib.Core.Bool.{true}
@@ -25,6 +25,7 @@ use Rattle.protocol.specs.Message.{Message}
 use Rattle.protocol.specs.Step.{isOpen}
 use Rattle.protocol.specs.Product.{leftTests, leftEffect, leftStep, rightLastTests, rightLastEffect, rightLast}
 use Rattle.protocol.specs.System.{blinderFirstTests, blinderFirstEffect, blinderFirst, solverSecondTests, solverSecondEffect, solverSecond, blinderSecondTests, blinderSecondEffect, blinderSecond, solverLastTests, solverLastEffect, solverLast, blinderLastTests, blinderLastEffect, blinderLast}
+use Rattle.protocol.specs.System.{solverDeterminantTests, solverDeterminantEffect, solverDeterminant, blinderDeterminantTests, blinderDeterminantEffect, blinderDeterminant}
 use Rattle.protocol.specs.Line.{numbersOf, messageFrom, readTests, parseInto, readInto, writeInto}
 
 -- two calls of a host, the second with what the first answered
@@ -91,3 +92,9 @@ PARSE-AND-STEP =
     × ((x : BlinderSession) (s : Slot) (scratch : List ℕ) (answerRoom : ℕ)
     → OnLines (λ a. blinderLast x s scratch a answerRoom) (λ a. blinderLastTests x s scratch a answerRoom)
     (blinderLastEffect x s scratch) (openTerms system (x .due) (x .terms)))
+    × ((x : SolverSession) (s : Slot) (room : ℕ)
+    → OnLines (λ a. solverDeterminant x s a room) (λ a. solverDeterminantTests x s a room)
+    (solverDeterminantEffect x s) (openTerms system (x .due) (x .terms)))
+    × ((x : BlinderSession) (s : Slot) (scratch : List ℕ) (answerRoom : ℕ)
+    → OnLines (λ a. blinderDeterminant x s scratch a answerRoom) (λ a. blinderDeterminantTests x s scratch a answerRoom)
+    (blinderDeterminantEffect x s scratch) (openTerms system (x .due) (x .terms)))

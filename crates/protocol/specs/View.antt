@@ -9,6 +9,7 @@ use Prim.Native.Nat.{ℕ, _*_, _<_}
 use lib.ListN.{length}
 use Rattle.protocol.specs.declared.Terms.{Terms}
 use Rattle.protocol.specs.Tape.{Role, left, right, blinder, solver}
+use Rattle.protocol.specs.Message.{lastKind}
 use Rattle.protocol.specs.System.{scratchLayout}
 
 -- RULES 10.3.2. A message counts by its residues, whatever its head says: here it is its residues
@@ -39,15 +40,15 @@ coinLayout right t = []
 coinLayout blinder t = scratchLayout t
 coinLayout solver t = []
 
-abbrev pub kindsSent : Role → List ℕ
-kindsSent left = 2 ∷ []
-kindsSent right = 1 ∷ []
-kindsSent blinder = 2 ∷ 4 ∷ []
-kindsSent solver = 1 ∷ 3 ∷ 5 ∷ []
+abbrev pub kindsSent : Role → Terms → List ℕ
+kindsSent left t = 2 ∷ []
+kindsSent right t = 1 ∷ []
+kindsSent blinder t = 2 ∷ 4 ∷ []
+kindsSent solver t = 1 ∷ 3 ∷ lastKind (t .m) (t .p) ∷ []
 
 -- finished: the end has accepted the last message that it gets
 abbrev pub Finished : View → Type 0
-Finished v = length (v .received) ≡ length (kindsSent (facing (v .role)))
+Finished v = length (v .received) ≡ length (kindsSent (facing (v .role)) (v .terms))
 
 abbrev pub Unfinished : View → Type 0
-Unfinished v = length (v .received) < length (kindsSent (facing (v .role)))
+Unfinished v = length (v .received) < length (kindsSent (facing (v .role)) (v .terms))
