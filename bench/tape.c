@@ -16,7 +16,7 @@
 size_t bench_deal_product(uint32_t *first, size_t n_first, uint32_t *second, size_t n_second, size_t size, size_t index, uint32_t tape, uint32_t q,
                           uint32_t m, uint32_t k, uint32_t p, const uint32_t *words, size_t n_words);
 size_t bench_deal_system(uint32_t *first, size_t n_first, uint32_t *second, size_t n_second, size_t size, size_t index, uint32_t tape, uint32_t q,
-                         uint32_t n, const uint32_t *words, size_t n_words);
+                         uint32_t n, uint32_t p, const uint32_t *words, size_t n_words);
 
 static uint32_t first[POOL], second[POOL], words[TURNS * WORDS], q;
 static uint32_t turns = 1; // after how many turns the same words are drawn from again
@@ -104,7 +104,7 @@ static uint64_t flint_product(uint32_t i) {
     return looked_at(deal_product(1, i + 1), i);
 }
 
-static uint64_t our_system(uint32_t i) { return looked_at(bench_deal_system(first, POOL, second, POOL, size, 1, i + 1, q, m, raw, WORDS), i) + second[size * 2 - 1]; }
+static uint64_t our_system(uint32_t i) { return looked_at(bench_deal_system(first, POOL, second, POOL, size, 1, i + 1, q, m, p, raw, WORDS), i) + second[size * 2 - 1]; }
 static uint64_t flint_system(uint32_t i) { return looked_at(deal_system(1, i + 1, n_is_prime(q)), i) + second[size * 2 - 1]; }
 static uint64_t divided_system(uint32_t i) { return looked_at(deal_system(1, i + 1, by_division(q)), i) + second[size * 2 - 1]; }
 

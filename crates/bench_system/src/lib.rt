@@ -1,6 +1,7 @@
-// What bench/system.c times: the six steps of a system of n unknowns, on the first slot of each pool. Each answers whether it is accepted.
-// C keeps what a session keeps: s of the solver, M and y of the blinder.
+// What bench/system.c times: the six steps of a system of n unknowns, or of a determinant where p is n, on the first slot of each pool. Each answers
+// whether it is accepted. C keeps what a session keeps: s of the solver, M and y of the blinder.
 // No function here is for hosts.
+use blinder::blinder_determinant;
 use blinder::blinder_first;
 use blinder::blinder_last;
 use blinder::blinder_second;
@@ -12,13 +13,13 @@ use protocol::SessionId;
 use protocol::SolverSession;
 use protocol::TapeId;
 use protocol::Terms;
+use solver::solver_determinant;
 use solver::solver_first;
 use solver::solver_last;
 use solver::solver_second;
 use tape::Place;
 use vectors::write_copy;
-ghost use mathlib.Core.Path.{_≡_};
-ghost use Prim.Native.Nat.{_≤_, _<_};
+ghost use Prim.Native.Nat.{_≤_};
 ghost use lib.ListN.{length};
 
 fn accepted(answer: Answer) -> bool {
@@ -33,16 +34,14 @@ fn first_slot(size: usize) -> Place {
     Place { size, index: 0 }
 }
 
-fn terms(q: u32, n: u32) -> Terms
-    requires { ⌜ n ≤ 16 ⌝ }
-{
+fn terms(q: u32, n: u32, p: u32) -> Terms {
     Terms {
         session: SessionId(9),
         tape: TapeId(4),
         q,
         m: n,
         k: n,
-        p: n + 1,
+        p,
     }
 }
 
@@ -75,13 +74,12 @@ pub extern "C" fn bench_solver_first(
     size: usize,
     q: u32,
     n: u32,
+    p: u32,
     l: &[u32],
     x: &[u32],
     out: &mut [u32],
-) -> bool
-    requires { ⌜ n ≤ 16 ⌝ }
-{
-    let done = solver_first(pool, first_slot(size), terms(q, n), l, x, out);
+) -> bool {
+    let done = solver_first(pool, first_slot(size), terms(q, n, p), l, x, out);
     let answer = done.answer;
     accepted(answer)
 }
@@ -93,15 +91,14 @@ pub extern "C" fn bench_blinder_first(
     scratch: &mut [u32],
     q: u32,
     n: u32,
+    p: u32,
     mm: &[u32],
     y: &[u32],
     words: &[u32],
     residues: &[u32],
     out: &mut [u32],
-) -> bool
-    requires { ⌜ n ≤ 16 ⌝ }
-{
-    let t = terms(q, n);
+) -> bool {
+    let t = terms(q, n, p);
     let a = Head { kind: 1, terms: t };
     let done = blinder_first(
         pool,
@@ -125,13 +122,14 @@ pub extern "C" fn bench_solver_second(
     size: usize,
     q: u32,
     n: u32,
+    p: u32,
     residues: &[u32],
     kept: &mut [u32],
     out: &mut [u32],
 ) -> bool
-    requires { ⌜ (n ≤ 16) × (16 ≤ length (now kept)) ⌝ }
+    requires { ⌜ (16 ≤ length (now kept)) ⌝ }
 {
-    let t = terms(q, n);
+    let t = terms(q, n, p);
     let none = [0u32; 16];
     let before = SolverSession {
         terms: t,
@@ -153,14 +151,15 @@ pub extern "C" fn bench_blinder_second(
     scratch: &[u32],
     q: u32,
     n: u32,
+    p: u32,
     mm: &[u32],
     y: &[u32],
     residues: &[u32],
     out: &mut [u32],
 ) -> bool
-    requires { ⌜ (n ≤ 16) × (length (now mm) ≤ 256) × (length (now y) ≤ 16) ⌝ }
+    requires { ⌜ (length (now mm) ≤ 256) × (length (now y) ≤ 16) ⌝ }
 {
-    let t = terms(q, n);
+    let t = terms(q, n, p);
     let a = Head { kind: 3, terms: t };
     let done = blinder_second(
         pool,
@@ -181,13 +180,14 @@ pub extern "C" fn bench_solver_last(
     size: usize,
     q: u32,
     n: u32,
+    p: u32,
     kept: &[u32],
     residues: &[u32],
     out: &mut [u32],
 ) -> bool
-    requires { ⌜ (n ≤ 16) × (16 ≤ length (now kept)) ⌝ }
+    requires { ⌜ (16 ≤ length (now kept)) ⌝ }
 {
-    let t = terms(q, n);
+    let t = terms(q, n, p);
     let mut s = [0u32; 16];
     write_copy(16, kept, &mut s);
     let before = SolverSession {
@@ -196,6 +196,11 @@ pub extern "C" fn bench_solver_last(
         s: s,
     };
     let a = Head { kind: 4, terms: t };
+    if p == n {
+        let done = solver_determinant(pool, first_slot(size), before, a, residues, out);
+        let answer = done.answer;
+        return accepted(answer);
+    }
     let done = solver_last(pool, first_slot(size), before, a, residues, out);
     let answer = done.answer;
     accepted(answer)
@@ -208,14 +213,29 @@ pub extern "C" fn bench_blinder_last(
     scratch: &mut [u32],
     q: u32,
     n: u32,
+    p: u32,
     mm: &[u32],
     y: &[u32],
     residues: &[u32],
     out: &mut [u32],
 ) -> bool
-    requires { ⌜ (n ≤ 16) × (length (now mm) ≤ 256) × (length (now y) ≤ 16) ⌝ }
+    requires { ⌜ (length (now mm) ≤ 256) × (length (now y) ≤ 16) ⌝ }
 {
-    let t = terms(q, n);
+    let t = terms(q, n, p);
+    if p == n {
+        let d = Head { kind: 6, terms: t };
+        let done = blinder_determinant(
+            pool,
+            first_slot(size),
+            scratch,
+            session(t, 6, mm, y),
+            d,
+            residues,
+            out,
+        );
+        let answer = done.answer;
+        return accepted(answer);
+    }
     let a = Head { kind: 5, terms: t };
     let done = blinder_last(
         pool,

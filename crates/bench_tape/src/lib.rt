@@ -46,6 +46,7 @@ pub extern "C" fn bench_deal_system(
     tape: u32,
     q: u32,
     n: u32,
+    p: u32,
     words: &[u32],
 ) -> usize {
     read_in(dealer::deal_system(
@@ -55,6 +56,7 @@ pub extern "C" fn bench_deal_system(
         TapeId(tape),
         q,
         n,
+        p,
         words,
     ))
 }

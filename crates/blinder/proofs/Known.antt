@@ -2,11 +2,11 @@
 --   eliminable, first-known, masking-known, first-computed, p-drawn, p-residues   step 2
 --   kept-known    the first phase of a later step
 --   second-known, sending-known, second-computed   step 4
---   last-known    step 6
+--   last-known, determinant-known   step 6, and that of a determinant
 --   drop-known    a drop that is accepted
 -- Assumes nothing.
 use mathlib.Core.Path.{_≡_, sym, ap, _∙_}
-use mathlib.Core.Bool.{Bool, true}
+use mathlib.Core.Bool.{Bool}
 use mathlib.Core.List.{List, [], _∷_, _++_, append-nil}
 use Prim.Native.Nat.{ℕ, _*_, _≤_, _<_}
 use native.Mathlib.Omega.{arith}
@@ -23,15 +23,15 @@ use Rattle.protocol.specs.declared.BlinderSession.{BlinderSession}
 use Rattle.protocol.specs.declared.Answer.the-variants.{Accepted}
 use Rattle.protocol.specs.declared.Refusal.the-variants.{Size}
 use Rattle.protocol.specs.Judge.{needs, given, done}
-use Rattle.protocol.specs.Bounds.{sidesFit, system, fieldFits, inputTests, roomTests}
+use Rattle.protocol.specs.Bounds.{fieldFits, inputTests, roomTests}
 use Rattle.protocol.specs.Tape.{Slot, slotWords, blinder, matrices}
-use Rattle.protocol.specs.Message.{Message, messageSize, messageTests, dueTests}
+use Rattle.protocol.specs.Message.{Message, lastKind, messageSize, messageTests, dueTests}
 use Rattle.protocol.specs.Step.{isOpen, firstTests, openTests, laterTests}
-use Rattle.protocol.specs.System.{padded, sideSize, keptM, keptY, scratchLayout, scratchSize, scratchParts, coinsOf, blinderFirstEffect, blinderFirstTests, blinderFirst, blinderSecondEffect, blinderSecondTests, blinderSecond, blinderLastEffect, blinderLastTests, blinderLast}
+use Rattle.protocol.specs.System.{padded, sideSize, keptM, keptY, scratchLayout, scratchSize, scratchParts, coinsOf, blinderFirstEffect, blinderFirstTests, blinderFirst, blinderSecondEffect, blinderSecondTests, blinderSecond, blinderLastEffect, blinderLastTests, blinderLast, blinderDeterminantEffect, blinderDeterminantTests, blinderDeterminant}
 use Rattle.protocol.specs.Drop.{dropBlinder}
 use Rattle.protocol.proofs.Judge.{passed, all-split, holds-given}
-use Rattle.protocol.proofs.Tests.{open-due, input-tests, room-tests, first-tests, later-tests}
-use Rattle.protocol.proofs.StepTests.{BlinderFirstFits, blinder-first, BlinderFits, blinder-second, blinder-last, DropBlinderFits, drop-blinder}
+use Rattle.protocol.proofs.Tests.{LaterFits, open-due, input-tests, room-tests, first-tests, later-tests}
+use Rattle.protocol.proofs.StepTests.{BlinderFirstFits, blinder-first, BlinderFits, blinder-second, blinder-last, BlinderDeterminantFits, blinder-determinant, DropBlinderFits, drop-blinder}
 use Rattle.judging.specs.InOrder.{judged}
 use Rattle.judging.specs.Leaves.{computed, computing}
 use Rattle.judging.proofs.InOrder.{accepted-by}
@@ -120,7 +120,7 @@ p-drawn t words = sym (take-take (t .m * t .m) (scratchSize t) (residuesOf (t .q
 
 module _ (x : BlinderSession) (s : Slot) (a : Message) where
   pub kept-known : (step : ℕ) (fits : Bool) (scratch : ℕ) → judged (laterOpen step fits x s scratch a) ≡ done tt
-      → (sidesFit system (x .terms .m) (x .terms .k) (x .terms .p) ≡ true) × (scratchSize (x .terms) ≤ scratch)
+      → LaterFits blinder step (x .due) (x .terms) s × (scratchSize (x .terms) ≤ scratch)
   unfolding laterOpen
   kept-known step fits scratch e =
       let later = laterTests blinder step (x .due) (x .terms) s in
@@ -129,14 +129,20 @@ module _ (x : BlinderSession) (s : Slot) (a : Message) where
       let written = given (isOpen (x .due)) (needs Size fits ∷ []) in
       let (in-session, in-rooms) = all-split (messageTests a ++ (later ++ due)) (lent ++ written) (passed (laterOpen step fits x s scratch a) e .0) in
       let in-later = all-split later due (all-split (messageTests a) (later ++ due) in-session .1) .0 in
-      let o = later-tests blinder step (x .due) (x .terms) s .0 (record { all = in-later }) .session-open in
-      let in-lent = holds-given (isOpen (x .due)) _ (open-due (x .due) .1 (o .is-open)) (all-split lent written in-rooms .0) in
-      (o .terms .sides, room-tests _ _ .0 (record { all = in-lent }))
+      let f = later-tests blinder step (x .due) (x .terms) s .0 (record { all = in-later }) in
+      let in-lent = holds-given (isOpen (x .due)) _ (open-due (x .due) .1 (f .session-open .is-open)) (all-split lent written in-rooms .0) in
+      (f, room-tests _ _ .0 (record { all = in-lent }))
 
   pub last-known : (scratch : List ℕ) (room : ℕ) → judged (blinderLastTests x s scratch a room) ≡ done tt
       → BlinderFits 5 x s scratch a (sideSize (x .terms)) room
   unfolding blinderLast
   last-known scratch room h = blinder-last x s scratch a room .means (accepted-by (blinderLastTests x s scratch a room) (blinderLastEffect x s scratch a) h) .0
+
+  pub determinant-known : (scratch : List ℕ) (room : ℕ) → judged (blinderDeterminantTests x s scratch a room) ≡ done tt
+      → BlinderDeterminantFits x s scratch a room
+  unfolding blinderDeterminant
+  determinant-known scratch room h =
+      blinder-determinant x s scratch a room .means (accepted-by (blinderDeterminantTests x s scratch a room) (blinderDeterminantEffect x s scratch a) h) .0
 
   pub second-known : (scratch : List ℕ) (room : ℕ) → judged (blinderSecondTests x s scratch a room) ≡ done tt
       → BlinderFits 3 x s scratch a (messageSize 4 (x .terms)) room
@@ -166,13 +172,13 @@ module _ (x : BlinderSession) (s : Slot) (a : Message) {scratch : List ℕ} {roo
         room = omega (arith, known .write-room, size-4 (x .terms), same);
       }
 
-  pub second-computed : {n r : ℕ} {o : List ℕ} (out : List ℕ) → n ≡ x .terms .m * x .terms .m → r ≡ sideSize (x .terms)
+  pub second-computed : {n r due : ℕ} {o : List ℕ} (out : List ℕ) → due ≡ lastKind (x .terms .m) (x .terms .p) → n ≡ x .terms .m * x .terms .m → r ≡ sideSize (x .terms)
       → o ≡ over (secondSent (x .terms) (take n (x .mm)) (take r (x .y)) (a .residues) scratch qm g) out
-      → computing (Accepted 0) (record { terms = x .terms; due = 5; mm = x .mm; y = x .y }) (record { kind = 4; terms = x .terms }) scratch o []
+      → computing (Accepted 0) (record { terms = x .terms; due = due; mm = x .mm; y = x .y }) (record { kind = 4; terms = x .terms }) scratch o []
       ≡ computed scratch out [] (blinderSecondEffect x s scratch a)
   unfolding secondSent blinderSecondEffect keptM keptY join over
-  second-computed out e f h =
-      rw (h, e, f, is-q, is-g) (simp (append-nil, f-part (x .terms) a (known .message .residues .size ∙ sym (size-3 (x .terms)))))
+  second-computed out d e f h =
+      rw (d, h, e, f, is-q, is-g) (simp (append-nil, f-part (x .terms) a (known .message .residues .size ∙ sym (size-3 (x .terms)))))
 
 pub drop-known : (x : BlinderSession) (s : Slot) (scratch : List ℕ)
     → judged (openTests blinder (x .due) (x .terms) s ++ given (isOpen (x .due)) (roomTests (scratchSize (x .terms)) (length scratch))) ≡ done tt

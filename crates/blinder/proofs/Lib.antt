@@ -5,6 +5,7 @@
 -- Sent      the message that a step takes
 -- Order     the steps' tests, judged by the phases in which the code makes them
 -- Known     what is known where tests passed
+-- Division  what a determinant's last step divides by, and its answer
 pub mod Kept
 pub mod Coins
 pub mod Start
@@ -12,3 +13,4 @@ pub mod Factored
 pub mod Sent
 pub mod Order
 pub mod Known
+pub mod Division

@@ -1,7 +1,8 @@
 -- The steps' tests, judged by the phases in which the code makes them: the sorted tests are the phases' sorted tests, by computing.
 --   first-phases               step 2
---   later-phases               both later steps
+--   later-phases               every later step
 --   second-tests, last-tests   steps 4 and 6 are those
+--   determinant-phases         step 6 of a determinant: those, and then that P and Q have an inverse
 -- Assumes nothing.
 use mathlib.Core.Path.{_≡_, refl, sym, ap, _∙_}
 use mathlib.Core.Bool.{Bool}
@@ -9,15 +10,16 @@ use mathlib.Core.List.{List, [], _∷_, _++_}
 use Prim.Native.Nat.{ℕ}
 use lib.Dec.{leb}
 use lib.ListN.{length}
+use Rattle.algebra.specs.Count.{part}
 use Rattle.protocol.specs.declared.Terms.{Terms}
 use Rattle.protocol.specs.declared.BlinderSession.{BlinderSession}
 use Rattle.protocol.specs.Judge.{Test, given}
 use Rattle.protocol.specs.Drawing.{drawTests}
 use Rattle.protocol.specs.Bounds.{shapeTests, termsTests, inputTests, roomTests}
-use Rattle.protocol.specs.Tape.{Slot, slotTests, halfTests, tapeTests, bodyTests}
+use Rattle.protocol.specs.Tape.{Slot, slotWords, blinder, matrices, slotTests, halfTests, tapeTests, bodyTests}
 use Rattle.protocol.specs.Message.{Message, messageSize, messageTests, dueTests}
 use Rattle.protocol.specs.Step.{firstTests, openTests, laterTests}
-use Rattle.protocol.specs.System.{sideSize, scratchSize, regularTests, keptTests, blinderTests, blinderFirstTests, blinderSecondTests, blinderLastTests}
+use Rattle.protocol.specs.System.{sideSize, scratchSize, scratchParts, regularTests, keptTests, blinderTests, blinderFirstTests, blinderSecondTests, blinderLastTests, blinderDeterminantTests}
 use Rattle.judging.specs.InOrder.{only, sortedBy, sorted, judged, after}
 use Rattle.judging.proofs.InOrder.{after-last}
 use Rattle.judging.proofs.Join.{judged-phases}
@@ -51,3 +53,11 @@ module _ (x : BlinderSession) (s : Slot) (scratch : List ℕ) (a : Message) wher
   pub second-tests : (room : ℕ) → laterStep 3 (leb (messageSize 4 (x .terms)) room) x s scratch a ≡ blinderSecondTests x s scratch a room
   unfolding laterStep blinderSecondTests roomTests
   second-tests room = refl
+
+  pub determinant-phases : (room : ℕ)
+      → judged (blinderDeterminantTests x s scratch a room)
+      ≡ after (judged (laterStep 6 (leb (messageSize 6 (x .terms)) room) x s scratch a))
+      (judged (regularTests (x .terms .q) (x .terms .m) (part 0 (scratchParts (x .terms) scratch))
+      ++ regularTests (x .terms .q) (x .terms .m) (part 2 (matrices blinder (x .terms) (slotWords s)))))
+  unfolding sorted sortedBy only given laterStep blinderDeterminantTests blinderTests laterTests openTests messageTests dueTests termsTests shapeTests slotTests halfTests tapeTests bodyTests inputTests roomTests keptTests regularTests
+  determinant-phases room = in-two _ (laterStep 6 (leb (messageSize 6 (x .terms)) room) x s scratch a) _ refl

@@ -1,4 +1,4 @@
-// What both later steps check. `step` is the kind of the message that a step takes, and `fits` that what it writes has room.
+// What every later step checks. `step` is the kind of the message that a step takes, and `fits` that what it writes has room.
 //   check  all tests of the step
 use crate::scratch_fits;
 use crate::scratch_size;

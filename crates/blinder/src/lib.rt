@@ -1,14 +1,16 @@
-// The blinder's three steps, and its drop.
+// The blinder's steps, and its drop.
 //   BlinderAnswer         what each of them answers
 //   first, second, last   the steps: blinder_first, blinder_second, blinder_last
-//   later                 what the second and the last check
+//   det                   the last step of a determinant: blinder_determinant
+//   later                 what the second and either last step check
 //   formula               W = (U' − F) × Q + P × M × Q − G and c = u + P × y, where U0 = [U', u]
 //   drop                  blinder_drop
 //   refused, no_session   what a refused step answers and leaves
 //   opened, closed        the sessions, which keep M and y; forget zeroes the scratch too
 //   scratch_size, scratch_fits   how many residues P and U0 have, and room for them
 //   drawn_p, drawn_u0     P and U0, which stand in the scratch
-// For hosts: blinder_first, blinder_second, blinder_last, blinder_drop.
+// For hosts: blinder_first, blinder_second, blinder_last, blinder_determinant, blinder_drop.
+mod det;
 mod drop;
 pub mod first;
 mod formula;
@@ -16,6 +18,7 @@ mod last;
 mod later;
 mod second;
 
+pub use det::blinder_determinant;
 pub use drop::BlinderDropped;
 pub use drop::blinder_drop;
 pub use first::blinder_first;

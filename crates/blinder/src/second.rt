@@ -1,4 +1,4 @@
-// Step 4: the blinder sends W and c. Neither its half nor its scratch changes; its session waits for message 5.
+// Step 4: the blinder sends W and c. Neither its half nor its scratch changes; its session waits for the solver's last message.
 //   compute         the message, by send
 //   blinder_second  the step
 use crate::BlinderAnswer;
@@ -11,6 +11,7 @@ use crate::later;
 use crate::refused;
 use judging::Check;
 use judging::message::has_room;
+use judging::message::last_kind;
 use judging::message::side_size;
 use protocol::Answer;
 use protocol::BlinderSession;
@@ -58,7 +59,7 @@ fn send(
     write_c(sizes, u0, pm, y, &mut out[square..]);
 }
 
-// The message goes into `out`; the session waits for kind 5.
+// The message goes into `out`; the session waits for kind 5, or 6 where the determinant is asked for.
 fn compute(
     pool: &[u32],
     at: Place,
@@ -84,7 +85,7 @@ fn compute(
         answer: Answer::Accepted(0),
         session: BlinderSession {
             terms: t,
-            due: 5,
+            due: last_kind(t),
             mm: mm,
             y: y,
         },

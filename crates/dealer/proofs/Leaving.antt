@@ -1,28 +1,22 @@
 -- What the dealer's code leaves is what the definition of dealing says, for both sorts.
---   deal-refused, deal-checked   a refusal changes nothing
---   half-back                    a half that was written over a lent slot
---   deal-done                    both pools with their halves
+--   deal-refused   a refusal changes nothing
+--   half-back      a half that was written over a lent slot
+--   deal-done      both pools with their halves
 -- Assumes nothing.
 use mathlib.Core.Path.{_≡_, sym, ap, _∙_}
 use mathlib.Core.List.{List}
 use Prim.Native.Nat.{ℕ, _+_, _-_, _*_}
-use lib.Dec.{ltb}
-use mathlib.Core.Bool.{Bool, true, false, cond}
 use lib.ListN.{length, take, drop}
 use borrow.Rule.Slice.PartMut.{putMid}
 use Rattle.algebra.specs.Words.{over}
 use Rattle.protocol.specs.declared.Refusal.{Refusal}
 use Rattle.protocol.specs.declared.Answer.the-variants as answer
-use Rattle.protocol.specs.Judge.{placeOf, Judged, refused, done}
-use Rattle.protocol.proofs.Judge.{refused≢done}
-use Rattle.judging.specs.Lowest.{lower}
+use Rattle.protocol.specs.Judge.{refused, done}
 use Rattle.protocol.specs.Drawing.{wordsRead}
 use Rattle.protocol.specs.Tape.{slotAt, slotWords, poolWith}
 use Rattle.protocol.specs.Deal.{Request, drawSize, dealTests, dealtOver, dealtEffect, deal}
 use Rattle.protocol.specs.Step.{answerReply}
-use Rattle.judging.specs.declared.Check.{Check}
-use Rattle.judging.specs.declared.Check.the-variants.{Passed, Refused}
-use Rattle.judging.specs.InOrder.{checked, answerOf, judged}
+use Rattle.judging.specs.InOrder.{judged}
 use Rattle.judging.proofs.InOrder.{refused-by, accepted-by}
 use Rattle.tape.proofs.Slots.{slot-part, slot-back}
 use Rattle.dealer.specs.Dealt.{Pools, pools, firstHalfWords, secondHalfWords}
@@ -33,27 +27,12 @@ pub half-back : (pool ys half : List ℕ) (size index : ℕ) → length ys ≡ s
 half-back pool ys half size index n e =
     slot-back pool ys size index n ∙ ap (poolWith (slotAt pool size index)) (e ∙ ap (over half) (slot-part pool size index))
 
-never : (v : Judged Unit) (e : Refusal) → lower v (refused e) ≡ done tt → ⊥
-never (done u) e h = refused≢done h
-never (refused x) e h = go (ltb (placeOf e) (placeOf x)) h
-  where
-    go : (b : Bool) → _≡_ {A = Judged Unit} (cond b (refused e) (refused x)) (done tt) → ⊥
-    go true h = refused≢done h
-    go false h = refused≢done h
-
 module _ (first second : List ℕ) (size index : ℕ) (r : Request) where
   pub deal-refused : {e : Refusal} → judged (dealTests (slotAt first size index) (slotAt second size index) r) ≡ refused e
       → _≡_ {A = Pools} (record { answer = answerReply (answer.Refused e); first = first; second = second })
       (pools first second (deal first second size index r))
   unfolding deal
   deal-refused h = ap (pools first second) (sym (refused-by _ _ h))
-
-  -- a check with a test that fails
-  pub deal-checked : (c : Check) (v : Judged Unit) (e : Refusal) → checked c ≡ lower v (refused e)
-      → judged (dealTests (slotAt first size index) (slotAt second size index) r) ≡ lower v (refused e)
-      → _≡_ {A = Pools} (record { answer = answerReply (answerOf c); first = first; second = second }) (pools first second (deal first second size index r))
-  deal-checked Passed v e told h = absurd (never v e (sym told))
-  deal-checked (Refused x) v e told h = deal-refused (h ∙ sym told)
 
   pub deal-done : {read : ℕ} {first′ second′ : List ℕ} → judged (dealTests (slotAt first size index) (slotAt second size index) r) ≡ done tt
       → read ≡ wordsRead (r .q) (drawSize r) (r .words)

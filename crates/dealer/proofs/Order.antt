@@ -1,29 +1,25 @@
 -- The dealer's tests, judged by the groups in which its code makes them.
 --   deal-phases   those on numbers, and then those on words
 --   raw-phases    enough raw words, and then the mask
---   unfit         sides that don't fit: the modulus, and refusal 4
 -- Assumes nothing.
 use mathlib.Core.Path.{_≡_, refl, sym, ap, _∙_}
 use mathlib.Core.Bool.{Bool, true, false, cond}
 use mathlib.Core.List.{List, [], _∷_, _++_}
-use Prim.Native.Nat.{ℕ, _+_, _/_, _≤_}
+use Prim.Native.Nat.{ℕ, _/_, _≤_}
 use lib.Dec.{leb, ltb}
 use lib.ListN.{length}
 use borrow.Author.Tests.{le-leb}
-use Rattle.algebra.specs.Count.{both}
 use Rattle.protocol.specs.declared.Terms.{Terms}
 use Rattle.protocol.specs.declared.Refusal.the-variants.{Modulus, Composite, Size}
-use Rattle.protocol.specs.Judge.{Test, needs, Judged, refused, done}
-use Rattle.protocol.specs.Bounds.{Sort, product, system, within, largestModulus, mostUnknowns, fieldFits, sidesFit, shapeTests}
+use Rattle.protocol.specs.Judge.{Test, Judged, refused, done}
+use Rattle.protocol.specs.Bounds.{Sort, product, system, within, largestModulus, fieldFits, sidesFit, shapeTests}
 use Rattle.protocol.specs.Drawing.{drawTests}
 use Rattle.protocol.specs.Tape.{Slot, slotAt, isSlot, sortOf, tapeSize, slotTests, halfTests}
-use Rattle.protocol.specs.Deal.{Request, firstRole, secondRole, drawSize, dealTests}
-use Rattle.protocol.proofs.Judge.{one-fails}
+use Rattle.protocol.specs.Deal.{firstRole, secondRole, drawSize, dealTests}
 use Rattle.judging.specs.InOrder.{inOrder, verdict, only, sortedBy, sorted, judged, after}
-use Rattle.judging.specs.Lowest.{lower}
 use Rattle.judging.specs.Groups.{modulusTests, numberTests, placeTests}
 use Rattle.judging.proofs.InOrder.{judge-sorted, after-last}
-use Rattle.judging.proofs.Join.{judged-join, judged-phases}
+use Rattle.judging.proofs.Join.{judged-phases}
 use Rattle.dealer.specs.Sorts.{drawCount, request}
 use Rattle.dealer.specs.Groups.{sizeTests, dealNumbers, markTests, maskTests, rawTests, dealWords}
 
@@ -94,21 +90,3 @@ module _ (s : Sort) (t : Terms) (first second : List ℕ) (size index : ℕ) (wo
   deal-phases h =
       let same = numbers-once t (length first) (length second) size index s h in
       phases ∙ ap (λ (v : Judged Unit). after v (judged (dealWords s t A B words))) same
-
--- ---- sides that don't fit
-
-pub wide : (n : ℕ) → within 1 mostUnknowns n ≡ false → sidesFit system n n (n + 1) ≡ false
-unfolding sidesFit both
-wide n e = rw e
-
-module _ (a b : Slot) (r : Request) where
-  unfit-verdict : sidesFit (r .sort) (r .m) (r .k) (r .p) ≡ false
-      → verdict (sorted (dealTests a b r)) ≡ verdict (sorted (modulusTests (r .sort) (r .q) ++ (needs Size false ∷ [])))
-  unfolding inOrder sorted sortedBy only dealTests shapeTests slotTests halfTests drawTests modulusTests
-  unfit-verdict e = rw e
-
-  pub unfit : sidesFit (r .sort) (r .m) (r .k) (r .p) ≡ false → judged (dealTests a b r) ≡ lower (judged (modulusTests (r .sort) (r .q))) (refused Size)
-  unfit e =
-      judge-sorted _ tt
-      ∙ (unfit-verdict e
-      ∙ (sym (judge-sorted _ tt) ∙ (judged-join (modulusTests (r .sort) (r .q)) _ ∙ ap (lower (judged (modulusTests (r .sort) (r .q)))) (one-fails Size tt))))

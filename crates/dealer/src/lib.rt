@@ -14,16 +14,11 @@ use check::check;
 use halves::write_halves;
 use judging::Check;
 use judging::answer_of;
-use judging::numbers::check_modulus;
-use judging::worst;
 use protocol::Answer;
-use protocol::Refusal;
 use protocol::SessionId;
 use protocol::TapeId;
 use protocol::Terms;
-use sides::Matrix;
 use sort::Sort;
-use tape::End;
 use tape::Place;
 ghost use mathlib.Core.Path.{_≡_};
 ghost use Prim.Native.Nat.{_≤_};
@@ -83,7 +78,7 @@ pub fn deal_product(
     deal(Sort::Product, t, first, second, at, words)
 }
 
-// A system of n unknowns: blinder's half goes into the first pool, solver's into the second.
+// A system of n unknowns, whose p is n + 1, or n for a determinant: blinder's half goes into the first pool, solver's into the second.
 pub fn deal_system(
     first: &mut [u32],
     second: &mut [u32],
@@ -91,18 +86,13 @@ pub fn deal_system(
     tape: TapeId,
     q: u32,
     n: u32,
+    p: u32,
     words: &[u32],
 ) -> Answer
     ensures { λ r. ⌜ _≡_ {A = Pools} (record { answer = answerReply r; first = now (first .exit); second = now (second .exit) })
-        (pools (now (first .entry)) (now (second .entry)) (deal (now (first .entry)) (now (second .entry)) (at .size) (at .index) (systemRequest tape q n (now (words .entry))))) ⌝ }
+        (pools (now (first .entry)) (now (second .entry)) (deal (now (first .entry)) (now (second .entry)) (at .size) (at .index) (systemRequest tape q n p (now (words .entry))))) ⌝ }
 {
-    // n + 1 may not be a number of 32 bits
-    if !Matrix::unknowns_fit(n) {
-        let modulus = check_modulus(End::Blinder, q);
-        return answer_of(worst(modulus, Check::Refused(Refusal::Size)));
-    }
     let session = SessionId(1);
-    let p = n + 1;
     let t = Terms {
         session,
         tape,

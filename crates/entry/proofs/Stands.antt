@@ -3,21 +3,22 @@
 --   right-back, solver-back, blinder-back          the session of an end, read from its record
 --   RightWords .., made-right ..                   sessions of words, in arrays of their length: their records are such
 --   right-first-words .. blinder-drop-words        every accepted step and drop leaves such a session, from such a session
---   next-right .. next-blinder-last, drop-right .. over such a record the step that is due, and the drop, are the end's own
+--   next-right .. next-blinder-ending, drop-right .. over such a record the step that is due, and the drop, are the end's own
 --   Whole, stands, stands-not, drop-stands         where its own tests hold an entry leaves what the step over its record leaves
 --   right-stands .. blinder-drop-stands            of each end and step: same number, same words, same line as the step
 --   right-first-stands .. blinder-first-stands     the same of first steps
 --   left-back                                      the record that an entry leaves is read as the session that the step left
 -- Assumes nothing.
 use mathlib.Core.Path.{_≡_, refl, ap, ap₂, _∙_, subst}
-use mathlib.Core.Bool.{true}
+use mathlib.Core.Bool.{Bool, true, false, cond}
 use mathlib.Core.List.{List, [], _∷_, _++_, append-nil}
 use Prim.Native.Nat.{ℕ, zero, suc, _+_, _*_, _/_, _%_, _≤_, _<_}
 use native.Mathlib.Nat.{mul-le-mul}
 use native.Mathlib.Omega.{arith}
+use lib.Dec.{eqb}
 use lib.ListN.{length, take, drop, length-append, length-drop, drop-of-length-le}
 use lib.Seq.{take-at, drop-at}
-use borrow.Author.Tests.{eq-eqb, ltb-true, le-leb}
+use borrow.Author.Tests.{eq-eqb, ne-eqb, ltb-true, le-leb}
 use Rattle.algebra.specs.Matrix.{Residues, tabulate, zeros}
 use Rattle.algebra.specs.Words.{over}
 use Rattle.algebra.specs.Product.{rightShare}
@@ -33,11 +34,12 @@ use Rattle.protocol.specs.declared.Refusal.{Refusal}
 use Rattle.protocol.specs.Judge.{Test, Judged, refused, done, judge}
 use Rattle.protocol.specs.Bounds.{columns, allBelow, system}
 use Rattle.protocol.specs.Tape.{Slot}
-use Rattle.protocol.specs.Message.{Message}
+use Rattle.protocol.specs.Message.{Message, isDeterminant, lastKind}
 use Rattle.protocol.specs.Line.{parseMessage, mostSent}
 use Rattle.protocol.specs.Step.{Effect, Outcome}
 use Rattle.protocol.specs.Product.{closedRight, rightFirstEffect, rightFirst, leftStep, rightLastEffect, rightLast}
-use Rattle.protocol.specs.System.{padded, sideSize, solverFirstEffect, solverFirst, blinderFirstEffect, blinderFirst, solverSecondEffect, solverSecond, solverLastEffect, solverLast, blinderSecondEffect, blinderSecond, blinderLastEffect, blinderLast, closedSolver, closedBlinder}
+use Rattle.protocol.specs.System.{padded, sideSize, solverFirstEffect, solverFirst, blinderFirstEffect, blinderFirst, solverSecondEffect, solverSecond, blinderSecondEffect, blinderSecond, closedSolver, closedBlinder}
+use Rattle.protocol.specs.System.{solverLastEffect, solverLast, solverDeterminantEffect, solverDeterminant, solverEnding, blinderLastEffect, blinderLast, blinderDeterminantEffect, blinderDeterminant}
 use Rattle.protocol.specs.Drop.{dropRight, dropSolver, dropBlinder}
 use Rattle.protocol.proofs.Judge.{Pass, _next_, nothing, all-append, accepts, passed}
 use Rattle.protocol.proofs.Residues.{residues-below}
@@ -46,7 +48,7 @@ use Rattle.protocol.proofs.StepTests.{blinder-first, solver-second}
 use Rattle.entry.specs.declared.Session.{Session}
 use Rattle.entry.specs.Bytes.{wordOf, wordsOf, bytesOf}
 use Rattle.entry.specs.Record.{LEFT, RIGHT, BLINDER, SOLVER, noSession, rightOf, solverOf, blinderOf, ofLeft, ofRight, ofSolver, ofBlinder, recordWords, sessionFrom}
-use Rattle.entry.specs.Steps.{also, lowerThan, recorded, freeTests, firstStep, nextStep, dropStep}
+use Rattle.entry.specs.Steps.{also, lowerThan, recorded, freeTests, firstStep, blinderEnding, nextStep, dropStep}
 use Rattle.entry.specs.Entry.{Lent, Left, lineOf, inRoom, left, recordTests, wholeTests, sessionIn, sessionTests, slotOf, entered, takesMessage, firstTests, firstOn, nextOn, dropOn}
 use Rattle.entry.proofs.Bytes.{Below, below-cons, below-append, below-drop, words-back, bytes-length}
 
@@ -203,6 +205,10 @@ Keeps {S} P o = (e : Effect S) → o ≡ done e → P (e .session)
 judged-keeps : {S : Type 0} (P : S → Type 0) (ts : List Test) (a : Effect S) → P (a .session) → Keeps P (judge ts a)
 judged-keeps {S} P ts a p e h = subst (λ (z : Effect S). P (z .session)) (passed ts h .1) p
 
+either-keeps : {S : Type 0} (P : S → Type 0) (b : Bool) {o p : Outcome S} → Keeps P o → Keeps P p → Keeps P (cond b o p)
+either-keeps P true h k = h
+either-keeps P false h k = k
+
 all-words : (q : ℕ) (l : List ℕ) → q ≤ 4294967296 → allBelow q l ≡ true → Below 4294967296 l
 unfolding allBelow
 all-words q [] h b = λ i. omega arith
@@ -217,7 +223,7 @@ system-size : (t : Terms) → TermsFit system t → (t .m * t .m ≤ 256) × (t 
 unfolding columns
 system-size t f =
     let s = system-sides (t .m) (t .k) (t .p) .0 (f .sides) in
-    let one : columns (t .m) (t .p) ≤ 1 = omega (arith, s .p-is) in (
+    let one : columns (t .m) (t .p) ≤ 1 = omega (arith, s .high) in (
       mul-le-mul {n₁ = t .m} {m₁ = t .m} {n₂ = 16} {m₂ = 16} (s .few) (s .few),
       mul-le-mul {n₁ = t .m} {m₁ = columns (t .m) (t .p)} {n₂ = 16} {m₂ = 1} (s .few) one,
     )
@@ -296,29 +302,40 @@ module _ (x : SolverSession) (w : SolverWords x) (s : Slot) where
       subst (λ (z : Effect SolverSession). SolverWords (z .session)) (f .1)
       (solver-keeps (x .terms) _ _ _ _ (w .numbers) (f .0 .later .session-open .terms))
 
-  pub solver-last-words : (a : Message) (room : ℕ) → Keeps SolverWords (solverLast x s a room)
-  unfolding solverLast solverLastEffect
-  solver-last-words a room = judged-keeps SolverWords _ _ (closed-solver x w)
+  pub solver-ending-words : (a : Message) (room : ℕ) → Keeps SolverWords (solverEnding x s a room)
+  unfolding solverEnding solverLast solverLastEffect solverDeterminant solverDeterminantEffect
+  solver-ending-words a room =
+      either-keeps SolverWords (isDeterminant (x .terms)) (judged-keeps SolverWords _ _ (closed-solver x w)) (judged-keeps SolverWords _ _ (closed-solver x w))
 
   pub solver-drop-words : Keeps SolverWords (dropSolver x s)
   unfolding dropSolver
   solver-drop-words = judged-keeps SolverWords _ _ (closed-solver x w)
+
+-- 5 or 6
+last-kind-above : (m p : ℕ) → (5 ≤ lastKind m p) × (lastKind m p ≤ 6)
+unfolding lastKind
+last-kind-above m p = go (eqb p m)
+  where
+    go : (b : Bool) → (5 ≤ cond b 6 5) × (cond b 6 5 ≤ 6)
+    go true = (omega arith, omega arith)
+    go false = (omega arith, omega arith)
 
 module _ (x : BlinderSession) (w : BlinderWords x) (s : Slot) (scratch : List ℕ) where
   pub blinder-second-words : (a : Message) (room : ℕ) → Keeps BlinderWords (blinderSecond x s scratch a room)
   unfolding blinderSecond blinderSecondEffect
   blinder-second-words a room = judged-keeps BlinderWords _ _ (record {
     numbers = w .numbers;
-    due-word = omega arith;
+    due-word = omega (arith, last-kind-above (x .terms .m) (x .terms .p) .1);
     m-words = w .m-words;
     m-size = w .m-size;
     y-words = w .y-words;
     y-size = w .y-size;
   })
 
-  pub blinder-last-words : (a : Message) (share : ℕ) → Keeps BlinderWords (blinderLast x s scratch a share)
-  unfolding blinderLast blinderLastEffect
-  blinder-last-words a share = judged-keeps BlinderWords _ _ (closed-blinder x w)
+  pub blinder-ending-words : (a : Message) (share : ℕ) → Keeps BlinderWords (blinderEnding x s scratch a share)
+  unfolding blinderEnding blinderLast blinderLastEffect blinderDeterminant blinderDeterminantEffect
+  blinder-ending-words a share =
+      either-keeps BlinderWords (isDeterminant (x .terms)) (judged-keeps BlinderWords _ _ (closed-blinder x w)) (judged-keeps BlinderWords _ _ (closed-blinder x w))
 
   pub blinder-drop-words : Keeps BlinderWords (dropBlinder x s scratch)
   unfolding dropBlinder
@@ -333,20 +350,20 @@ module _ (y : Session) (s : Slot) (scratch : List ℕ) (a : Message) (room share
   unfolding nextStep
   second-of-solver x e d h = rw (h, e, d) refl
 
-  last-of-solver : (x : SolverSession) → y .end ≡ SOLVER → y .due ≡ 4 → solverOf y ≡ x
-      → nextStep y s scratch a room share ≡ recorded ofSolver (solverLast x s a room)
+  ending-of-solver : (x : SolverSession) → y .end ≡ SOLVER → y .due ≡ 4 → solverOf y ≡ x
+      → nextStep y s scratch a room share ≡ recorded ofSolver (solverEnding x s a room)
   unfolding nextStep
-  last-of-solver x e d h = rw (h, e, d) refl
+  ending-of-solver x e d h = rw (h, e, d) refl
 
   second-of-blinder : (x : BlinderSession) → y .end ≡ BLINDER → y .due ≡ 3 → blinderOf y ≡ x
       → nextStep y s scratch a room share ≡ recorded ofBlinder (blinderSecond x s scratch a room)
   unfolding nextStep
   second-of-blinder x e d h = rw (h, e, d) refl
 
-  last-of-blinder : (x : BlinderSession) → y .end ≡ BLINDER → y .due ≡ 5 → blinderOf y ≡ x
-      → nextStep y s scratch a room share ≡ recorded ofBlinder (blinderLast x s scratch a share)
+  ending-of-blinder : (x : BlinderSession) → y .end ≡ BLINDER → y .due ≡ lastKind (x .terms .m) (x .terms .p) → blinderOf y ≡ x
+      → nextStep y s scratch a room share ≡ recorded ofBlinder (blinderEnding x s scratch a share)
   unfolding nextStep
-  last-of-blinder x e d h = rw (h, e, d) refl
+  ending-of-blinder x e d h = rw (h, e, ne-eqb (y .due) 3 (omega (arith, d, last-kind-above (x .terms .m) (x .terms .p) .0))) refl
 
   last-of-right : (x : RightSession) → y .end ≡ RIGHT → rightOf y ≡ x → nextStep y s scratch a room share ≡ recorded ofRight (rightLast x s a share)
   unfolding nextStep
@@ -375,20 +392,20 @@ module _ (s : Slot) (scratch : List ℕ) (a : Message) (room share : ℕ) where
   unfolding ofSolver
   next-solver-second x n d = second-of-solver (ofSolver x) s scratch a room share x refl d (solver-back x n)
 
-  pub next-solver-last : (x : SolverSession) → length (x .s) ≡ 16 → x .due ≡ 4
-      → nextStep (ofSolver x) s scratch a room share ≡ recorded ofSolver (solverLast x s a room)
+  pub next-solver-ending : (x : SolverSession) → length (x .s) ≡ 16 → x .due ≡ 4
+      → nextStep (ofSolver x) s scratch a room share ≡ recorded ofSolver (solverEnding x s a room)
   unfolding ofSolver
-  next-solver-last x n d = last-of-solver (ofSolver x) s scratch a room share x refl d (solver-back x n)
+  next-solver-ending x n d = ending-of-solver (ofSolver x) s scratch a room share x refl d (solver-back x n)
 
   pub next-blinder-second : (x : BlinderSession) → length (x .mm) ≡ 256 → x .due ≡ 3
       → nextStep (ofBlinder x) s scratch a room share ≡ recorded ofBlinder (blinderSecond x s scratch a room)
   unfolding ofBlinder
   next-blinder-second x n d = second-of-blinder (ofBlinder x) s scratch a room share x refl d (blinder-back x n)
 
-  pub next-blinder-last : (x : BlinderSession) → length (x .mm) ≡ 256 → x .due ≡ 5
-      → nextStep (ofBlinder x) s scratch a room share ≡ recorded ofBlinder (blinderLast x s scratch a share)
+  pub next-blinder-ending : (x : BlinderSession) → length (x .mm) ≡ 256 → x .due ≡ lastKind (x .terms .m) (x .terms .p)
+      → nextStep (ofBlinder x) s scratch a room share ≡ recorded ofBlinder (blinderEnding x s scratch a share)
   unfolding ofBlinder
-  next-blinder-last x n d = last-of-blinder (ofBlinder x) s scratch a room share x refl d (blinder-back x n)
+  next-blinder-ending x n d = ending-of-blinder (ofBlinder x) s scratch a room share x refl d (blinder-back x n)
 
 module _ (s : Slot) (scratch : List ℕ) where
   pub drop-right : (x : RightSession) → dropStep (ofRight x) s scratch ≡ recorded ofRight (dropRight x s)
@@ -479,11 +496,11 @@ module _ (l : Lent) (size index : ℕ) (whole : Whole l) where
         stands (ofSolver x) message a _ e parses
         (next-solver-second (slotOf l size index) (wordsOf (l .scratch)) a mostSent (length (l .result) / 4) x n d)
 
-    pub solver-last-stands : (x : SolverSession) → length (x .s) ≡ 16 → sessionIn (l .host) ≡ ofSolver x → x .due ≡ 4
-        → nextOn l size index message ≡ outcomeOn l size index (recorded ofSolver (solverLast x (slotOf l size index) a mostSent))
-    solver-last-stands x n e d =
+    pub solver-ending-stands : (x : SolverSession) → length (x .s) ≡ 16 → sessionIn (l .host) ≡ ofSolver x → x .due ≡ 4
+        → nextOn l size index message ≡ outcomeOn l size index (recorded ofSolver (solverEnding x (slotOf l size index) a mostSent))
+    solver-ending-stands x n e d =
         stands (ofSolver x) message a _ e parses
-        (next-solver-last (slotOf l size index) (wordsOf (l .scratch)) a mostSent (length (l .result) / 4) x n d)
+        (next-solver-ending (slotOf l size index) (wordsOf (l .scratch)) a mostSent (length (l .result) / 4) x n d)
 
     pub blinder-second-stands : (x : BlinderSession) → length (x .mm) ≡ 256 → sessionIn (l .host) ≡ ofBlinder x → x .due ≡ 3
         → nextOn l size index message
@@ -492,12 +509,12 @@ module _ (l : Lent) (size index : ℕ) (whole : Whole l) where
         stands (ofBlinder x) message a _ e parses
         (next-blinder-second (slotOf l size index) (wordsOf (l .scratch)) a mostSent (length (l .result) / 4) x n d)
 
-    pub blinder-last-stands : (x : BlinderSession) → length (x .mm) ≡ 256 → sessionIn (l .host) ≡ ofBlinder x → x .due ≡ 5
+    pub blinder-ending-stands : (x : BlinderSession) → length (x .mm) ≡ 256 → sessionIn (l .host) ≡ ofBlinder x → x .due ≡ lastKind (x .terms .m) (x .terms .p)
         → nextOn l size index message
-        ≡ outcomeOn l size index (recorded ofBlinder (blinderLast x (slotOf l size index) (wordsOf (l .scratch)) a (length (l .result) / 4)))
-    blinder-last-stands x n e d =
+        ≡ outcomeOn l size index (recorded ofBlinder (blinderEnding x (slotOf l size index) (wordsOf (l .scratch)) a (length (l .result) / 4)))
+    blinder-ending-stands x n e d =
         stands (ofBlinder x) message a _ e parses
-        (next-blinder-last (slotOf l size index) (wordsOf (l .scratch)) a mostSent (length (l .result) / 4) x n d)
+        (next-blinder-ending (slotOf l size index) (wordsOf (l .scratch)) a mostSent (length (l .result) / 4) x n d)
 
   pub right-drop-stands : (x : RightSession) → sessionIn (l .host) ≡ ofRight x
       → dropOn l size index ≡ outcomeOn l size index (recorded ofRight (dropRight x (slotOf l size index)))

@@ -1,6 +1,7 @@
 -- The calls of a session over its record (RULES 11.2): each is a step or a drop of protocol, by the record's or the given end.
 --   also, recorded         further tests of a call; a call's outcome with the record of its session
 --   firstStep, firstOver   an end's first step, and over a record that must hold no open session
+--   blinderEnding          the blinder's last step, by its session
 --   nextStep               the step that is due
 --   dropStep               the drop
 -- Assumes nothing.
@@ -10,13 +11,14 @@ use Prim.Native.Nat.{ℕ, _*_}
 use lib.Dec.{eqb, ltb}
 use lib.ListN.{length, take, drop}
 use Rattle.protocol.specs.declared.Terms.{Terms}
+use Rattle.protocol.specs.declared.BlinderSession.{BlinderSession}
 use Rattle.protocol.specs.declared.Refusal.the-variants.{Size, Turn}
 use Rattle.protocol.specs.Judge.{placeOf, Test, needs, Judged, refused, done, judge}
 use Rattle.protocol.specs.Tape.{Slot}
-use Rattle.protocol.specs.Message.{Message}
+use Rattle.protocol.specs.Message.{Message, isDeterminant}
 use Rattle.protocol.specs.Step.{Outcome}
 use Rattle.protocol.specs.Product.{rightFirst, leftStep, rightLast}
-use Rattle.protocol.specs.System.{solverFirst, blinderFirst, solverSecond, blinderSecond, solverLast, blinderLast}
+use Rattle.protocol.specs.System.{solverFirst, blinderFirst, solverSecond, blinderSecond, solverEnding, blinderLast, blinderDeterminant}
 use Rattle.protocol.specs.Drop.{dropRight, dropSolver, dropBlinder}
 use Rattle.entry.specs.declared.Session.{Session}
 use Rattle.entry.specs.Record.{LEFT, RIGHT, BLINDER, SOLVER, rightOf, solverOf, blinderOf, ofLeft, ofRight, ofSolver, ofBlinder}
@@ -63,12 +65,17 @@ firstOver x end t s scratch input words a room resultRoom =
 
 -- ---- later steps and drops
 
+-- a determinant's last step, or a system's
+unfoldable pub blinderEnding : BlinderSession → Slot → (scratch : List ℕ) → Message → (resultRoom : ℕ) → Outcome BlinderSession
+blinderEnding x s scratch a resultRoom =
+    cond (isDeterminant (x .terms)) (blinderDeterminant x s scratch a resultRoom) (blinderLast x s scratch a resultRoom)
+
 unfoldable pub nextStep : Session → Slot → (scratch : List ℕ) → Message → (room resultRoom : ℕ) → Outcome Session
 nextStep x s scratch a room resultRoom =
     cond (eqb (x .end) SOLVER)
-    (recorded ofSolver (cond (eqb (x .due) 2) (solverSecond (solverOf x) s a room) (solverLast (solverOf x) s a room)))
+    (recorded ofSolver (cond (eqb (x .due) 2) (solverSecond (solverOf x) s a room) (solverEnding (solverOf x) s a room)))
     (cond (eqb (x .end) BLINDER)
-    (recorded ofBlinder (cond (eqb (x .due) 3) (blinderSecond (blinderOf x) s scratch a room) (blinderLast (blinderOf x) s scratch a resultRoom)))
+    (recorded ofBlinder (cond (eqb (x .due) 3) (blinderSecond (blinderOf x) s scratch a room) (blinderEnding (blinderOf x) s scratch a resultRoom)))
     (recorded ofRight (rightLast (rightOf x) s a resultRoom)))
 
 unfoldable pub dropStep : Session → Slot → (scratch : List ℕ) → Outcome Session

@@ -148,7 +148,7 @@ fn on_slot(
     let own = q.own;
     let rest = Settled {
         own,
-        later: false,
+        sums: false,
         read: q.read,
     };
     settle(

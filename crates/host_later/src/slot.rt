@@ -5,6 +5,7 @@
 //   with_room  the same with words of its own
 use crate::step::run;
 use entry::Report;
+use entry::SOLVER;
 use host_parts::record::session_in;
 use host_parts::seen::half_in;
 use host_parts::seen::seen_in;
@@ -73,6 +74,7 @@ fn on_slot(
         (take (length (now (lent .entry))) (wordsOf (now (scratch .entry)))) (messageWith (q .head) (now (residues .entry))) (length (now (out .entry))) (length (now (share .entry)))))) ⌝ }
 {
     let x = session_in(session);
+    let sums = x.end == SOLVER;
     let d = run(
         q.drops,
         x,
@@ -90,11 +92,7 @@ fn on_slot(
     let y = d.session;
     let h = d.head;
     let own = q.own;
-    let rest = Settled {
-        own,
-        later: true,
-        read: 0,
-    };
+    let rest = Settled { own, sums, read: 0 };
     settle(
         rest,
         answer,

@@ -112,13 +112,13 @@ module _ (read : ℕ) (x : Session) (h : Head) (ws ls rs us : List ℕ) (l : Len
 
 -- ---- by the answer
 
-module _ (later : Bool) (read : ℕ) (answer : Answer) (x : Session) (h : Head) (ws ls rs us : List ℕ) (l : Lent) where
+module _ (sums : Bool) (read : ℕ) (answer : Answer) (x : Session) (h : Head) (ws ls rs us : List ℕ) (l : Lent) where
   pub stored-accepted : {n : ℕ} {after : Left} → answer ≡ Accepted n → after ≡ storedSent read x h ws ls rs us l
-      → after ≡ stored later read answer x h ws ls rs us l
+      → after ≡ stored sums read answer x h ws ls rs us l
   stored-accepted e is = rw e is
 
   module _ {r : Refusal} (e : answer ≡ Refused r) {report : Report} (is : report ≡ refusalReport r) where
-    pub stored-sum : {host pool scratch result : List ℕ} → both later (isSingular r) ≡ true
+    pub stored-sum : {host pool scratch result : List ℕ} → both sums (isSingular r) ≡ true
         → host ≡ over (bytesOf (recordWords x)) (l .host)
         → pool ≡ over (bytesOf ws) (l .pool)
         → scratch ≡ over (bytesOf ls) (l .scratch)
@@ -126,10 +126,10 @@ module _ (later : Bool) (read : ℕ) (answer : Answer) (x : Session) (h : Head) 
         → _≡_ {A = Left} (record {
           report = report;
           lent = record { host = host; pool = pool; scratch = scratch; line = l .line; result = result };
-        }) (stored later read answer x h ws ls rs us l)
+        }) (stored sums read answer x h ws ls rs us l)
     unfolding over
     stored-sum sum a b c d = rw (e, sum, is, a, b, c, d) refl
 
-    pub stored-refused : both later (isSingular r) ≡ false
-        → _≡_ {A = Left} (record { report = report; lent = l }) (stored later read answer x h ws ls rs us l)
+    pub stored-refused : both sums (isSingular r) ≡ false
+        → _≡_ {A = Left} (record { report = report; lent = l }) (stored sums read answer x h ws ls rs us l)
     stored-refused sum = rw (e, sum, is) refl

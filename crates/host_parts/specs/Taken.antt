@@ -7,8 +7,7 @@ use lib.ListN.{length, take, drop}
 use Rattle.protocol.specs.declared.Head.{Head}
 use Rattle.protocol.specs.declared.Refusal.the-variants.{Form}
 use Rattle.protocol.specs.Judge.{refused, done}
-use Rattle.protocol.specs.Bounds.{within}
-use Rattle.protocol.specs.Message.{messageWith}
+use Rattle.protocol.specs.Message.{messageWith, kindKnown}
 use Rattle.protocol.specs.Line.{parseMessage}
 use Rattle.line.specs.declared.Loaded.{Loaded}
 use Rattle.line.specs.declared.Loaded.the-variants as loaded
@@ -16,7 +15,7 @@ use Rattle.line.specs.declared.Loaded.the-variants as loaded
 pub record MessageIn (line words : List ℕ) (h : Head) (n : ℕ) : Type 0 where
   pub residues : List ℕ
   pub reads : parseMessage line ≡ done (messageWith h residues)
-  pub known : within 1 5 (h .kind) ≡ true
+  pub known : kindKnown (h .kind) ≡ true
   pub count : length residues ≡ n
   pub stands : (j : ℕ) → j ≤ n → j + 7 ≤ length words → take j (drop 7 words) ≡ take j residues
 

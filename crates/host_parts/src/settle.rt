@@ -18,7 +18,7 @@ ghost use Rattle.local.specs.Entered.{settled};
 // What decides, beside a step's answer, what it leaves.
 pub struct Settled {
     pub own: Check,
-    pub later: bool,
+    pub sums: bool,
     pub read: usize,
 }
 
@@ -50,7 +50,7 @@ pub fn settle(
         result = now (result .exit);
       };
     })
-        (settled (q .own) (q .later) (q .read) answer x h (now (words .entry)) (now (lent .entry)) (now (out .entry)) (now (share .entry))
+        (settled (q .own) (q .sums) (q .read) answer x h (now (words .entry)) (now (lent .entry)) (now (out .entry)) (now (share .entry))
         (record { host = now (session .entry); pool = now (slot .entry); scratch = now (scratch .entry); line = now (line .entry); result = now (result .entry) })) ⌝ }
 {
     let own = q.own;
@@ -61,7 +61,7 @@ pub fn settle(
         answer,
         x,
         h,
-        q.later,
+        q.sums,
         q.read,
         words,
         lent,

@@ -134,10 +134,10 @@ fn store_sent(
 }
 
 // Whether the answer is that of a step which was done all the same: a singular sum.
-fn is_sum(later: bool, r: Refusal) -> bool
-    ensures { λ b. ⌜ b ≡ both later (isSingular r) ⌝ }
+fn is_sum(sums: bool, r: Refusal) -> bool
+    ensures { λ b. ⌜ b ≡ both sums (isSingular r) ⌝ }
 {
-    if !later {
+    if !sums {
         return false;
     }
     number_of(r) == 10
@@ -147,7 +147,7 @@ pub fn store(
     answer: Answer,
     x: Session,
     h: Head,
-    later: bool,
+    sums: bool,
     read: usize,
     words: &[u32],
     lent: &[u32],
@@ -171,7 +171,7 @@ pub fn store(
         result = now (result .exit);
       };
     })
-        (stored later read answer x h (now (words .entry)) (now (lent .entry)) (now (sent .entry)) (now (share .entry))
+        (stored sums read answer x h (now (words .entry)) (now (lent .entry)) (now (sent .entry)) (now (share .entry))
         (record { host = now (session .entry); pool = now (slot .entry); scratch = now (scratch .entry); line = now (line .entry); result = now (result .entry) })) ⌝ }
 {
     let Answer::Refused(r) = answer else {
@@ -190,7 +190,7 @@ pub fn store(
             result,
         );
     };
-    if is_sum(later, r) {
+    if is_sum(sums, r) {
         put_all(x, words, lent, share, session, slot, scratch, result);
         return refusal(r);
     }

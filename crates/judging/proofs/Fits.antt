@@ -21,7 +21,7 @@ use Rattle.protocol.proofs.Tests.{FirstFits, OpenFits}
 use Rattle.tape.specs.Placed.{Placed}
 use Rattle.protocol.proofs.Judge.{passed}
 use Rattle.judging.specs.InOrder.{judged}
-use Rattle.judging.specs.Groups.{modulusTests, kindTests, numberTests, placeTests, countTests, openNumbers}
+use Rattle.judging.specs.Groups.{modulusTests, kindTests, numberTests, headTests, placeTests, countTests, openNumbers}
 use Rattle.judging.specs.Received.{receivedNumbers}
 use Rattle.judging.proofs.Join.{first-passed}
 
@@ -43,9 +43,9 @@ module _ (role : Role) (t : Terms) where
 
   pub received-placed : (a : Head) (count : ℕ) (pool : List ℕ) (size index : ℕ)
       → judged (receivedNumbers role t a count (length pool) size index) ≡ done tt → Placed role t (slotAt pool size index)
-  unfolding receivedNumbers kindTests modulusTests numberTests countTests placeTests isSlot
+  unfolding receivedNumbers kindTests modulusTests numberTests headTests countTests placeTests isSlot
   received-placed a count pool size index e =
-      let s = passed (receivedNumbers role t a count (length pool) size index) e .0 .1 .1 .1 .1 .1 .1 .1 .1 .1 in
+      let s = passed (receivedNumbers role t a count (length pool) size index) e .0 .1 .1 .1 .1 .1 .1 .1 .1 .1 .1 in
       record { sides = s .1 .0; inside = s .1 .1 .1 .0; room = leb-true _ _ (s .1 .1 .1 .1 .0) }
 
   -- the same with tests of the turn behind them

@@ -17,7 +17,7 @@ use Rattle.protocol.specs.Tape.{Slot, isSlot, slotWords, Role, READY, IN-USE, s
 use Rattle.protocol.specs.Message.{messageWith, messageTests, dueTests}
 use Rattle.protocol.specs.Step.{firstTests, isOpen, openTests, laterTests}
 use Rattle.judging.specs.InOrder.{inOrder, verdict, only, sortedBy, sorted, judged, after}
-use Rattle.judging.specs.Groups.{modulusTests, kindTests, numberTests, placeTests, countTests, sameTests, openNumbers, noneDue}
+use Rattle.judging.specs.Groups.{modulusTests, kindTests, numberTests, headTests, placeTests, countTests, sameTests, openNumbers, noneDue}
 use Rattle.judging.specs.Received.{receivedNumbers, receivedWords, closedTests, firstReceived, laterReceived}
 use Rattle.judging.proofs.InOrder.{judge-sorted, after-last}
 use Rattle.judging.proofs.Join.{judged-phases}
@@ -61,19 +61,19 @@ module _ (role : Role) (t : Terms) (s : Slot) where
     pub received-phases : judged (messageTests (messageWith a residues) ++ (firstTests role t s ++ dueTests kind t (messageWith a residues)))
         ≡ after (judged (firstReceived role kind t a (length residues) (length (s .pool)) (s .size) (s .index)))
         (judged (receivedWords role READY t a (slotWords s) residues))
-    unfolding sorted sortedBy only messageTests firstTests dueTests termsTests shapeTests slotTests halfTests tapeTests bodyTests inputTests isSlot firstReceived receivedNumbers receivedWords kindTests modulusTests numberTests countTests placeTests sameTests
+    unfolding sorted sortedBy only messageTests firstTests dueTests termsTests shapeTests slotTests halfTests tapeTests bodyTests inputTests isSlot firstReceived receivedNumbers receivedWords kindTests modulusTests numberTests headTests countTests placeTests sameTests
     received-phases = in-two _ (firstReceived role kind t a (length residues) (length (s .pool)) (s .size) (s .index)) (receivedWords role READY t a (slotWords s) residues) refl
 
     module _ (due : ℕ) where
       later-verdict : isOpen due ≡ true → verdict (sorted (messageTests (messageWith a residues) ++ (laterTests role kind due t s ++ dueTests kind t (messageWith a residues))))
           ≡ verdict (sorted (laterReceived role kind due t a (length residues) (length (s .pool)) (s .size) (s .index) ++ receivedWords role IN-USE t a (slotWords s) residues))
-      unfolding inOrder sorted sortedBy only given laterTests openTests messageTests dueTests termsTests shapeTests slotTests halfTests tapeTests bodyTests inputTests isSlot laterReceived firstReceived receivedNumbers receivedWords kindTests modulusTests numberTests countTests placeTests sameTests
+      unfolding inOrder sorted sortedBy only given laterTests openTests messageTests dueTests termsTests shapeTests slotTests halfTests tapeTests bodyTests inputTests isSlot laterReceived firstReceived receivedNumbers receivedWords kindTests modulusTests numberTests headTests countTests placeTests sameTests
       later-verdict e = rw e
 
       later-two : judged (laterReceived role kind due t a (length residues) (length (s .pool)) (s .size) (s .index) ++ receivedWords role IN-USE t a (slotWords s) residues)
           ≡ after (judged (laterReceived role kind due t a (length residues) (length (s .pool)) (s .size) (s .index)))
           (judged (receivedWords role IN-USE t a (slotWords s) residues))
-      unfolding sorted sortedBy only tapeTests bodyTests laterReceived firstReceived receivedNumbers receivedWords kindTests modulusTests numberTests countTests placeTests sameTests
+      unfolding sorted sortedBy only tapeTests bodyTests laterReceived firstReceived receivedNumbers receivedWords kindTests modulusTests numberTests headTests countTests placeTests sameTests
       later-two = in-two _ (laterReceived role kind due t a (length residues) (length (s .pool)) (s .size) (s .index)) (receivedWords role IN-USE t a (slotWords s) residues) refl
 
       pub later-phases : isOpen due ≡ true → judged (messageTests (messageWith a residues) ++ (laterTests role kind due t s ++ dueTests kind t (messageWith a residues)))
@@ -83,7 +83,7 @@ module _ (role : Role) (t : Terms) (s : Slot) where
 
       closed-verdict : due ≡ 0 → verdict (sorted (messageTests (messageWith a residues) ++ (laterTests role kind due t s ++ dueTests kind t (messageWith a residues))))
           ≡ verdict (sorted (closedTests a (length residues) (length (s .pool)) (s .size) (s .index)))
-      unfolding inOrder sorted sortedBy only given isOpen laterTests openTests messageTests dueTests termsTests shapeTests slotTests halfTests tapeTests bodyTests inputTests isSlot closedTests kindTests numberTests countTests
+      unfolding inOrder sorted sortedBy only given isOpen laterTests openTests messageTests dueTests termsTests shapeTests slotTests halfTests tapeTests bodyTests inputTests isSlot closedTests kindTests numberTests headTests countTests
       closed-verdict e = go (eqb 0 kind) refl
         where
           go : (b : Bool) → eqb 0 kind ≡ b → verdict (sorted (messageTests (messageWith a residues) ++ (laterTests role kind due t s ++ dueTests kind t (messageWith a residues))))

@@ -10,7 +10,7 @@ use Rattle.protocol.specs.declared.Refusal.the-variants.{Form, Modulus, Composi
 use Rattle.protocol.specs.Judge.{Test, needs}
 use Rattle.protocol.specs.Bounds.{Sort, within, largestModulus, fieldFits, sidesFit}
 use Rattle.protocol.specs.Tape.{Role, sortOf, tapeSize}
-use Rattle.protocol.specs.Message.{kindSort, messageSize}
+use Rattle.protocol.specs.Message.{kindKnown, kindSort, lastFits, messageSize}
 
 -- the modulus of a session
 unfoldable pub modulusTests : Sort → (q : ℕ) → List Test
@@ -19,7 +19,7 @@ modulusTests sort q = needs Modulus (within 2 largestModulus q) ∷ needs Compos
 -- the kind of a message, and its modulus
 unfoldable pub kindTests : Head → List Test
 kindTests a =
-    needs Form (within 1 5 (a .kind)) ∷ needs Modulus (within 2 largestModulus (a .terms .q)) ∷ needs Composite (fieldFits (kindSort (a .kind)) (a .terms .q)) ∷ []
+    needs Form (kindKnown (a .kind)) ∷ needs Modulus (within 2 largestModulus (a .terms .q)) ∷ needs Composite (fieldFits (kindSort (a .kind)) (a .terms .q)) ∷ []
 
 -- the session's number, the sides and the tape's number
 unfoldable pub numberTests : Sort → Terms → List Test
@@ -43,13 +43,17 @@ noneDue pool size index = needs Size (ltb index (pool / size)) ∷ needs Turn fa
 unfoldable pub idTests : Terms → (fits : Bool) → List Test
 idTests t fits = needs Size (leb 1 (t .session .0)) ∷ needs Size fits ∷ needs Size (leb 1 (t .tape .0)) ∷ []
 
+-- a message's sides and numbers; kinds 5 and 6 each have their own sides
+unfoldable pub headTests : Head → List Test
+headTests a = needs Size (lastFits (a .kind) (a .terms .m) (a .terms .p)) ∷ numberTests (kindSort (a .kind)) (a .terms)
+
 -- a message's count of residues
 unfoldable pub countTests : Head → (count : ℕ) → List Test
 countTests a count = needs Size (eqb count (messageSize (a .kind) (a .terms))) ∷ []
 
 -- all that a message shows by its head and its count of residues
 unfoldable pub messageNumbers : Head → (count : ℕ) → List Test
-messageNumbers a count = kindTests a ++ (numberTests (kindSort (a .kind)) (a .terms) ++ countTests a count)
+messageNumbers a count = kindTests a ++ (headTests a ++ countTests a count)
 
 -- a message bears the session's numbers
 unfoldable pub sameTests : Head → Terms → List Test

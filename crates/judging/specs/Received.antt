@@ -14,15 +14,14 @@ use Rattle.protocol.specs.declared.Refusal.the-variants.{Size, Turn, Residue}
 use Rattle.protocol.specs.Judge.{Test, needs}
 use Rattle.protocol.specs.Bounds.{allBelow}
 use Rattle.protocol.specs.Tape.{Role, sortOf, tapeTests, bodyTests}
-use Rattle.protocol.specs.Message.{kindSort}
-use Rattle.judging.specs.Groups.{modulusTests, kindTests, numberTests, placeTests, countTests, sameTests}
+use Rattle.judging.specs.Groups.{modulusTests, kindTests, numberTests, headTests, placeTests, countTests, sameTests}
 
 -- of the message's residues and of the pool's words: how many there are
 unfoldable pub receivedNumbers : Role → Terms → Head → (count pool size index : ℕ) → List Test
 receivedNumbers role t a count pool size index =
     kindTests a
     ++ (modulusTests (sortOf role) (t .q)
-    ++ ((numberTests (kindSort (a .kind)) (a .terms) ++ countTests a count) ++ (numberTests (sortOf role) t ++ placeTests role t pool size index)))
+    ++ ((headTests a ++ countTests a count) ++ (numberTests (sortOf role) t ++ placeTests role t pool size index)))
 
 -- the message bears the session's numbers and holds residues
 unfoldable pub sentTests : Terms → Head → (residues : List ℕ) → List Test
@@ -36,7 +35,7 @@ receivedWords role status t a slot residues =
 unfoldable pub closedTests : Head → (count pool size index : ℕ) → List Test
 closedTests a count pool size index =
     kindTests a
-    ++ ((numberTests (kindSort (a .kind)) (a .terms) ++ countTests a count)
+    ++ ((headTests a ++ countTests a count)
     ++ (needs Size (ltb index (pool / size)) ∷ needs Turn false ∷ []))
 
 -- the numbers of a first step that takes a message of this kind, and that it is due

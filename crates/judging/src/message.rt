@@ -1,5 +1,6 @@
 // A message's kind and size.
 //   kind_known, kind_field, kind_sides_fit   its kind, its modulus and its sides
+//   last_kind, last_fits                     the kind of a session's last message
 //   message_size, side_size, has_room        how many residues it has, and room for them
 //   no_head                                  the head where nothing is sent
 use field::Field;
@@ -12,26 +13,26 @@ use sides::Matrix;
 use vectors::times;
 ghost use mathlib.Core.Path.{_≡_};
 ghost use Prim.Native.Nat.{_+_, _*_, _≤_};
-ghost use Rattle.protocol.specs.Bounds.{within, sidesFit};
+ghost use Rattle.protocol.specs.Bounds.{sidesFit};
 ghost use lib.Dec.{leb};
 ghost use lib.ListN.{getD};
-ghost use Rattle.protocol.specs.Message.{kindSort, messageLayout, messageSize, noMessage};
+ghost use Rattle.protocol.specs.Message.{kindKnown, kindSort, lastKind, lastFits, messageLayout, messageSize, noMessage};
 ghost use Rattle.protocol.specs.System.{sideSize};
 ghost use Rattle.field.specs.Field.{made, sortFieldOf};
 
 pub fn kind_known(kind: u32) -> bool
-    ensures { λ r. ⌜ r ≡ within 1 5 kind ⌝ }
+    ensures { λ r. ⌜ r ≡ kindKnown kind ⌝ }
 {
     if kind < 1 {
         return false;
     }
-    if 5 < kind {
+    if 6 < kind {
         return false;
     }
     true
 }
 
-// The field of a message's modulus. Kinds 3 to 5 are of systems, whose modulus is prime.
+// The field of a message's modulus. Kinds 3 to 6 are of systems, whose modulus is prime.
 pub fn kind_field(kind: u32, q: u32) -> FieldAnswer
     ensures { λ r. ⌜ made r ≡ sortFieldOf (kindSort kind) q ⌝ }
 {
@@ -48,6 +49,26 @@ pub fn kind_sides_fit(kind: u32, m: u32, k: u32, p: u32) -> bool
         return Matrix::sides_fit(m, k, p);
     }
     Matrix::system_sides_fit(m, k, p)
+}
+
+// The kind of the solver's last message: 6 where the determinant is asked for, and else 5.
+pub fn last_kind(t: Terms) -> u32
+    ensures { λ r. ⌜ r ≡ lastKind (t .m) (t .p) ⌝ }
+{
+    if t.p == t.m {
+        return 6;
+    }
+    5
+}
+
+// Kinds 5 and 6 each have their own sides.
+pub fn last_fits(kind: u32, t: Terms) -> bool
+    ensures { λ r. ⌜ r ≡ lastFits kind (t .m) (t .p) ⌝ }
+{
+    if kind <= 4 {
+        return true;
+    }
+    kind == last_kind(t)
 }
 
 // How many residues x, y, c, s, t and z have.
@@ -76,7 +97,10 @@ fn first_part(kind: u32, t: Terms) -> usize
     if kind == 4 {
         return times(t.m, t.k);
     }
-    side_size(t)
+    if kind == 5 {
+        return side_size(t);
+    }
+    1
 }
 
 fn second_part(kind: u32, t: Terms) -> usize

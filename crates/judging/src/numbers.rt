@@ -3,6 +3,7 @@ use crate::Check;
 use crate::message::kind_field;
 use crate::message::kind_known;
 use crate::message::kind_sides_fit;
+use crate::message::last_fits;
 use crate::message::message_size;
 use crate::order::need;
 use crate::order::worst;
@@ -25,7 +26,7 @@ ghost use Rattle.protocol.specs.Message.{kindSort};
 ghost use Rattle.field.specs.Field.{made, sortFieldOf, fieldJudged};
 ghost use Rattle.judging.specs.InOrder.{checked, judged};
 ghost use Rattle.tape.specs.Ends.{role, sort, joint};
-ghost use Rattle.judging.specs.Groups.{modulusTests, kindTests, numberTests, placeTests, idTests, countTests, messageNumbers, sameTests, sameIds, sameSides};
+ghost use Rattle.judging.specs.Groups.{modulusTests, kindTests, numberTests, headTests, placeTests, idTests, countTests, messageNumbers, sameTests, sameIds, sameSides};
 
 // ---- the modulus
 
@@ -129,12 +130,14 @@ pub fn check_sizes(end: End, t: Terms, pool: usize, at: Place) -> Check
 
 // What a message shows by its head and its count of residues.
 pub fn check_head(a: Head, count: usize) -> Check
-    ensures { λ r. ⌜ checked r ≡ judged (numberTests (kindSort (a .kind)) (a .terms) ++ countTests a count) ⌝ }
+    ensures { λ r. ⌜ checked r ≡ judged (headTests a ++ countTests a count) ⌝ }
 {
     let t = a.terms;
+    let last = need(Refusal::Size, last_fits(a.kind, t));
     let numbers = check_ids(t, kind_sides_fit(a.kind, t.m, t.k, t.p));
-    let Check::Passed = numbers else {
-        return numbers;
+    let head = worst(last, numbers);
+    let Check::Passed = head else {
+        return head;
     };
     need(Refusal::Size, count == message_size(a.kind, t))
 }

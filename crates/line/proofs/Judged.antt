@@ -21,12 +21,12 @@ use Rattle.protocol.specs.declared.Head.{Head}
 use Rattle.protocol.specs.declared.Refusal.{Refusal}
 use Rattle.protocol.specs.declared.Refusal.the-variants.{Form, Size}
 use Rattle.protocol.specs.Judge.{Test, needs, given, Judged, refused, done, clear, judgeBy, judge, replyOf}
-use Rattle.protocol.specs.Bounds.{within, shapeTests, termsTests, inputTests, roomTests}
-use Rattle.protocol.specs.Message.{Message, messageWith, messageTests}
+use Rattle.protocol.specs.Bounds.{shapeTests, termsTests, inputTests, roomTests}
+use Rattle.protocol.specs.Message.{Message, kindKnown, messageWith, messageTests}
 use Rattle.protocol.specs.Line.{numbersOf, messageFrom, parsedFrom, readWith, parseInto, readInto, parseTests, readTests}
 use Rattle.judging.specs.InOrder.{checked, inOrder, only, sortedBy, sorted, verdict, judged, after}
 use Rattle.judging.specs.Lowest.{lower}
-use Rattle.judging.specs.Groups.{kindTests, numberTests, countTests, messageNumbers}
+use Rattle.judging.specs.Groups.{kindTests, numberTests, headTests, countTests, messageNumbers}
 use Rattle.judging.specs.declared.Check.{Check}
 use Rattle.judging.specs.declared.Check.the-variants as check
 use Rattle.judging.proofs.InOrder.{judge-sorted, refused-by, accepted-by}
@@ -43,7 +43,7 @@ use Rattle.line.proofs.Fits.{message-few, has-room}
 -- room and residues are tested where head and count passed
 pub message-phases : (h : Head) (rs : List ℕ) (size room : ℕ) → judged (messageTests (messageWith h rs) ++ roomTests size room)
     ≡ after (judged (messageNumbers h (length rs))) (judged (restTests (h .terms .q) rs size room))
-unfolding sorted sortedBy only messageTests termsTests shapeTests inputTests roomTests messageNumbers kindTests numberTests countTests restTests
+unfolding sorted sortedBy only messageTests termsTests shapeTests inputTests roomTests messageNumbers kindTests numberTests headTests countTests restTests
 message-phases h rs size room = in-two _ (messageNumbers h (length rs)) (restTests (h .terms .q) rs size room) refl
 
 -- ---- what loading told
@@ -76,16 +76,16 @@ same-judged : (ts us : List Test) → verdict (sorted ts) ≡ verdict (sorted us
 same-judged ts us e = judge-sorted ts tt ∙ (e ∙ sym (judge-sorted us tt))
 
 module _ (room : ℕ) (xs : List ℕ) (h : 7 ≤ length xs) where
-  held : length (drop 7 xs) ≤ room → judged (parseTests room xs) ≡ judged (needs Form (within 1 5 (getD xs 0 0)) ∷ [])
+  held : length (drop 7 xs) ≤ room → judged (parseTests room xs) ≡ judged (needs Form (kindKnown (getD xs 0 0)) ∷ [])
   unfolding given messageTests termsTests shapeTests inputTests roomTests sorted sortedBy only inOrder
   held b =
-      same-judged (parseTests room xs) (needs Form (within 1 5 (getD xs 0 0)) ∷ [])
+      same-judged (parseTests room xs) (needs Form (kindKnown (getD xs 0 0)) ∷ [])
       (rw (le-leb 7 (length xs) h, le-ltb room (length (drop 7 xs)) b, le-leb (length (drop 7 xs)) room b))
 
   -- the kind is tested once more with all that a message shows by itself
-  short : room < length (drop 7 xs) → (known : Bool) → within 1 5 (getD xs 0 0) ≡ known
+  short : room < length (drop 7 xs) → (known : Bool) → kindKnown (getD xs 0 0) ≡ known
       → judged (parseTests room xs) ≡ judged (messageNumbers (messageFrom xs .head) (length (drop 7 xs)) ++ (needs Size false ∷ []))
-  unfolding given messageTests termsTests shapeTests inputTests roomTests messageNumbers kindTests numberTests countTests sorted sortedBy only inOrder
+  unfolding given messageTests termsTests shapeTests inputTests roomTests messageNumbers kindTests numberTests headTests countTests sorted sortedBy only inOrder
   short b true k =
       same-judged (parseTests room xs) (messageNumbers (messageFrom xs .head) (length (drop 7 xs)) ++ (needs Size false ∷ []))
       (rw (le-leb 7 (length xs) h, lt-ltb room (length (drop 7 xs)) b, lt-leb (length (drop 7 xs)) room b, k))
@@ -94,9 +94,9 @@ module _ (room : ℕ) (xs : List ℕ) (h : 7 ≤ length xs) where
       (rw (le-leb 7 (length xs) h, lt-ltb room (length (drop 7 xs)) b, k))
 
 module _ {s words : List ℕ} {h : Head} {n : ℕ} (l : Holds s h n words) (room : ℕ) where
-  pub form-held : n ≤ room → judged (needs Form (within 1 5 (h .kind)) ∷ []) ≡ judged (parseTests room (l .values))
+  pub form-held : n ≤ room → judged (needs Form (kindKnown (h .kind)) ∷ []) ≡ judged (parseTests room (l .values))
   form-held b =
-      ap (λ (x : Head). judged (needs Form (within 1 5 (x .kind)) ∷ [])) (l .head)
+      ap (λ (x : Head). judged (needs Form (kindKnown (x .kind)) ∷ [])) (l .head)
       ∙ sym (held room (l .values) (l .seven) (omega (arith, l .count)))
 
   pub form-short : room < n → judged (messageNumbers h n ++ (needs Size false ∷ [])) ≡ judged (parseTests room (l .values))
@@ -121,7 +121,7 @@ module _ {s words : List ℕ} {h : Head} {n : ℕ} (l : Holds s h n words) (room
   pub parse-room : judged (parseTests room (l .values)) ≡ done tt → n ≤ room
   parse-room e =
       let own = given (ltb room (length (drop 7 (l .values)))) (messageTests (messageFrom (l .values))) in
-      let form : List Test = needs Form (leb 7 (length (l .values))) ∷ needs Form (within 1 5 (getD (l .values) 0 0)) ∷ own in
+      let form : List Test = needs Form (leb 7 (length (l .values))) ∷ needs Form (kindKnown (getD (l .values) 0 0)) ∷ own in
       omega (arith, l .count, has-room form (length (drop 7 (l .values))) room e .1)
 
   pub read-room : judged (readTests room (l .values)) ≡ done tt → n ≤ room

@@ -1,5 +1,6 @@
 -- The blinder's steps and its drop, on what a call looks at.
---   blinder-first-seen, blinder-second-seen, blinder-last-seen, drop-blinder-seen
+--   blinder-first-seen, blinder-second-seen, blinder-ending-seen   the steps; the last is a system's or a determinant's
+--   drop-blinder-seen                                               the drop
 -- Assumes nothing.
 use mathlib.Core.Path.{_≡_, refl, sym, ap, _∙_}
 use mathlib.Core.Bool.{Bool, true, false, cond}
@@ -13,27 +14,33 @@ use lib.Seq.{take-take, take-all, length-take-le}
 use borrow.Author.Tests.{ne-eqb, le-leb}
 use Rattle.algebra.specs.Count.{both, part, parts, total}
 use Rattle.algebra.specs.Matrix.{zeros}
+use Rattle.algebra.specs.Elimination.{regular}
 use Rattle.protocol.specs.declared.Terms.{Terms}
 use Rattle.protocol.specs.declared.BlinderSession.{BlinderSession}
 use Rattle.protocol.specs.Judge.{Test, given, clear, done}
-use Rattle.protocol.specs.Bounds.{system, within, sidesFit, shapeTests, termsTests, inputTests, roomTests}
+use Rattle.protocol.specs.Bounds.{system, sidesFit, shapeTests, termsTests, inputTests, roomTests}
 use Rattle.protocol.specs.Drawing.{wordsRead, drawTests}
-use Rattle.protocol.specs.Tape.{Slot, isSlot, slotWords, blinder, wordsSpent, slotTests, halfTests, tapeTests, bodyTests}
-use Rattle.protocol.specs.Message.{Message, messageWith, messageSize, messageTests, dueTests}
+use Rattle.protocol.specs.Tape.{Slot, isSlot, slotWords, blinder, matrices, wordsSpent, slotTests, halfTests, tapeTests, bodyTests}
+use Rattle.protocol.specs.Message.{Message, messageWith, kindKnown, isDeterminant, messageSize, messageTests, dueTests}
 use Rattle.protocol.specs.Step.{Effect, firstTests, isOpen, openTests, laterTests}
-use Rattle.protocol.specs.System.{sideSize, scratchSize, scratchLayout, scratchParts, coinsOf, closedBlinder, keptTests, regularTests, blinderTests}
+use Rattle.protocol.specs.System.{sideSize, keptM, keptY, scratchSize, scratchLayout, scratchParts, coinsOf, closedBlinder, keptTests, regularTests, blinderTests}
 use Rattle.protocol.specs.System.{blinderFirstTests, blinderFirstEffect, blinderFirst, blinderSecondTests, blinderSecondEffect, blinderSecond}
-use Rattle.protocol.specs.System.{blinderLastTests, blinderLastEffect, blinderLast}
+use Rattle.protocol.specs.System.{blinderLastTests, blinderLastEffect, blinderLast, blinderDeterminantTests, blinderDeterminantEffect, blinderDeterminant}
 use Rattle.protocol.specs.Drop.{dropped, dropBlinder}
 use Rattle.protocol.proofs.Matrices.{part-of-start}
-use Rattle.protocol.proofs.StepTests.{blinder-first, blinder-second, blinder-last, drop-blinder}
+use Rattle.protocol.proofs.StepTests.{blinder-first, blinder-second, blinder-last, blinder-determinant, drop-blinder}
+use Rattle.protocol.proofs.Judge.{passed, all-split}
+use Rattle.protocol.proofs.Tests.{later-tests}
+use Rattle.tape.specs.Placed.{Placed}
 use Rattle.judging.specs.InOrder.{judged}
 use Rattle.judging.proofs.InOrder.{accepted-by}
+use Rattle.judging.proofs.Join.{first-passed}
 use Rattle.judging.proofs.Fits.{first-placed, open-placed}
 use Rattle.drawing.specs.Sift.{keptWords}
 use Rattle.drawing.proofs.Sifting.{kept-tests, kept-drawn}
 use Rattle.local.specs.Seen.{least, seen, behind, seenWords, seenMessage, openingMessage, mostScratch, mostResult, mostReply}
-use Rattle.local.proofs.Outcomes.{onDone, entering, alike}
+use Rattle.entry.specs.Steps.{blinderEnding}
+use Rattle.local.proofs.Outcomes.{onDone, entering, then-alike, either-done, alike}
 use Rattle.local.proofs.Sifted.{Sifts}
 use Rattle.local.proofs.Slots.{seen-inside, matrices-seen, in-use-seen, spent-seen, kept-seen}
 use Rattle.local.proofs.Tests.{first-seen, open-seen, later-seen, both-no, early-size, early-turn, message-cases, session-cases, first-cases}
@@ -120,7 +127,7 @@ module _ (t : Terms) (s : Slot) (scratch : ℕ) (input words kept : List ℕ) (r
       ++ regularTests (t .q) (t .m) (matrix input)
       ++ regularTests (t .q) (t .m) (part 0 (scratchParts t (coinsOf t words)))
 
-  first-judged : within 1 5 (a .head .kind) ≡ true
+  first-judged : kindKnown (a .head .kind) ≡ true
       → judged (tests s scratch input words a) ≡ judged (tests (seen blinder t s) (least scratch mostScratch) (seenWords input) kept (openingMessage a))
   unfolding blinderFirstTests firstTests messageTests termsTests shapeTests inputTests dueTests slotTests halfTests tapeTests bodyTests roomTests drawTests
   first-judged known = opening-judged t (firstTests blinder t s) after a known ∙ first-alike (openingMessage a)
@@ -149,7 +156,7 @@ module _ (t : Terms) (s : Slot) (scratch : ℕ) (input words kept : List ℕ) (r
         matrices-seen blinder t s (p .sides) (p .inside),
       ) refl
 
-  pub blinder-first-seen : within 1 5 (a .head .kind) ≡ true → blinderFirst t s scratch (matrix input) (vector input) words a room
+  pub blinder-first-seen : kindKnown (a .head .kind) ≡ true → blinderFirst t s scratch (matrix input) (vector input) words a room
       ≡ onDone blinderGrown
       (blinderFirst t (seen blinder t s) (least scratch mostScratch) (matrix (seenWords input)) (vector (seenWords input)) kept (openingMessage a) room)
   unfolding blinderFirst
@@ -160,34 +167,48 @@ module _ (t : Terms) (s : Slot) (scratch : ℕ) (input words kept : List ℕ) (r
 -- ---- steps 4 and 6
 
 module _ (x : BlinderSession) (s : Slot) (scratch : List ℕ) (a : Message) (room : ℕ) where
-  second-fits : sidesFit system (x .terms .m) (x .terms .k) (x .terms .p) ≡ true → isSlot s ≡ true
-      → blinderSecondTests x s scratch a room ≡ blinderSecondTests x (seen blinder (x .terms) s) (take mostScratch scratch) a (least room mostReply)
-  unfolding blinderSecondTests blinderTests roomTests
-  second-fits e f =
+  -- the tests of a step that takes a message of this kind and writes so many words
+  abbrev later : (kind size : ℕ) → Slot → (scratch : List ℕ) → Message → (room : ℕ) → List Test
+  later kind size c l b r = messageTests b ++ blinderTests kind x c l ++ dueTests kind (x .terms) b ++ given (isOpen (x .due)) (roomTests size r)
+
+  -- the same on what it looks at, with room for `most` words
+  abbrev lookedAt : (kind size most : ℕ) → Message → List Test
+  lookedAt kind size most b = later kind size (seen blinder (x .terms) s) (take mostScratch scratch) b (least room most)
+
+  later-fits : (kind size most : ℕ) → size ≤ most → sidesFit system (x .terms .m) (x .terms .k) (x .terms .p) ≡ true → isSlot s ≡ true
+      → later kind size s scratch a room ≡ lookedAt kind size most a
+  unfolding blinderTests roomTests
+  later-fits kind size most few e f =
       rw (
-        later-seen blinder (x .terms) s e f 3 (x .due),
+        later-seen blinder (x .terms) s e f kind (x .due),
         room-taken (scratchSize (x .terms)) mostScratch scratch (few-scratch (x .terms) e),
         take-take (scratchSize (x .terms)) mostScratch scratch (few-scratch (x .terms) e),
-        least-room (messageSize 4 (x .terms)) mostReply room (few-reply (x .terms) e .1),
+        least-room size most room few,
       ) refl
 
-  second-judged : within 1 5 (a .head .kind) ≡ true → judged (blinderSecondTests x s scratch a room)
-      ≡ judged (blinderSecondTests x (seen blinder (x .terms) s) (take mostScratch scratch) (seenMessage a) (least room mostReply))
-  unfolding blinderSecondTests blinderTests laterTests openTests messageTests termsTests shapeTests inputTests dueTests slotTests halfTests tapeTests bodyTests keptTests given roomTests clear both
-  second-judged known =
+  later-judged : (kind size most : ℕ) → (sidesFit system (x .terms .m) (x .terms .k) (x .terms .p) ≡ true → size ≤ most)
+      → kindKnown (a .head .kind) ≡ true → judged (later kind size s scratch a room) ≡ judged (lookedAt kind size most (seenMessage a))
+  unfolding blinderTests laterTests openTests messageTests termsTests shapeTests inputTests dueTests slotTests halfTests tapeTests bodyTests keptTests given roomTests clear both
+  later-judged kind size most few known =
       let t = x .terms in
       let in-pool = seen-inside blinder t s in
-      let ts = blinderSecondTests x s scratch a room in
+      let ts = later kind size s scratch a room in
       let none = messageWith (a .head) [] in
-      let us : Message → List Test = λ b. blinderSecondTests x (seen blinder t s) (take mostScratch scratch) b (least room mostReply) in
+      let us : Message → List Test = lookedAt kind size most in
       message-cases (λ b. judged ts ≡ judged (us b)) a known
+      (λ h. early-size ts (us none) refl refl refl (rw h) (rw h))
       (λ h. early-size ts (us none) refl refl refl (rw h (simp both-no)) (rw h (simp both-no)))
       (λ h g. early-size ts (us none) refl refl refl (rw h (simp both-no)) (rw g (simp both-no)))
       (session-cases blinder (x .due) t s
       (λ o. early-turn ts (us a) refl refl refl (rw (o, in-pool) refl) (rw o (simp both-no)) (rw o (simp both-no)))
       (λ o h. early-size ts (us a) refl refl refl (rw (o, h) (simp both-no)) (rw (o, h) (simp both-no)))
       (λ o h. early-size ts (us a) refl refl refl (rw (o, h) (simp both-no)) (rw (o, in-pool, h) (simp both-no)))
-      (λ e f. ap judged (second-fits e f)))
+      (λ e f. ap judged (later-fits kind size most (few e) e f)))
+
+  second-judged : kindKnown (a .head .kind) ≡ true → judged (blinderSecondTests x s scratch a room)
+      ≡ judged (blinderSecondTests x (seen blinder (x .terms) s) (take mostScratch scratch) (seenMessage a) (least room mostReply))
+  unfolding blinderSecondTests
+  second-judged = later-judged 3 (messageSize 4 (x .terms)) mostReply (λ e. few-reply (x .terms) e .1)
 
   second-done : judged (blinderSecondTests x s scratch a room) ≡ done tt → blinderSecondEffect x s scratch a
       ≡ entering 0 (behind blinder (x .terms) s) (blinderSecondEffect x (seen blinder (x .terms) s) (take mostScratch scratch) (seenMessage a))
@@ -210,7 +231,7 @@ module _ (x : BlinderSession) (s : Slot) (scratch : List ℕ) (a : Message) (roo
         result = [];
       }) (kept-seen blinder t s (p .sides) (p .inside) (p .room)))
 
-  pub blinder-second-seen : within 1 5 (a .head .kind) ≡ true → blinderSecond x s scratch a room
+  pub blinder-second-seen : kindKnown (a .head .kind) ≡ true → blinderSecond x s scratch a room
       ≡ onDone (entering 0 (behind blinder (x .terms) s))
       (blinderSecond x (seen blinder (x .terms) s) (take mostScratch scratch) (seenMessage a) (least room mostReply))
   unfolding blinderSecond
@@ -219,34 +240,10 @@ module _ (x : BlinderSession) (s : Slot) (scratch : List ℕ) (a : Message) (roo
       (blinderSecondTests x (seen blinder (x .terms) s) (take mostScratch scratch) (seenMessage a) (least room mostReply)) (blinderSecondEffect x s scratch a)
       (blinderSecondEffect x (seen blinder (x .terms) s) (take mostScratch scratch) (seenMessage a)) (second-judged known) second-done
 
-  last-fits : sidesFit system (x .terms .m) (x .terms .k) (x .terms .p) ≡ true → isSlot s ≡ true → blinderLastTests x s scratch a room
-      ≡ blinderLastTests x (seen blinder (x .terms) s) (take mostScratch scratch) a (least room mostResult)
-  unfolding blinderLastTests blinderTests roomTests
-  last-fits e f =
-      rw (
-        later-seen blinder (x .terms) s e f 5 (x .due),
-        room-taken (scratchSize (x .terms)) mostScratch scratch (few-scratch (x .terms) e),
-        take-take (scratchSize (x .terms)) mostScratch scratch (few-scratch (x .terms) e),
-        least-room (sideSize (x .terms)) mostResult room (let z = few-square (x .terms) e in omega (arith, z .3)),
-      ) refl
-
-  last-judged : within 1 5 (a .head .kind) ≡ true → judged (blinderLastTests x s scratch a room)
+  last-judged : kindKnown (a .head .kind) ≡ true → judged (blinderLastTests x s scratch a room)
       ≡ judged (blinderLastTests x (seen blinder (x .terms) s) (take mostScratch scratch) (seenMessage a) (least room mostResult))
-  unfolding blinderLastTests blinderTests laterTests openTests messageTests termsTests shapeTests inputTests dueTests slotTests halfTests tapeTests bodyTests keptTests given roomTests clear both
-  last-judged known =
-      let t = x .terms in
-      let in-pool = seen-inside blinder t s in
-      let ts = blinderLastTests x s scratch a room in
-      let none = messageWith (a .head) [] in
-      let us : Message → List Test = λ b. blinderLastTests x (seen blinder t s) (take mostScratch scratch) b (least room mostResult) in
-      message-cases (λ b. judged ts ≡ judged (us b)) a known
-      (λ h. early-size ts (us none) refl refl refl (rw h (simp both-no)) (rw h (simp both-no)))
-      (λ h g. early-size ts (us none) refl refl refl (rw h (simp both-no)) (rw g (simp both-no)))
-      (session-cases blinder (x .due) t s
-      (λ o. early-turn ts (us a) refl refl refl (rw (o, in-pool) refl) (rw o (simp both-no)) (rw o (simp both-no)))
-      (λ o h. early-size ts (us a) refl refl refl (rw (o, h) (simp both-no)) (rw (o, h) (simp both-no)))
-      (λ o h. early-size ts (us a) refl refl refl (rw (o, h) (simp both-no)) (rw (o, in-pool, h) (simp both-no)))
-      (λ e f. ap judged (last-fits e f)))
+  unfolding blinderLastTests
+  last-judged = later-judged 5 (sideSize (x .terms)) mostResult (λ e. let z = few-square (x .terms) e in omega (arith, z .3))
 
   last-done : judged (blinderLastTests x s scratch a room) ≡ done tt → blinderLastEffect x s scratch a
       ≡ entering 0 (behind blinder (x .terms) s) (blinderLastEffect x (seen blinder (x .terms) s) (take mostScratch scratch) (seenMessage a))
@@ -261,7 +258,7 @@ module _ (x : BlinderSession) (s : Slot) (scratch : List ℕ) (a : Message) (roo
         matrices-seen blinder t s (p .sides) (p .inside),
       ) refl
 
-  pub blinder-last-seen : within 1 5 (a .head .kind) ≡ true → blinderLast x s scratch a room
+  blinder-last-seen : kindKnown (a .head .kind) ≡ true → blinderLast x s scratch a room
       ≡ onDone (entering 0 (behind blinder (x .terms) s))
       (blinderLast x (seen blinder (x .terms) s) (take mostScratch scratch) (seenMessage a) (least room mostResult))
   unfolding blinderLast
@@ -269,6 +266,76 @@ module _ (x : BlinderSession) (s : Slot) (scratch : List ℕ) (a : Message) (roo
       alike (entering 0 (behind blinder (x .terms) s)) (blinderLastTests x s scratch a room)
       (blinderLastTests x (seen blinder (x .terms) s) (take mostScratch scratch) (seenMessage a) (least room mostResult)) (blinderLastEffect x s scratch a)
       (blinderLastEffect x (seen blinder (x .terms) s) (take mostScratch scratch) (seenMessage a)) (last-judged known) last-done
+
+  -- ---- step 6 of a determinant: P and Q are looked at where the others of its tests passed
+
+  later-placed : (kind size : ℕ) → judged (later kind size s scratch a room) ≡ done tt → Placed blinder (x .terms) s
+  unfolding blinderTests
+  later-placed kind size e =
+      let t = x .terms in
+      let q = t .q in
+      let due = dueTests kind t a in
+      let l = laterTests blinder kind (x .due) t s in
+      let g = given (isOpen (x .due)) (roomTests (scratchSize t) (length scratch)) in
+      let km = keptTests q (keptM x) in
+      let ky = keptTests q (keptY x) in
+      let kw = keptTests q (take (scratchSize t) scratch) in
+      let all = all-split (messageTests a ++ blinderTests kind x s scratch ++ due) (given (isOpen (x .due)) (roomTests size room))
+      (passed (later kind size s scratch a room) e .0) .0 in
+      let own = all-split (messageTests a) (blinderTests kind x s scratch) (all-split (messageTests a ++ blinderTests kind x s scratch) due all .0) .1 in
+      let first = all-split l g (all-split (l ++ g) km (all-split (l ++ g ++ km) ky (all-split (l ++ g ++ km ++ ky) kw own .0) .0) .0) .0 in
+      open-placed blinder t s (later-tests blinder kind (x .due) t s .0 (record { all = first }) .session-open)
+
+  determinant-judged : kindKnown (a .head .kind) ≡ true → judged (blinderDeterminantTests x s scratch a room)
+      ≡ judged (blinderDeterminantTests x (seen blinder (x .terms) s) (take mostScratch scratch) (seenMessage a) (least room mostResult))
+  unfolding blinderDeterminantTests regularTests
+  determinant-judged known =
+      let t = x .terms in
+      let ts = later 6 (messageSize 6 t) s scratch a room in
+      let us = lookedAt 6 (messageSize 6 t) mostResult (seenMessage a) in
+      let by-p : List ℕ → Bool = λ l. regular (t .q) (t .m) (part 0 (scratchParts t l)) in
+      let by-q : Slot → Bool = λ c. regular (t .q) (t .m) (part 2 (matrices blinder t (slotWords c))) in
+      let first = later-judged 6 (messageSize 6 t) mostResult (λ e. omega (arith, few-reply t e .3)) known in
+      let second = then-alike ts us (by-p scratch) (by-p (take mostScratch scratch)) first
+      (λ e. let p = later-placed 6 (messageSize 6 t) e in rw (scratch-taken t scratch (p .sides)) refl) in
+      then-alike _ _ (by-q s) (by-q (seen blinder t s)) second
+      (λ e. let p = later-placed 6 (messageSize 6 t) (first-passed ts _ e) in rw (matrices-seen blinder t s (p .sides) (p .inside)) refl)
+
+  determinant-done : judged (blinderDeterminantTests x s scratch a room) ≡ done tt → blinderDeterminantEffect x s scratch a
+      ≡ entering 0 (behind blinder (x .terms) s) (blinderDeterminantEffect x (seen blinder (x .terms) s) (take mostScratch scratch) (seenMessage a))
+  unfolding blinderDeterminant blinderDeterminantEffect
+  determinant-done h =
+      let t = x .terms in
+      let f = blinder-determinant x s scratch a room .means (accepted-by (blinderDeterminantTests x s scratch a room) (blinderDeterminantEffect x s scratch a) h) .0 .fits in
+      let p = open-placed blinder t s (f .later .session-open) in
+      rw (
+        message-whole system 6 t a (p .sides) (f .message),
+        spent-seen blinder t s (p .sides) (p .inside) (p .room),
+        matrices-seen blinder t s (p .sides) (p .inside),
+        scratch-taken t scratch (p .sides),
+      ) refl
+
+  blinder-determinant-seen : kindKnown (a .head .kind) ≡ true → blinderDeterminant x s scratch a room
+      ≡ onDone (entering 0 (behind blinder (x .terms) s))
+      (blinderDeterminant x (seen blinder (x .terms) s) (take mostScratch scratch) (seenMessage a) (least room mostResult))
+  unfolding blinderDeterminant
+  blinder-determinant-seen known =
+      alike (entering 0 (behind blinder (x .terms) s)) (blinderDeterminantTests x s scratch a room)
+      (blinderDeterminantTests x (seen blinder (x .terms) s) (take mostScratch scratch) (seenMessage a) (least room mostResult))
+      (blinderDeterminantEffect x s scratch a) (blinderDeterminantEffect x (seen blinder (x .terms) s) (take mostScratch scratch) (seenMessage a))
+      (determinant-judged known) determinant-done
+
+  pub blinder-ending-seen : kindKnown (a .head .kind) ≡ true → blinderEnding x s scratch a room
+      ≡ onDone (entering 0 (behind blinder (x .terms) s))
+      (blinderEnding x (seen blinder (x .terms) s) (take mostScratch scratch) (seenMessage a) (least room mostResult))
+  unfolding blinderEnding
+  blinder-ending-seen known =
+      let c = seen blinder (x .terms) s in
+      let l = take mostScratch scratch in
+      let b = seenMessage a in
+      let r = least room mostResult in
+      either-done (isDeterminant (x .terms)) (entering 0 (behind blinder (x .terms) s)) (blinderDeterminant x s scratch a room) (blinderLast x s scratch a room)
+      (blinderDeterminant x c l b r) (blinderLast x c l b r) (blinder-determinant-seen known) (blinder-last-seen known)
 
 -- ---- the drop
 

@@ -1,13 +1,12 @@
 -- Every step and drop, with what its tests and its effect show: its answer tells whether it was done, and it writes nothing where it is lent nothing.
---   left-told .. drop-blinder-told      an accepted first step was done; a later step or a drop was, too, that answered a singular sum
+--   left-told .. drop-blinder-told      an accepted call was done; of the solver's later ones one, too, that answered a singular sum
 --   left-no-scratch ..                  what it writes nothing over
 -- Assumes nothing.
 use mathlib.Core.Path.{_≡_, refl}
 use mathlib.Core.Bool.{Bool, true, false, cond}
 use mathlib.Core.List.{List}
-use Prim.Native.Nat.{ℕ, _*_}
+use Prim.Native.Nat.{ℕ}
 use lib.Dec.{eqb}
-use lib.ListN.{length, take}
 use Rattle.algebra.specs.Count.{both}
 use Rattle.algebra.specs.Elimination.{regular}
 use Rattle.protocol.specs.declared.Terms.{Terms}
@@ -18,19 +17,25 @@ use Rattle.protocol.specs.declared.Answer.the-variants.{Accepted, Refused}
 use Rattle.protocol.specs.declared.Refusal.the-variants.{Singular}
 use Rattle.protocol.specs.Judge.{clear, given}
 use Rattle.protocol.specs.Bounds.{shapeTests, termsTests, inputTests, roomTests}
-use Rattle.protocol.specs.Tape.{Slot, Role, right, solver, blinder, slotTests, halfTests, tapeTests, bodyTests}
-use Rattle.protocol.specs.Message.{Message, messageSize, messageTests, dueTests}
-use Rattle.protocol.specs.Step.{isOpen, openTests, laterTests}
-use Rattle.protocol.specs.Product.{rightFirstEffect, rightFirst, leftEffect, leftStep, rightLastEffect, rightLastTests, rightLast}
-use Rattle.protocol.specs.System.{sideSize, scratchSize, keptS, keptM, keptY, solverTests, blinderTests, keptTests}
+use Rattle.protocol.specs.Tape.{Slot, Role, solver, slotTests, halfTests, tapeTests, bodyTests}
+use Rattle.protocol.specs.Message.{Message, isDeterminant, messageSize, messageTests, dueTests}
+use Rattle.protocol.specs.Step.{Outcome, isOpen, openTests, laterTests}
+use Rattle.protocol.specs.Product.{rightFirstEffect, rightFirst, leftEffect, leftStep, rightLastEffect, rightLast}
+use Rattle.protocol.specs.System.{keptS, lastTests, solverTests, keptTests}
 use Rattle.protocol.specs.System.{jointSum, solverFirstEffect, solverFirst, blinderFirstEffect, blinderFirst}
-use Rattle.protocol.specs.System.{solverSecondEffect, solverSecondTests, solverSecond, blinderSecondEffect, blinderSecondTests, blinderSecond}
-use Rattle.protocol.specs.System.{solverLastEffect, solverLastTests, solverLast, blinderLastEffect, blinderLastTests, blinderLast}
+use Rattle.protocol.specs.System.{solverSecondEffect, solverSecondTests, solverSecond, blinderSecondEffect, blinderSecond}
+use Rattle.protocol.specs.System.{solverLastEffect, solverLastTests, solverLast, solverDeterminantEffect, solverDeterminantTests, solverDeterminant, solverEnding}
+use Rattle.protocol.specs.System.{blinderLastEffect, blinderLast, blinderDeterminantEffect, blinderDeterminant}
 use Rattle.protocol.specs.Drop.{dropRight, dropSolver, dropBlinder}
 use Rattle.entry.specs.declared.Session.{Session}
-use Rattle.entry.specs.Steps.{recorded}
+use Rattle.entry.specs.Steps.{recorded, blinderEnding}
 use Rattle.local.specs.Settled.{isAccepted, isSettled}
 use Rattle.local.proofs.Recorded.{Told, told-first, NoTen, _and_, told-later, NoScratch, NoSent, NoResult, no-scratch, no-sent, no-result}
+
+-- what holds of two calls holds of either
+either-of : {S : Type 0} (P : Outcome S → Type 0) (b : Bool) {o u : Outcome S} → P o → P u → P (cond b o u)
+either-of P true h k = h
+either-of P false h k = k
 
 -- ---- first steps
 
@@ -78,7 +83,7 @@ module _ (t : Terms) (s : Slot) (l x : List ℕ) (room : ℕ) where
   unfolding solverFirst solverFirstEffect
   solver-first-no-result f = no-result f _ _ refl
 
--- ---- tests that later steps and drops share
+-- ---- tests that the solver's later steps and its drop share
 
 of-message : (a : Message) → NoTen (messageTests a)
 unfolding messageTests termsTests shapeTests inputTests clear both
@@ -108,27 +113,16 @@ of-solver : (kind : ℕ) (x : SolverSession) (s : Slot) → NoTen (solverTests k
 unfolding solverTests
 of-solver kind x s = of-later solver kind (x .due) (x .terms) s and of-kept (x .terms .q) (keptS x)
 
-of-blinder : (kind : ℕ) (x : BlinderSession) (s : Slot) (scratch : List ℕ) → NoTen (blinderTests kind x s scratch)
-unfolding blinderTests
-of-blinder kind x s scratch =
-    of-later blinder kind (x .due) (x .terms) s
-    and of-room (isOpen (x .due)) (scratchSize (x .terms)) (length scratch)
-    and of-kept (x .terms .q) (keptM x)
-    and of-kept (x .terms .q) (keptY x)
-    and of-kept (x .terms .q) (take (scratchSize (x .terms)) scratch)
+of-last : (kind : ℕ) (t : Terms) → NoTen (lastTests kind t)
+unfolding lastTests clear both
+of-last kind t = record { none = refl }
 
 -- ---- later steps
 
 module _ (x : RightSession) (s : Slot) (a : Message) (room : ℕ) where
-  pub right-last-told : Told isSettled (rightLast x s a room)
-  unfolding rightLast rightLastTests rightLastEffect
-  right-last-told =
-      let tests =
-      of-message a
-      and of-later right 2 (x .due) (x .terms) s
-      and of-due 2 (x .terms) a
-      and of-room (isOpen (x .due)) (x .terms .m * x .terms .p) room in
-      told-later _ _ tests refl
+  pub right-last-told : Told isAccepted (rightLast x s a room)
+  unfolding rightLast rightLastEffect
+  right-last-told = told-first _ _ refl
 
   pub right-last-no-scratch : (f : RightSession → Session) → NoScratch (recorded f (rightLast x s a room))
   unfolding rightLast rightLastEffect
@@ -159,71 +153,51 @@ module _ (x : SolverSession) (s : Slot) (a : Message) (room : ℕ) where
   either-settled true = refl
   either-settled false = refl
 
-  pub solver-last-told : Told isSettled (solverLast x s a room)
-  unfolding solverLast solverLastTests solverLastEffect
-  solver-last-told =
-      let tests =
-      of-message a and of-solver 4 x s and of-due 4 (x .terms) a and of-room (isOpen (x .due)) (messageSize 5 (x .terms)) room in
-      told-later _ _ tests (either-settled (regular (x .terms .q) (x .terms .m) (jointSum x s a)))
+  pub solver-ending-told : Told isSettled (solverEnding x s a room)
+  unfolding solverEnding solverLast solverLastTests solverLastEffect solverDeterminant solverDeterminantTests solverDeterminantEffect
+  solver-ending-told =
+      let tests : (n : ℕ) → NoTen _ = λ n. of-message a and of-solver 4 x s and of-due 4 (x .terms) a and of-room (isOpen (x .due)) n room in
+      either-of (Told isSettled) (isDeterminant (x .terms)) (told-later _ _ (tests (messageSize 6 (x .terms)) and of-last 6 (x .terms)) refl)
+      (told-later _ _ (tests (messageSize 5 (x .terms)) and of-last 5 (x .terms)) (either-settled (regular (x .terms .q) (x .terms .m) (jointSum x s a))))
 
-  pub solver-last-no-scratch : (f : SolverSession → Session) → NoScratch (recorded f (solverLast x s a room))
-  unfolding solverLast solverLastEffect
-  solver-last-no-scratch f = no-scratch f _ _ refl
+  pub solver-ending-no-scratch : (f : SolverSession → Session) → NoScratch (recorded f (solverEnding x s a room))
+  unfolding solverEnding solverLast solverLastEffect solverDeterminant solverDeterminantEffect
+  solver-ending-no-scratch f = either-of (λ o. NoScratch (recorded f o)) (isDeterminant (x .terms)) (no-scratch f _ _ refl) (no-scratch f _ _ refl)
 
-  pub solver-last-no-result : (f : SolverSession → Session) → NoResult (recorded f (solverLast x s a room))
-  unfolding solverLast solverLastEffect
-  solver-last-no-result f = no-result f _ _ refl
+  pub solver-ending-no-result : (f : SolverSession → Session) → NoResult (recorded f (solverEnding x s a room))
+  unfolding solverEnding solverLast solverLastEffect solverDeterminant solverDeterminantEffect
+  solver-ending-no-result f = either-of (λ o. NoResult (recorded f o)) (isDeterminant (x .terms)) (no-result f _ _ refl) (no-result f _ _ refl)
 
   -- whichever of the two is due
   module _ (due : ℕ) (f : SolverSession → Session) where
-    pub solver-next-no-scratch : NoScratch (recorded f (cond (eqb due 2) (solverSecond x s a room) (solverLast x s a room)))
-    solver-next-no-scratch = go (eqb due 2)
-      where
-        go : (b : Bool) → NoScratch (recorded f (cond b (solverSecond x s a room) (solverLast x s a room)))
-        go true = solver-second-no-scratch f
-        go false = solver-last-no-scratch f
+    pub solver-next-no-scratch : NoScratch (recorded f (cond (eqb due 2) (solverSecond x s a room) (solverEnding x s a room)))
+    solver-next-no-scratch = either-of (λ o. NoScratch (recorded f o)) (eqb due 2) (solver-second-no-scratch f) (solver-ending-no-scratch f)
 
-    pub solver-next-no-result : NoResult (recorded f (cond (eqb due 2) (solverSecond x s a room) (solverLast x s a room)))
-    solver-next-no-result = go (eqb due 2)
-      where
-        go : (b : Bool) → NoResult (recorded f (cond b (solverSecond x s a room) (solverLast x s a room)))
-        go true = solver-second-no-result f
-        go false = solver-last-no-result f
+    pub solver-next-no-result : NoResult (recorded f (cond (eqb due 2) (solverSecond x s a room) (solverEnding x s a room)))
+    solver-next-no-result = either-of (λ o. NoResult (recorded f o)) (eqb due 2) (solver-second-no-result f) (solver-ending-no-result f)
 
 module _ (x : BlinderSession) (s : Slot) (scratch : List ℕ) (a : Message) (room : ℕ) where
-  pub blinder-second-told : Told isSettled (blinderSecond x s scratch a room)
-  unfolding blinderSecond blinderSecondTests blinderSecondEffect
-  blinder-second-told =
-      let tests =
-      of-message a
-      and of-blinder 3 x s scratch
-      and of-due 3 (x .terms) a
-      and of-room (isOpen (x .due)) (messageSize 4 (x .terms)) room in
-      told-later _ _ tests refl
+  pub blinder-second-told : Told isAccepted (blinderSecond x s scratch a room)
+  unfolding blinderSecond blinderSecondEffect
+  blinder-second-told = told-first _ _ refl
 
   pub blinder-second-no-result : (f : BlinderSession → Session) → NoResult (recorded f (blinderSecond x s scratch a room))
   unfolding blinderSecond blinderSecondEffect
   blinder-second-no-result f = no-result f _ _ refl
 
-  pub blinder-last-told : Told isSettled (blinderLast x s scratch a room)
-  unfolding blinderLast blinderLastTests blinderLastEffect
-  blinder-last-told =
-      let tests =
-      of-message a
-      and of-blinder 5 x s scratch
-      and of-due 5 (x .terms) a
-      and of-room (isOpen (x .due)) (sideSize (x .terms)) room in
-      told-later _ _ tests refl
+  pub blinder-ending-told : Told isAccepted (blinderEnding x s scratch a room)
+  unfolding blinderEnding blinderLast blinderLastEffect blinderDeterminant blinderDeterminantEffect
+  blinder-ending-told = either-of (Told isAccepted) (isDeterminant (x .terms)) (told-first _ _ refl) (told-first _ _ refl)
 
-  pub blinder-last-no-sent : (f : BlinderSession → Session) → NoSent (recorded f (blinderLast x s scratch a room))
-  unfolding blinderLast blinderLastEffect
-  blinder-last-no-sent f = no-sent f _ _ refl
+  pub blinder-ending-no-sent : (f : BlinderSession → Session) → NoSent (recorded f (blinderEnding x s scratch a room))
+  unfolding blinderEnding blinderLast blinderLastEffect blinderDeterminant blinderDeterminantEffect
+  blinder-ending-no-sent f = either-of (λ o. NoSent (recorded f o)) (isDeterminant (x .terms)) (no-sent f _ _ refl) (no-sent f _ _ refl)
 
 -- ---- drops
 
-pub drop-right-told : (x : RightSession) (s : Slot) → Told isSettled (dropRight x s)
+pub drop-right-told : (x : RightSession) (s : Slot) → Told isAccepted (dropRight x s)
 unfolding dropRight
-drop-right-told x s = told-later _ _ (of-open right (x .due) (x .terms) s) refl
+drop-right-told x s = told-first _ _ refl
 
 pub drop-right-no-scratch : (x : RightSession) (s : Slot) (f : RightSession → Session) → NoScratch (recorded f (dropRight x s))
 unfolding dropRight
@@ -237,7 +211,6 @@ pub drop-solver-no-scratch : (x : SolverSession) (s : Slot) (f : SolverSession �
 unfolding dropSolver
 drop-solver-no-scratch x s f = no-scratch f _ _ refl
 
-pub drop-blinder-told : (x : BlinderSession) (s : Slot) (scratch : List ℕ) → Told isSettled (dropBlinder x s scratch)
+pub drop-blinder-told : (x : BlinderSession) (s : Slot) (scratch : List ℕ) → Told isAccepted (dropBlinder x s scratch)
 unfolding dropBlinder
-drop-blinder-told x s scratch =
-    told-later _ _ (of-open blinder (x .due) (x .terms) s and of-room (isOpen (x .due)) (scratchSize (x .terms)) (length scratch)) refl
+drop-blinder-told x s scratch = told-first _ _ refl

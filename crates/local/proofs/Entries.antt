@@ -11,10 +11,9 @@ use lib.ListN.{length, take}
 use Rattle.protocol.specs.declared.Terms.{Terms}
 use Rattle.protocol.specs.declared.Refusal.the-variants.{Form, Modulus, Composite, Size, Turn, Mark, Stranger, Residue, Dry, Singular}
 use Rattle.protocol.specs.Judge.{placeOf, placeIn, Test, Judged, refused, done, judge}
-use Rattle.protocol.specs.Bounds.{within}
 use Rattle.protocol.specs.Tape.{Slot}
 use Rattle.protocol.specs.Drawing.{wordsRead}
-use Rattle.protocol.specs.Message.{Message, noMessage}
+use Rattle.protocol.specs.Message.{Message, noMessage, kindKnown}
 use Rattle.protocol.specs.Line.{parseMessage, mostSent}
 use Rattle.protocol.specs.LineStep.{andThen}
 use Rattle.protocol.specs.Step.{Outcome}
@@ -66,12 +65,12 @@ module _ (l : Lent) (size index : ℕ) where
   share-room = length (l .result) / 4
 
   -- the step that is due
-  next-call : (x : Session) (a : Message) → within 1 5 (a .head .kind) ≡ true
+  next-call : (x : Session) (a : Message) → kindKnown (a .head .kind) ≡ true
       → seenLater false x mostReply own-slot lent-words (seenMessage a) share-room ≡ nextStep x own-slot lent-words a mostSent share-room
   unfolding seenLater laterStep least
   next-call x a known = sym (next-seen x own-slot lent-words a mostSent share-room known)
 
-  pub next-entered : (message : List ℕ) (a : Message) → parseMessage message ≡ done a → within 1 5 (a .head .kind) ≡ true
+  pub next-entered : (message : List ℕ) (a : Message) → parseMessage message ≡ done a → kindKnown (a .head .kind) ≡ true
       → enteredBy l (index * size) (judge (sessionTests l) tt) (seenLater false (sessionIn (l .host)) mostReply own-slot lent-words (seenMessage a) share-room)
       ≡ nextOn l size index message
   unfolding nextOn
@@ -111,14 +110,14 @@ module _ (l : Lent) (size index : ℕ) where
     abbrev seenOf : Message → Outcome Session
     seenOf b = seenFirst end t (lentRoom end) mostSent (shareRoom end) read own-slot lent-words (seenWords (wordsOf input)) kept (openingMessage b) share-room
 
-    first-call : (a : Message) → (takesMessage end ≡ true → within 1 5 (a .head .kind) ≡ true) → seenOf a ≡ firstOf a
+    first-call : (a : Message) → (takesMessage end ≡ true → kindKnown (a .head .kind) ≡ true) → seenOf a ≡ firstOf a
     unfolding seenFirst
     first-call a known = sym (first-seen t own-slot lent-words (wordsOf input) (wordsOf raw) a mostSent share-room end known)
 
     abbrev firstLeft : Message → Left
     firstLeft a = enteredBy l (index * size) (judge own-tests tt) (seenOf a)
 
-    pub first-entered : (a : Message) → takesMessage end ≡ true → parseMessage message ≡ done a → within 1 5 (a .head .kind) ≡ true
+    pub first-entered : (a : Message) → takesMessage end ≡ true → parseMessage message ≡ done a → kindKnown (a .head .kind) ≡ true
         → firstLeft a ≡ firstOn l size index end t input raw message
     unfolding firstOn
     first-entered a takes e known =

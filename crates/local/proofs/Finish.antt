@@ -20,7 +20,7 @@ use Rattle.protocol.specs.declared.Answer.the-variants.{Accepted, Refused}
 use Rattle.protocol.specs.declared.Head.{Head}
 use Rattle.protocol.specs.declared.Refusal.{Refusal}
 use Rattle.protocol.specs.declared.Refusal.the-variants.{Form, Modulus, Composite, Size, Turn, Mark, Stranger, Residue, Dry, Singular}
-use Rattle.protocol.specs.Judge.{placeOf, placeIn, Judged, refused, done}
+use Rattle.protocol.specs.Judge.{placeOf, Judged, refused, done}
 use Rattle.protocol.specs.Tape.{Slot, slotAt, slotWords, poolWith}
 use Rattle.protocol.specs.Message.{messageWith, noMessage}
 use Rattle.protocol.specs.Step.{Effect, Outcome, answerAfter, sessionAfter, poolAfter, scratchAfter, sentAfter, resultAfter}
@@ -37,16 +37,17 @@ use Rattle.entry.specs.Steps.{lowerThan}
 use Rattle.entry.specs.Entry.{Lent, Left, left, inRoom, lineOf, refusalReport}
 use Rattle.entry.proofs.Bytes.{Below, bytes-over, bytes-length, words-length, part-back, over-again}
 use Rattle.local.specs.Seen.{onDone, readAs, entering, sentSize}
+use Rattle.local.proofs.Outcomes.{singular-last}
 use Rattle.local.proofs.Proper.{Proper}
 use Rattle.local.specs.Stored.{putAll, sentLine, storedSent, stored, lowerOf}
 use Rattle.local.specs.Entered.{settled, enteredBy}
 
 -- ---- what is known of an outcome
 
--- `later`: an answer that a sum is singular is a step's that was done
-pub record Behaves (later : Bool) (c : Slot) (o : Outcome Session) : Type 0 where
-  pub refuses : (r : Refusal) → o ≡ refused r → both later (isSingular r) ≡ false
-  pub answers : (e : Effect Session) (r : Refusal) → o ≡ done e → e .answer ≡ Refused r → both later (isSingular r) ≡ true
+-- `sums`: an answer that a sum is singular is that of a step which was done
+pub record Behaves (sums : Bool) (c : Slot) (o : Outcome Session) : Type 0 where
+  pub refuses : (r : Refusal) → o ≡ refused r → both sums (isSingular r) ≡ false
+  pub answers : (e : Effect Session) (r : Refusal) → o ≡ done e → e .answer ≡ Refused r → both sums (isSingular r) ≡ true
   pub proper : (e : Effect Session) → o ≡ done e → Proper c e
 
 -- ---- lists written over others
@@ -115,10 +116,10 @@ module _ (l : Lent) (scratch-bytes : Below 256 (l .scratch)) (result-bytes : Bel
   sent-line e p = ap (λ (z : List ℕ). lineOf (messageWith (e .sent .head) z))
       (ap (λ (i : ℕ). take i (over (e .sent .residues) sent₀)) (sym (p .count)) ∙ start-over (e .sent .residues) sent₀)
 
-  module _ (later : Bool) (read : ℕ) (x : Session) where
+  module _ (sums : Bool) (read : ℕ) (x : Session) where
     -- from what the code's step answered and left
     abbrev storing : Answer → Leaves Session → Left
-    storing a v = stored later read a (v .session) (v .head) (v .pool) (v .scratch) (v .sent) (v .result) l
+    storing a v = stored sums read a (v .session) (v .head) (v .pool) (v .scratch) (v .sent) (v .result) l
 
     fits-or-not : (e : Effect Session) → Proper slot e → (a : ℕ) → (b : Bool) → leb (length (lineOf (e .sent))) (length (l .line)) ≡ b
         → e .answer ≡ Accepted a → storing (Accepted a) (gone x (done e)) ≡ left 0 l (inRoom (length (l .line)) (done (entering read [] e)))
@@ -127,44 +128,30 @@ module _ (l : Lent) (scratch-bytes : Below 256 (l .scratch)) (result-bytes : Bel
     fits-or-not e p a false h f = rw (sent-line e p, h) refl
 
     -- a sum that is singular sends nothing
-    sum-left : (e : Effect Session) → Proper slot e → (r : Refusal) → both later (isSingular r) ≡ true → e .answer ≡ Refused r
+    sum-left : (e : Effect Session) → Proper slot e → (r : Refusal) → both sums (isSingular r) ≡ true → e .answer ≡ Refused r
         → storing (Refused r) (gone x (done e)) ≡ left 0 l (inRoom (length (l .line)) (done (entering read [] e)))
     unfolding inRoom lineOf
     sum-left e p r b f = rw (b, f, p .refused-sends r f, le-leb 0 (length (l .line)) (omega arith), put-done e p []) refl
 
-    done-left : (e : Effect Session) → Proper slot e → ((r : Refusal) → e .answer ≡ Refused r → both later (isSingular r) ≡ true) → (a : Answer) → e .answer ≡ a
+    done-left : (e : Effect Session) → Proper slot e → ((r : Refusal) → e .answer ≡ Refused r → both sums (isSingular r) ≡ true) → (a : Answer) → e .answer ≡ a
         → storing a (gone x (done e)) ≡ left 0 l (inRoom (length (l .line)) (done (entering read [] e)))
     done-left e p s (Accepted a) f = fits-or-not e p a (leb (length (lineOf (e .sent))) (length (l .line))) refl f
     done-left e p s (Refused r) f = sum-left e p r (s r f) f
 
-    outcome-left : (o : Outcome Session) → Behaves later slot o
+    outcome-left : (o : Outcome Session) → Behaves sums slot o
         → storing (answerAfter o) (gone x o) ≡ left 0 l (inRoom (length (l .line)) (onDone (entering read []) o))
     unfolding inRoom
     outcome-left (refused r) b = rw (b .refuses r refl) refl
     outcome-left (done e) b = done-left e (b .proper e refl) (λ r f. b .answers e r refl f) (e .answer) refl
 
-    pub stored-left : (o : Outcome Session) → Behaves later slot o → (a : Answer) {session : Session} {head : Head} {pool scratch sent result : List ℕ}
+    pub stored-left : (o : Outcome Session) → Behaves sums slot o → (a : Answer) {session : Session} {head : Head} {pool scratch sent result : List ℕ}
         → leaving a session head pool scratch sent result ≡ gone x o
-        → stored later read a session head pool scratch sent result l ≡ left 0 l (inRoom (length (l .line)) (onDone (entering read []) o))
+        → stored sums read a session head pool scratch sent result l ≡ left 0 l (inRoom (length (l .line)) (onDone (entering read []) o))
     stored-left o b a e =
         let same : a ≡ answerAfter o = answer-determines a (answerAfter o) (ap (λ (v : Leaves Session). v .answer) e) in
         ap (storing a) e ∙ (ap (λ (z : Answer). storing z (gone x o)) same ∙ outcome-left o b)
 
 -- ---- an entry's own refusal
-
--- no refusal comes behind a singular sum
-singular-last : (r : Refusal) → ltb (placeOf Singular) (placeOf r) ≡ false
-unfolding placeOf placeIn
-singular-last Form = refl
-singular-last Modulus = refl
-singular-last Composite = refl
-singular-last Size = refl
-singular-last Turn = refl
-singular-last Mark = refl
-singular-last Stranger = refl
-singular-last Residue = refl
-singular-last Dry = refl
-singular-last Singular = refl
 
 is-singular : (r : Refusal) → isSingular r ≡ true → r ≡ Singular
 is-singular Form e = absurd (false≢true e)
@@ -183,13 +170,13 @@ unfolding both
 right-of true b e = e
 right-of false b e = absurd (false≢true e)
 
-module _ (later : Bool) (c : Slot) (f : Effect Session → Effect Session) (own : Refusal) where
-  answered : (e : Effect Session) → ((r : Refusal) → e .answer ≡ Refused r → both later (isSingular r) ≡ true) → (a : Answer) → e .answer ≡ a
+module _ (sums : Bool) (c : Slot) (f : Effect Session → Effect Session) (own : Refusal) where
+  answered : (e : Effect Session) → ((r : Refusal) → e .answer ≡ Refused r → both sums (isSingular r) ≡ true) → (a : Answer) → e .answer ≡ a
       → lowerOf (check.Refused own) a ≡ own
   answered e h (Accepted n) g = refl
-  answered e h (Refused r) g = rw (is-singular r (right-of later (isSingular r) (h r g)), singular-last own) refl
+  answered e h (Refused r) g = rw (is-singular r (right-of sums (isSingular r) (h r g)), singular-last own) refl
 
-  pub refused-left : (l : Lent) (o : Outcome Session) → Behaves later c o → (a : Answer) → a ≡ answerAfter o
+  pub refused-left : (l : Lent) (o : Outcome Session) → Behaves sums c o → (a : Answer) → a ≡ answerAfter o
       → _≡_ {A = Left} (record { report = refusalReport (lowerOf (check.Refused own) a); lent = l })
       (enteredBy l 0 (refused own) (onDone f o))
   unfolding enteredBy inRoom
@@ -204,16 +191,16 @@ module _ (later : Bool) (c : Slot) (f : Effect Session → Effect Session) (own 
 -- ---- both
 
 module _ (l : Lent) (scratch-bytes : Below 256 (l .scratch)) (result-bytes : Below 256 (l .result)) (n k j : ℕ) (k-fits : k ≤ length (l .scratch) / 4)
-    (j-fits : j ≤ length (l .result) / 4) (sent₀ : List ℕ) (n-is : length (take n (wordsOf (l .pool))) ≡ n) (later : Bool) (read : ℕ) (x : Session) where
+    (j-fits : j ≤ length (l .result) / 4) (sent₀ : List ℕ) (n-is : length (take n (wordsOf (l .pool))) ≡ n) (sums : Bool) (read : ℕ) (x : Session) where
   -- what the code's `settle` leaves of a step
-  pub settled-left : (own : Check) (o : Outcome Session) → Behaves later (slotAt (take n (wordsOf (l .pool))) n 0) o
+  pub settled-left : (own : Check) (o : Outcome Session) → Behaves sums (slotAt (take n (wordsOf (l .pool))) n 0) o
       → (a : Answer) {session : Session} {head : Head} {pool scratch sent result : List ℕ}
       → leaving a session head pool scratch sent result
       ≡ leaves x (slotAt (take n (wordsOf (l .pool))) n 0) (take k (wordsOf (l .scratch))) sent₀ (take j (wordsOf (l .result))) o
-      → settled own later read a session head pool scratch sent result l ≡ enteredBy l 0 (checked own) (onDone (entering read []) o)
+      → settled own sums read a session head pool scratch sent result l ≡ enteredBy l 0 (checked own) (onDone (entering read []) o)
   unfolding enteredBy
   settled-left check.Passed o b a e =
-      stored-left l scratch-bytes result-bytes n k j k-fits j-fits sent₀ n-is later read x o b a e
+      stored-left l scratch-bytes result-bytes n k j k-fits j-fits sent₀ n-is sums read x o b a e
   settled-left (check.Refused r) o b a e =
-      refused-left later (slotAt (take n (wordsOf (l .pool))) n 0) (entering read []) r l o b a
+      refused-left sums (slotAt (take n (wordsOf (l .pool))) n 0) (entering read []) r l o b a
       (answer-determines a (answerAfter o) (ap (λ (v : Leaves Session). v .answer) e))

@@ -2,6 +2,9 @@
 --   judge-map           an outcome with its effect changed
 --   also-judge          further tests and a call's own are judged as one list
 --   early               two lists of tests that agree up to a refusal that applies to both are judged alike
+--   both-alike          the same tests behind two lists that are judged alike
+--   singular-last       no refusal comes behind a singular sum; then-alike: a test of it behind two lists
+--   either-done         either of two calls
 --   alike               two calls whose tests are judged alike, and whose effects agree where they pass
 -- Assumes nothing.
 use mathlib.Core.Path.{_≡_, refl, sym, ap, _∙_}
@@ -11,8 +14,10 @@ use Prim.Native.Nat.{ℕ, _≤_, _<_}
 use native.Mathlib.Omega.{arith}
 use native.Mathlib.Decide.{decLt}
 use lib.Dec.{ltb}
+use Rattle.algebra.specs.Count.{both}
 use Rattle.protocol.specs.declared.Refusal.{Refusal}
-use Rattle.protocol.specs.Judge.{placeOf, refusals, Test, clear, Judged, refused, done, judge, judgeBy}
+use Rattle.protocol.specs.declared.Refusal.the-variants.{Form, Modulus, Composite, Size, Turn, Mark, Stranger, Residue, Dry, Singular}
+use Rattle.protocol.specs.Judge.{placeOf, placeIn, refusals, Test, needs, clear, Judged, refused, done, judge, judgeBy}
 use Rattle.protocol.proofs.Judge.{Lowest, lowest, stops, passed, all-clear, same-place}
 use Rattle.judging.specs.InOrder.{judged}
 use Rattle.judging.specs.Lowest.{lower}
@@ -91,6 +96,46 @@ module _ (ts us : List Test) (r : Refusal) (same : (s : Refusal) → placeOf s <
       go : (v : Judged Unit) → judged ts ≡ v → v ≡ judged us
       go (done u) e = absurd (not-both (all-clear ts (passed ts e .0) r) fails)
       go (refused s) e = sym (stops us tt s (lowest-too s (lowest ts tt s e)))
+
+-- behind two lists that are judged alike
+pub both-alike : (ts us vs : List Test) → judged ts ≡ judged us → judged (ts ++ vs) ≡ judged (us ++ vs)
+both-alike ts us vs e = judged-join ts vs ∙ (ap (λ (v : Judged Unit). lower v (judged vs)) e ∙ sym (judged-join us vs))
+
+pub singular-last : (r : Refusal) → ltb (placeOf Singular) (placeOf r) ≡ false
+unfolding placeOf placeIn
+singular-last Form = refl
+singular-last Modulus = refl
+singular-last Composite = refl
+singular-last Size = refl
+singular-last Turn = refl
+singular-last Mark = refl
+singular-last Stranger = refl
+singular-last Residue = refl
+singular-last Dry = refl
+singular-last Singular = refl
+
+lower-singular : (r : Refusal) (b : Bool) → lower (refused r) (judged (needs Singular b ∷ [])) ≡ refused r
+unfolding judge judgeBy clear both
+lower-singular r true = refl
+lower-singular r false = rw (singular-last r) refl
+
+still-refused : (ts : List Test) (b : Bool) (r : Refusal) → judged ts ≡ refused r → judged (ts ++ (needs Singular b ∷ [])) ≡ refused r
+still-refused ts b r e = judged-join ts (needs Singular b ∷ []) ∙ rw e (lower-singular r b)
+
+-- a test of 10 counts only where the others pass
+pub then-alike : (ts us : List Test) (b c : Bool) → judged ts ≡ judged us → (judged ts ≡ done tt → b ≡ c)
+    → judged (ts ++ (needs Singular b ∷ [])) ≡ judged (us ++ (needs Singular c ∷ []))
+then-alike ts us b c e h = go (judged ts) refl
+  where
+    go : (v : Judged Unit) → judged ts ≡ v → judged (ts ++ (needs Singular b ∷ [])) ≡ judged (us ++ (needs Singular c ∷ []))
+    go (done u) d = both-alike ts us (needs Singular b ∷ []) e ∙ ap (λ (z : Bool). judged (us ++ (needs Singular z ∷ []))) (h d)
+    go (refused r) d = still-refused ts b r d ∙ sym (still-refused us c r (sym e ∙ d))
+
+-- either of two calls
+pub either-done : {A B : Type 0} (b : Bool) (f : B → A) (o u : Judged A) (p v : Judged B) → o ≡ onDone f p → u ≡ onDone f v
+    → cond b o u ≡ onDone f (cond b p v)
+either-done true f o u p v e h = e
+either-done false f o u p v e h = h
 
 -- two calls
 pub alike : {A B : Type 0} (f : B → A) (ts us : List Test) (a : A) (b : B) → judged ts ≡ judged us → (judged ts ≡ done tt → a ≡ f b)

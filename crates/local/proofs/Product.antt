@@ -16,9 +16,9 @@ use Rattle.protocol.specs.declared.Terms.{Terms}
 use Rattle.protocol.specs.declared.RightSession.{RightSession}
 use Rattle.protocol.specs.declared.Refusal.the-variants.{Form, Modulus, Composite, Size, Turn}
 use Rattle.protocol.specs.Judge.{Test, needs, given, clear, Judged, refused, done, judge}
-use Rattle.protocol.specs.Bounds.{product, within, sidesFit, shapeTests, termsTests, inputTests, roomTests}
+use Rattle.protocol.specs.Bounds.{product, sidesFit, shapeTests, termsTests, inputTests, roomTests}
 use Rattle.protocol.specs.Tape.{Slot, isSlot, slotWords, left, right, tapeSize, matrices, slotTests, halfTests, tapeTests, bodyTests}
-use Rattle.protocol.specs.Message.{Message, messageWith, messageParts, messageSize, messageTests, dueTests}
+use Rattle.protocol.specs.Message.{Message, messageWith, kindKnown, messageParts, messageSize, messageTests, dueTests}
 use Rattle.protocol.specs.Line.{mostSent}
 use Rattle.protocol.specs.Drawing.{wordsRead, drawTests}
 use Rattle.protocol.specs.Step.{Effect, firstTests, isOpen, openTests, laterTests}
@@ -131,7 +131,7 @@ module _ (t : Terms) (s : Slot) (x words kept : List ℕ) (read : ℕ) (sifts : 
       ++ roomTests (t .m * t .p) share
       ++ drawTests (t .q) (t .m * t .p) words
 
-  left-judged : within 1 5 (a .head .kind) ≡ true
+  left-judged : kindKnown (a .head .kind) ≡ true
       → judged (leftTests t s x words a room share) ≡ judged (leftTests t (seen left t s) (seenWords x) kept (openingMessage a) room (least share mostResult))
   unfolding leftTests firstTests messageTests termsTests shapeTests inputTests dueTests slotTests halfTests tapeTests bodyTests
   left-judged known = opening-judged t (firstTests left t s) left-after a known ∙ left-alike (openingMessage a)
@@ -156,7 +156,7 @@ module _ (t : Terms) (s : Slot) (x words kept : List ℕ) (read : ℕ) (sifts : 
         matrices-seen left t s (p .sides) (p .inside),
       ) refl
 
-  pub left-seen : within 1 5 (a .head .kind) ≡ true → leftStep t s x words a room share
+  pub left-seen : kindKnown (a .head .kind) ≡ true → leftStep t s x words a room share
       ≡ onDone leftGrown (leftStep t (seen left t s) (seenWords x) kept (openingMessage a) room (least share mostResult))
   unfolding leftStep
   left-seen known =
@@ -174,7 +174,7 @@ module _ (x : RightSession) (s : Slot) (a : Message) (room : ℕ) where
       let t = x .terms in
       rw (later-seen right t s e f 2 (x .due), least-room (t .m * t .p) mostResult room (sides (t .m) (t .k) (t .p) e .few-mp)) refl
 
-  right-last-judged : within 1 5 (a .head .kind) ≡ true
+  right-last-judged : kindKnown (a .head .kind) ≡ true
       → judged (rightLastTests x s a room) ≡ judged (rightLastTests x (seen right (x .terms) s) (seenMessage a) (least room mostResult))
   unfolding rightLastTests laterTests openTests messageTests termsTests shapeTests inputTests dueTests slotTests halfTests tapeTests bodyTests given roomTests clear both
   right-last-judged known =
@@ -184,6 +184,7 @@ module _ (x : RightSession) (s : Slot) (a : Message) (room : ℕ) where
       let none = messageWith (a .head) [] in
       let us : Message → List Test = λ b. rightLastTests x (seen right t s) b (least room mostResult) in
       message-cases (λ b. judged ts ≡ judged (us b)) a known
+      (λ h. early-size ts (us none) refl refl refl (rw h) (rw h))
       (λ h. early-size ts (us none) refl refl refl (rw h (simp both-no)) (rw h (simp both-no)))
       (λ h g. early-size ts (us none) refl refl refl (rw h (simp both-no)) (rw g (simp both-no)))
       (session-cases right (x .due) t s
@@ -207,7 +208,7 @@ module _ (x : RightSession) (s : Slot) (a : Message) (room : ℕ) where
       let p = open-placed right (x .terms) s (f .later .session-open) in
       right-last-effect p (message-whole product 2 (x .terms) a (p .sides) (f .message))
 
-  pub right-last-seen : within 1 5 (a .head .kind) ≡ true → rightLast x s a room
+  pub right-last-seen : kindKnown (a .head .kind) ≡ true → rightLast x s a room
       ≡ onDone (entering 0 (behind right (x .terms) s)) (rightLast x (seen right (x .terms) s) (seenMessage a) (least room mostResult))
   unfolding rightLast
   right-last-seen known =

@@ -28,22 +28,24 @@ use Rattle.protocol.specs.declared.BlinderSession.{BlinderSession}
 use Rattle.protocol.specs.Judge.{refused, done}
 use Rattle.protocol.specs.Bounds.{Sort, product, system, fieldFits, columns}
 use Rattle.protocol.specs.Tape.{Slot, isSlot, slotWords, Role, left, right, blinder, solver, wordsInUse, wordsSpent}
-use Rattle.protocol.specs.Message.{Message, noMessage, messageLayout, messageSize}
+use Rattle.protocol.specs.Message.{Message, noMessage, isDeterminant, lastKind, messageLayout, messageSize}
 use Rattle.protocol.specs.Step.{answerNumber, Effect, Outcome}
 use Rattle.protocol.specs.Product.{rightFirstEffect, rightFirst, leftEffect, leftStep, rightLastEffect, rightLast}
 use Rattle.protocol.specs.System.{jointSum, solverFirstEffect, solverFirst, blinderFirstEffect, blinderFirst, solverSecondEffect, solverSecond}
 use Rattle.protocol.specs.System.{blinderSecondEffect, blinderSecond, solverLastEffect, solverLast, blinderLastEffect, blinderLast}
+use Rattle.protocol.specs.System.{solverDeterminantEffect, solverDeterminant, solverEnding, blinderDeterminantEffect, blinderDeterminant}
 use Rattle.protocol.specs.Drop.{dropRight, dropSolver, dropBlinder}
 use Rattle.protocol.proofs.Judge.{refused≢done, not-zero}
 use Rattle.protocol.proofs.Slots.{slot-length, used-length, spent-length}
 use Rattle.protocol.proofs.Tests.{Decides, TermsFit, system-sides, product-of-system}
-use Rattle.protocol.proofs.StepTests.{right-first, left-step, right-last, solver-first, blinder-first, solver-second, solver-last, blinder-second, blinder-last, drop-right, drop-solver, drop-blinder}
+use Rattle.protocol.proofs.StepTests.{right-first, left-step, right-last, solver-first, blinder-first, solver-second, solver-last, solver-determinant, blinder-second, blinder-last, blinder-determinant, drop-right, drop-solver, drop-blinder}
 use Rattle.tape.specs.Placed.{Placed}
 use Rattle.tape.proofs.Slots.{half-body}
 use Rattle.judging.proofs.Fits.{first-placed, open-placed}
+use Rattle.judging.proofs.KindLaws.{last-system}
 use Rattle.entry.specs.declared.Session.{Session}
 use Rattle.entry.specs.Record.{LEFT, RIGHT, BLINDER, SOLVER, rightOf, solverOf, blinderOf, ofLeft, ofRight, ofSolver, ofBlinder}
-use Rattle.entry.specs.Steps.{recorded, firstStep, nextStep, dropStep}
+use Rattle.entry.specs.Steps.{recorded, firstStep, blinderEnding, nextStep, dropStep}
 use Rattle.local.specs.Seen.{sentSize}
 
 -- what is known of the effect of an accepted call on a slot
@@ -82,15 +84,21 @@ positive f = omega (arith, f .big)
 square : {t : Terms} → TermsFit system t → t .k ≡ t .m
 square {t} f = system-sides (t .m) (t .k) (t .p) .0 (f .sides) .k-is
 
-one-column : {t : Terms} → TermsFit system t → columns (t .m) (t .p) ≡ 1
+one-column : {t : Terms} → TermsFit system t → lastKind (t .m) (t .p) ≡ 5 → columns (t .m) (t .p) ≡ 1
 unfolding columns
-one-column {t} f = omega (arith, system-sides (t .m) (t .k) (t .p) .0 (f .sides) .p-is)
+one-column {t} f l =
+    let s = system-sides (t .m) (t .k) (t .p) .0 (f .sides) in
+    omega (arith, s .low, s .high, last-system (t .m) (t .p) l)
 
 -- a message whose parts are as its kind has them
 parts-count : (kind : ℕ) {t : Terms} {ls : List (List ℕ)} → TermsFit product t → Fits (t .q) (messageLayout (suc kind) (t .m) (t .k) (t .p)) ls
     → length (join ls) ≡ sentSize (record { kind = suc kind; terms = t })
 unfolding sentSize messageSize
 parts-count kind f ps = rw (eqb·suc-zero kind, f .sides) (fits-join ps .size)
+
+one-count : {t : Terms} → TermsFit product t → 1 ≡ sentSize (record { kind = 6; terms = t })
+unfolding sentSize messageSize messageLayout
+one-count f = rw (f .sides) refl
 
 no-count : length (noMessage .residues) ≡ sentSize (noMessage .head)
 unfolding sentSize
@@ -168,12 +176,13 @@ blinder-second-proper x s scratch a room = by-effect (blinder-second x s scratch
     (rw (square g) (sub-residues (positive g) (x .terms .m * x .terms .m) _ _) then add-residues (positive g) _ _ _ then none)))
 
 -- t, or nothing where W + V is singular
-module _ (x : SolverSession) (s : Slot) (a : Message) (p : Placed solver (x .terms) s) (g : TermsFit system (x .terms)) where
+module _ (x : SolverSession) (s : Slot) (a : Message) (p : Placed solver (x .terms) s) (g : TermsFit system (x .terms))
+    (kind : lastKind (x .terms .m) (x .terms .p) ≡ 5) where
   last-effect : (b : Bool) → regular (x .terms .q) (x .terms .m) (jointSum x s a) ≡ b → Proper s (solverLastEffect x s a)
   unfolding solverLastEffect messageLayout jointSum sumMatrix fieldFits
   last-effect true r =
       accepted p (solverLastEffect x s a) 0 (rw r) (gone p)
-      (rw r (parts-count 4 (product-of-system (x .terms) g) (rw (one-column g)
+      (rw r (parts-count 4 (product-of-system (x .terms) g) (rw (one-column g kind)
       (solution-solves (prime-test _ (g .field)) (x .terms .m) (add-residues (positive g) (x .terms .m * x .terms .m) _ _)
       (add-residues (positive g) (x .terms .m * 1) _ _) r .0)
       then none)))
@@ -181,14 +190,28 @@ module _ (x : SolverSession) (s : Slot) (a : Message) (p : Placed solver (x .ter
 
 pub solver-last-proper : (x : SolverSession) (s : Slot) (a : Message) (room : ℕ) (e : Effect SolverSession) → solverLast x s a room ≡ done e → Proper s e
 solver-last-proper x s a room = by-effect (solver-last x s a room) (λ f.
-    let o = f .later .session-open in
-    last-effect x s a (open-placed solver (x .terms) s o) (o .terms) (regular (x .terms .q) (x .terms .m) (jointSum x s a)) refl)
+    let o = f .fits .later .session-open in
+    last-effect x s a (open-placed solver (x .terms) s o) (o .terms) (f .sort-is) (regular (x .terms .q) (x .terms .m) (jointSum x s a)) refl)
+
+pub solver-determinant-proper : (x : SolverSession) (s : Slot) (a : Message) (room : ℕ) (e : Effect SolverSession) → solverDeterminant x s a room ≡ done e
+    → Proper s e
+unfolding solverDeterminantEffect join
+solver-determinant-proper x s a room = by-effect (solver-determinant x s a room) (λ f.
+    let o = f .fits .later .session-open in
+    let p = open-placed solver (x .terms) s o in
+    accepted p _ 0 refl (gone p) (one-count (product-of-system (x .terms) (o .terms))))
 
 pub blinder-last-proper : (x : BlinderSession) (s : Slot) (scratch : List ℕ) (a : Message) (room : ℕ) (e : Effect BlinderSession)
     → blinderLast x s scratch a room ≡ done e → Proper s e
 unfolding blinderLastEffect
 blinder-last-proper x s scratch a room =
     by-effect (blinder-last x s scratch a room) (λ f. ends (open-placed blinder (x .terms) s (f .later .session-open)) _ refl refl refl)
+
+pub blinder-determinant-proper : (x : BlinderSession) (s : Slot) (scratch : List ℕ) (a : Message) (room : ℕ) (e : Effect BlinderSession)
+    → blinderDeterminant x s scratch a room ≡ done e → Proper s e
+unfolding blinderDeterminantEffect
+blinder-determinant-proper x s scratch a room =
+    by-effect (blinder-determinant x s scratch a room) (λ f. ends (open-placed blinder (x .terms) s (f .fits .later .session-open)) _ refl refl refl)
 
 -- ---- drops
 
@@ -232,13 +255,14 @@ first-proper end t s scratch input words a room share =
 
 pub next-proper : (x : Session) (s : Slot) (scratch : List ℕ) (a : Message) (room share : ℕ) (e : Effect Session)
     → nextStep x s scratch a room share ≡ done e → Proper s e
-unfolding nextStep
+unfolding nextStep solverEnding blinderEnding solverOf blinderOf
 next-proper x s scratch a room share =
     either s (eqb (x .end) SOLVER)
-    (of-record s ofSolver _ (either s (eqb (x .due) 2) (solver-second-proper (solverOf x) s a room) (solver-last-proper (solverOf x) s a room)))
+    (of-record s ofSolver _ (either s (eqb (x .due) 2) (solver-second-proper (solverOf x) s a room)
+    (either s (isDeterminant (x .terms)) (solver-determinant-proper (solverOf x) s a room) (solver-last-proper (solverOf x) s a room))))
     (either s (eqb (x .end) BLINDER)
-    (of-record s ofBlinder _
-    (either s (eqb (x .due) 3) (blinder-second-proper (blinderOf x) s scratch a room) (blinder-last-proper (blinderOf x) s scratch a share)))
+    (of-record s ofBlinder _ (either s (eqb (x .due) 3) (blinder-second-proper (blinderOf x) s scratch a room)
+    (either s (isDeterminant (x .terms)) (blinder-determinant-proper (blinderOf x) s scratch a share) (blinder-last-proper (blinderOf x) s scratch a share))))
     (of-record s ofRight _ (right-last-proper (rightOf x) s a share)))
 
 pub drop-proper : (x : Session) (s : Slot) (scratch : List ℕ) (e : Effect Session) → dropStep x s scratch ≡ done e → Proper s e

@@ -1,5 +1,5 @@
 -- The solver's steps, on what a call looks at.
---   solver-first-seen, solver-second-seen, solver-last-seen   the three steps
+--   solver-first-seen, solver-second-seen, solver-ending-seen   the steps; the last is a system's or a determinant's
 -- Assumes nothing.
 use mathlib.Core.Path.{_≡_, refl, sym, ap, _∙_}
 use mathlib.Core.Bool.{Bool, true, false, cond}
@@ -15,18 +15,19 @@ use Rattle.algebra.specs.Elimination.{regular}
 use Rattle.protocol.specs.declared.Answer.the-variants.{Accepted, Refused}
 use Rattle.protocol.specs.declared.Refusal.the-variants.{Singular}
 use Rattle.protocol.specs.Judge.{Test, given, clear, done}
-use Rattle.protocol.specs.Bounds.{system, within, sidesFit, shapeTests, termsTests, inputTests, roomTests, mostResidues}
+use Rattle.protocol.specs.Bounds.{system, sidesFit, shapeTests, termsTests, inputTests, roomTests, mostResidues}
 use Rattle.protocol.specs.Tape.{Slot, isSlot, solver, slotTests, halfTests, tapeTests, bodyTests}
-use Rattle.protocol.specs.Message.{Message, messageWith, messageSize, messageTests, dueTests}
+use Rattle.protocol.specs.Message.{Message, messageWith, kindKnown, isDeterminant, messageSize, messageTests, dueTests}
 use Rattle.protocol.specs.Step.{firstTests, isOpen, openTests, laterTests}
 use Rattle.protocol.specs.System.{sideSize, keptTests, regularTests, solverTests, solverFirstTests, solverFirstEffect, solverFirst}
-use Rattle.protocol.specs.System.{solverSecondTests, solverSecondEffect, solverSecond, jointSum, solverLastTests, solverLastEffect, solverLast}
-use Rattle.protocol.proofs.StepTests.{solver-first, solver-second, solver-last}
+use Rattle.protocol.specs.System.{solverSecondTests, solverSecondEffect, solverSecond, lastTests, jointSum, solverLastTests, solverLastEffect, solverLast}
+use Rattle.protocol.specs.System.{solverDeterminantTests, solverDeterminantEffect, solverDeterminant, solverEnding}
+use Rattle.protocol.proofs.StepTests.{solver-first, solver-second, solver-last, solver-determinant}
 use Rattle.judging.specs.InOrder.{judged}
 use Rattle.judging.proofs.InOrder.{accepted-by}
 use Rattle.judging.proofs.Fits.{first-placed, open-placed}
 use Rattle.local.specs.Seen.{least, seen, behind, seenWords, seenMessage, mostReply}
-use Rattle.local.proofs.Outcomes.{onDone, readAs, entering, alike}
+use Rattle.local.proofs.Outcomes.{onDone, readAs, entering, both-alike, either-done, alike}
 use Rattle.local.proofs.Slots.{seen-inside, matrices-seen, in-use-seen, spent-seen, kept-seen}
 use Rattle.local.proofs.Tests.{first-seen, later-seen, both-no, early-size, early-turn, message-cases, session-cases, first-cases}
 use Rattle.local.proofs.Tests.{message-whole, words-whole, cut-length, few-square, few-reply}
@@ -93,30 +94,42 @@ read-none true = refl
 read-none false = refl
 
 module _ (x : SolverSession) (s : Slot) (a : Message) (room : ℕ) where
-  second-fits : sidesFit system (x .terms .m) (x .terms .k) (x .terms .p) ≡ true → isSlot s ≡ true
-      → solverSecondTests x s a room ≡ solverSecondTests x (seen solver (x .terms) s) a (least room mostReply)
-  unfolding solverSecondTests solverTests roomTests
-  second-fits e f =
-      let t = x .terms in
-      rw (later-seen solver t s e f 2 (x .due), least-room (messageSize 3 t) mostReply room (few-reply t e .0)) refl
+  -- the tests of a step that takes a message of this kind and sends so many residues
+  abbrev later : (kind size : ℕ) → Slot → Message → (room : ℕ) → List Test
+  later kind size c b r = messageTests b ++ solverTests kind x c ++ dueTests kind (x .terms) b ++ given (isOpen (x .due)) (roomTests size r)
 
-  second-judged : within 1 5 (a .head .kind) ≡ true
-      → judged (solverSecondTests x s a room) ≡ judged (solverSecondTests x (seen solver (x .terms) s) (seenMessage a) (least room mostReply))
-  unfolding solverSecondTests solverTests laterTests openTests messageTests termsTests shapeTests inputTests dueTests slotTests halfTests tapeTests bodyTests keptTests given roomTests clear both
-  second-judged known =
+  -- the same on what it looks at
+  abbrev lookedAt : (kind size : ℕ) → Message → List Test
+  lookedAt kind size b = later kind size (seen solver (x .terms) s) b (least room mostReply)
+
+  later-fits : (kind size : ℕ) → size ≤ mostReply → sidesFit system (x .terms .m) (x .terms .k) (x .terms .p) ≡ true → isSlot s ≡ true
+      → later kind size s a room ≡ lookedAt kind size a
+  unfolding solverTests roomTests
+  later-fits kind size few e f = rw (later-seen solver (x .terms) s e f kind (x .due), least-room size mostReply room few) refl
+
+  later-judged : (kind size : ℕ) → (sidesFit system (x .terms .m) (x .terms .k) (x .terms .p) ≡ true → size ≤ mostReply)
+      → kindKnown (a .head .kind) ≡ true → judged (later kind size s a room) ≡ judged (lookedAt kind size (seenMessage a))
+  unfolding solverTests laterTests openTests messageTests termsTests shapeTests inputTests dueTests slotTests halfTests tapeTests bodyTests keptTests given roomTests clear both
+  later-judged kind size few known =
       let t = x .terms in
       let in-pool = seen-inside solver t s in
-      let ts = solverSecondTests x s a room in
+      let ts = later kind size s a room in
       let none = messageWith (a .head) [] in
-      let us : Message → List Test = λ b. solverSecondTests x (seen solver t s) b (least room mostReply) in
+      let us : Message → List Test = lookedAt kind size in
       message-cases (λ b. judged ts ≡ judged (us b)) a known
+      (λ h. early-size ts (us none) refl refl refl (rw h) (rw h))
       (λ h. early-size ts (us none) refl refl refl (rw h (simp both-no)) (rw h (simp both-no)))
       (λ h g. early-size ts (us none) refl refl refl (rw h (simp both-no)) (rw g (simp both-no)))
       (session-cases solver (x .due) t s
       (λ o. early-turn ts (us a) refl refl refl (rw (o, in-pool) refl) (rw o (simp both-no)) (rw o (simp both-no)))
       (λ o h. early-size ts (us a) refl refl refl (rw (o, h) (simp both-no)) (rw (o, h) (simp both-no)))
       (λ o h. early-size ts (us a) refl refl refl (rw (o, h) (simp both-no)) (rw (o, in-pool, h) (simp both-no)))
-      (λ e f. ap judged (second-fits e f)))
+      (λ e f. ap judged (later-fits kind size (few e) e f)))
+
+  second-judged : kindKnown (a .head .kind) ≡ true
+      → judged (solverSecondTests x s a room) ≡ judged (solverSecondTests x (seen solver (x .terms) s) (seenMessage a) (least room mostReply))
+  unfolding solverSecondTests
+  second-judged = later-judged 2 (messageSize 3 (x .terms)) (λ e. few-reply (x .terms) e .0)
 
   second-done : judged (solverSecondTests x s a room) ≡ done tt
       → solverSecondEffect x s a ≡ entering 0 (behind solver (x .terms) s) (solverSecondEffect x (seen solver (x .terms) s) (seenMessage a))
@@ -135,7 +148,7 @@ module _ (x : SolverSession) (s : Slot) (a : Message) (room : ℕ) where
         result = [];
       }) (kept-seen solver t s (p .sides) (p .inside) (p .room)))
 
-  pub solver-second-seen : within 1 5 (a .head .kind) ≡ true → solverSecond x s a room
+  pub solver-second-seen : kindKnown (a .head .kind) ≡ true → solverSecond x s a room
       ≡ onDone (entering 0 (behind solver (x .terms) s)) (solverSecond x (seen solver (x .terms) s) (seenMessage a) (least room mostReply))
   unfolding solverSecond
   solver-second-seen known =
@@ -143,37 +156,19 @@ module _ (x : SolverSession) (s : Slot) (a : Message) (room : ℕ) where
       (solverSecondTests x (seen solver (x .terms) s) (seenMessage a) (least room mostReply)) (solverSecondEffect x s a)
       (solverSecondEffect x (seen solver (x .terms) s) (seenMessage a)) (second-judged known) second-done
 
-  last-fits : sidesFit system (x .terms .m) (x .terms .k) (x .terms .p) ≡ true → isSlot s ≡ true
-      → solverLastTests x s a room ≡ solverLastTests x (seen solver (x .terms) s) a (least room mostReply)
-  unfolding solverLastTests solverTests roomTests
-  last-fits e f =
-      let t = x .terms in
-      rw (later-seen solver t s e f 4 (x .due), least-room (messageSize 5 t) mostReply room (few-reply t e .2)) refl
-
-  last-judged : within 1 5 (a .head .kind) ≡ true
-      → judged (solverLastTests x s a room) ≡ judged (solverLastTests x (seen solver (x .terms) s) (seenMessage a) (least room mostReply))
-  unfolding solverLastTests solverTests laterTests openTests messageTests termsTests shapeTests inputTests dueTests slotTests halfTests tapeTests bodyTests keptTests given roomTests clear both
-  last-judged known =
-      let t = x .terms in
-      let in-pool = seen-inside solver t s in
-      let ts = solverLastTests x s a room in
-      let none = messageWith (a .head) [] in
-      let us : Message → List Test = λ b. solverLastTests x (seen solver t s) b (least room mostReply) in
-      message-cases (λ b. judged ts ≡ judged (us b)) a known
-      (λ h. early-size ts (us none) refl refl refl (rw h (simp both-no)) (rw h (simp both-no)))
-      (λ h g. early-size ts (us none) refl refl refl (rw h (simp both-no)) (rw g (simp both-no)))
-      (session-cases solver (x .due) t s
-      (λ o. early-turn ts (us a) refl refl refl (rw (o, in-pool) refl) (rw o (simp both-no)) (rw o (simp both-no)))
-      (λ o h. early-size ts (us a) refl refl refl (rw (o, h) (simp both-no)) (rw (o, h) (simp both-no)))
-      (λ o h. early-size ts (us a) refl refl refl (rw (o, h) (simp both-no)) (rw (o, in-pool, h) (simp both-no)))
-      (λ e f. ap judged (last-fits e f)))
+  -- either last step
+  last-judged : (kind size : ℕ) → (sidesFit system (x .terms .m) (x .terms .k) (x .terms .p) ≡ true → size ≤ mostReply)
+      → kindKnown (a .head .kind) ≡ true
+      → judged (later 4 size s a room ++ lastTests kind (x .terms)) ≡ judged (lookedAt 4 size (seenMessage a) ++ lastTests kind (x .terms))
+  last-judged kind size few known =
+      both-alike (later 4 size s a room) (lookedAt 4 size (seenMessage a)) (lastTests kind (x .terms)) (later-judged 4 size few known)
 
   last-done : judged (solverLastTests x s a room) ≡ done tt
       → solverLastEffect x s a ≡ entering 0 (behind solver (x .terms) s) (solverLastEffect x (seen solver (x .terms) s) (seenMessage a))
   unfolding solverLast solverLastEffect jointSum
   last-done h =
       let t = x .terms in
-      let f = solver-last x s a room .means (accepted-by (solverLastTests x s a room) (solverLastEffect x s a) h) .0 in
+      let f = solver-last x s a room .means (accepted-by (solverLastTests x s a room) (solverLastEffect x s a) h) .0 .fits in
       let p = open-placed solver t s (f .later .session-open) in
       rw (
         read-none (regular (t .q) (t .m) (jointSum x (seen solver t s) (seenMessage a))),
@@ -182,10 +177,42 @@ module _ (x : SolverSession) (s : Slot) (a : Message) (room : ℕ) where
         matrices-seen solver t s (p .sides) (p .inside),
       ) refl
 
-  pub solver-last-seen : within 1 5 (a .head .kind) ≡ true → solverLast x s a room
+  solver-last-seen : kindKnown (a .head .kind) ≡ true → solverLast x s a room
       ≡ onDone (entering 0 (behind solver (x .terms) s)) (solverLast x (seen solver (x .terms) s) (seenMessage a) (least room mostReply))
-  unfolding solverLast
+  unfolding solverLast solverLastTests
   solver-last-seen known =
       alike (entering 0 (behind solver (x .terms) s)) (solverLastTests x s a room)
       (solverLastTests x (seen solver (x .terms) s) (seenMessage a) (least room mostReply)) (solverLastEffect x s a)
-      (solverLastEffect x (seen solver (x .terms) s) (seenMessage a)) (last-judged known) last-done
+      (solverLastEffect x (seen solver (x .terms) s) (seenMessage a)) (last-judged 5 (messageSize 5 (x .terms)) (λ e. few-reply (x .terms) e .2) known) last-done
+
+  determinant-done : judged (solverDeterminantTests x s a room) ≡ done tt
+      → solverDeterminantEffect x s a ≡ entering 0 (behind solver (x .terms) s) (solverDeterminantEffect x (seen solver (x .terms) s) (seenMessage a))
+  unfolding solverDeterminant solverDeterminantEffect jointSum
+  determinant-done h =
+      let t = x .terms in
+      let f = solver-determinant x s a room .means (accepted-by (solverDeterminantTests x s a room) (solverDeterminantEffect x s a) h) .0 .fits in
+      let p = open-placed solver t s (f .later .session-open) in
+      rw (
+        message-whole system 4 t a (p .sides) (f .message),
+        spent-seen solver t s (p .sides) (p .inside) (p .room),
+        matrices-seen solver t s (p .sides) (p .inside),
+      ) refl
+
+  solver-determinant-seen : kindKnown (a .head .kind) ≡ true → solverDeterminant x s a room
+      ≡ onDone (entering 0 (behind solver (x .terms) s)) (solverDeterminant x (seen solver (x .terms) s) (seenMessage a) (least room mostReply))
+  unfolding solverDeterminant solverDeterminantTests
+  solver-determinant-seen known =
+      alike (entering 0 (behind solver (x .terms) s)) (solverDeterminantTests x s a room)
+      (solverDeterminantTests x (seen solver (x .terms) s) (seenMessage a) (least room mostReply)) (solverDeterminantEffect x s a)
+      (solverDeterminantEffect x (seen solver (x .terms) s) (seenMessage a)) (last-judged 6 (messageSize 6 (x .terms)) (λ e. few-reply (x .terms) e .3) known)
+      determinant-done
+
+  pub solver-ending-seen : kindKnown (a .head .kind) ≡ true → solverEnding x s a room
+      ≡ onDone (entering 0 (behind solver (x .terms) s)) (solverEnding x (seen solver (x .terms) s) (seenMessage a) (least room mostReply))
+  unfolding solverEnding
+  solver-ending-seen known =
+      let c = seen solver (x .terms) s in
+      let b = seenMessage a in
+      let r = least room mostReply in
+      either-done (isDeterminant (x .terms)) (entering 0 (behind solver (x .terms) s)) (solverDeterminant x s a room) (solverLast x s a room)
+      (solverDeterminant x c b r) (solverLast x c b r) (solver-determinant-seen known) (solver-last-seen known)

@@ -13,18 +13,18 @@ use lib.Seq.{take-all, length-take-le}
 use borrow.Author.Tests.{eqb-true}
 use Rattle.protocol.specs.declared.Terms.{Terms}
 use Rattle.protocol.specs.Judge.{refused, done}
-use Rattle.protocol.specs.Bounds.{product, system, sidesFit, within}
+use Rattle.protocol.specs.Bounds.{product, system, sidesFit}
 use Rattle.protocol.specs.Tape.{Slot, Role, left, right, blinder, solver, sortOf}
 use Rattle.protocol.specs.Drawing.{wordsRead}
-use Rattle.protocol.specs.Message.{Message}
+use Rattle.protocol.specs.Message.{Message, kindKnown}
 use Rattle.protocol.specs.Step.{Outcome}
 use Rattle.protocol.specs.Product.{leftStep, rightFirst, rightLast}
-use Rattle.protocol.specs.System.{scratchSize, solverFirst, blinderFirst, solverSecond, blinderSecond, solverLast, blinderLast}
+use Rattle.protocol.specs.System.{scratchSize, solverFirst, blinderFirst, solverSecond, blinderSecond, solverEnding}
 use Rattle.protocol.specs.Drop.{dropRight, dropSolver, dropBlinder}
 use Rattle.drawing.specs.Sift.{keptWords}
 use Rattle.entry.specs.declared.Session.{Session}
 use Rattle.entry.specs.Record.{LEFT, RIGHT, BLINDER, SOLVER, rightOf, solverOf, blinderOf, ofLeft, ofRight, ofSolver, ofBlinder}
-use Rattle.entry.specs.Steps.{recorded, firstStep, nextStep, dropStep}
+use Rattle.entry.specs.Steps.{recorded, firstStep, blinderEnding, nextStep, dropStep}
 use Rattle.entry.specs.Entry.{takesMessage}
 use Rattle.local.specs.Seen.{least, seen, behind, seenWords, seenMessage, openingMessage, mostScratch, mostResult, mostReply}
 use Rattle.local.specs.Seen.{isSystem, lentRoom, shareRoom, endRole, sessionRole, sessionTerms, coinCount}
@@ -32,8 +32,8 @@ use Rattle.local.proofs.Outcomes.{onDone, entering}
 use Rattle.local.proofs.Slots.{least-left, least-right}
 use Rattle.local.proofs.Sifted.{Sifts}
 use Rattle.local.proofs.Product.{right-first-seen, left-seen, right-last-seen}
-use Rattle.local.proofs.Solver.{solver-first-seen, solver-second-seen, solver-last-seen}
-use Rattle.local.proofs.Blinder.{blinder-first-seen, blinder-second-seen, blinder-last-seen, drop-blinder-seen}
+use Rattle.local.proofs.Solver.{solver-first-seen, solver-second-seen, solver-ending-seen}
+use Rattle.local.proofs.Blinder.{blinder-first-seen, blinder-second-seen, blinder-ending-seen, drop-blinder-seen}
 use Rattle.local.proofs.Drops.{drop-right-seen, drop-solver-seen}
 
 pub recorded-entering : {S : Type 0} (f : S → Session) (n : ℕ) (rest : List ℕ) (o : Outcome S)
@@ -48,7 +48,7 @@ carried f n rest o p e = ap (recorded f) e ∙ recorded-entering f n rest p
 
 -- ---- the step that is due
 
-module _ (x : Session) (s : Slot) (scratch : List ℕ) (a : Message) (room share : ℕ) (known : within 1 5 (a .head .kind) ≡ true) where
+module _ (x : Session) (s : Slot) (scratch : List ℕ) (a : Message) (room share : ℕ) (known : kindKnown (a .head .kind) ≡ true) where
   abbrev slot : Role → Terms → Slot
   slot role t = seen role t s
 
@@ -76,16 +76,16 @@ module _ (x : Session) (s : Slot) (scratch : List ℕ) (a : Message) (room share
           (solver-second-seen y s a room known))
       go true c false e i j k l =
           let y = solverOf x in
-          rw (i, k) (carried ofSolver 0 (behind solver (x .terms) s) (solverLast y s a room) (solverLast y (slot solver (x .terms)) b₀ few)
-          (solver-last-seen y s a room known))
+          rw (i, k) (carried ofSolver 0 (behind solver (x .terms) s) (solverEnding y s a room) (solverEnding y (slot solver (x .terms)) b₀ few)
+          (solver-ending-seen y s a room known))
       go false true d true i j k l =
           let y = blinderOf x in
           rw (i, j, l) (carried ofBlinder 0 (behind blinder (x .terms) s) (blinderSecond y s scratch a room)
           (blinderSecond y (slot blinder (x .terms)) low b₀ few) (blinder-second-seen y s scratch a room known))
       go false true d false i j k l =
           let y = blinderOf x in
-          rw (i, j, l) (carried ofBlinder 0 (behind blinder (x .terms) s) (blinderLast y s scratch a share)
-          (blinderLast y (slot blinder (x .terms)) low b₀ (least share mostResult)) (blinder-last-seen y s scratch a share known))
+          rw (i, j, l) (carried ofBlinder 0 (behind blinder (x .terms) s) (blinderEnding y s scratch a share)
+          (blinderEnding y (slot blinder (x .terms)) low b₀ (least share mostResult)) (blinder-ending-seen y s scratch a share known))
       go false false d e i j k l =
           let y = rightOf x in
           rw (i, j) (carried ofRight 0 (behind right (y .terms) s) (rightLast y s a share)
@@ -147,7 +147,7 @@ module _ (t : Terms) (s : Slot) (scratch input raw : List ℕ) (a : Message) (ro
 
   abbrev Claim : (end : ℕ) → Type 0
   Claim end =
-      (takesMessage end ≡ true → within 1 5 (a .head .kind) ≡ true)
+      (takesMessage end ≡ true → kindKnown (a .head .kind) ≡ true)
       → firstStep end t s scratch input raw a room share ≡ onDone (entering (read end) (behind (endRole end) t s)) (seenFirst end)
 
   left-sifts : Sifts product (t .m * t .p) t raw (kept LEFT) (read LEFT)

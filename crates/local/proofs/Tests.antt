@@ -23,7 +23,7 @@ use Rattle.protocol.specs.declared.Refusal.the-variants.{Form, Modulus, Composi
 use Rattle.protocol.specs.Judge.{placeOf, placeIn, Test, needs, given, clear, Judged, refused, done, judge}
 use Rattle.protocol.specs.Bounds.{Sort, product, system, columns, within, fieldFits, sidesFit, shapeTests, termsTests, inputTests, roomTests, mostResidues}
 use Rattle.protocol.specs.Tape.{Slot, slotAt, isSlot, slotWords, Role, sortOf, tapeSize, slotTests, halfTests, tapeTests, bodyTests}
-use Rattle.protocol.specs.Message.{Message, messageWith, kindSort, messageLayout, messageSize, messageTests, dueTests}
+use Rattle.protocol.specs.Message.{Message, messageWith, kindKnown, kindSort, lastKind, lastFits, messageLayout, messageSize, messageTests, dueTests}
 use Rattle.protocol.specs.Line.{mostSent}
 use Rattle.protocol.specs.System.{sideSize}
 use Rattle.protocol.specs.Step.{firstTests, isOpen, openTests, laterTests}
@@ -31,7 +31,7 @@ use Rattle.algebra.proofs.Tests.{and-left, and-right}
 use Rattle.protocol.proofs.Judge.{earlier, clear-append}
 use Rattle.protocol.proofs.Tests.{product-sides, system-sides, MessageFits}
 use Rattle.tape.proofs.Sides.{Sides, sides-of}
-use Rattle.judging.proofs.KindLaws.{few-columns}
+use Rattle.judging.proofs.KindLaws.{few-columns, last-system}
 use Rattle.judging.specs.InOrder.{judged}
 use Rattle.local.proofs.Outcomes.{early}
 use Rattle.local.specs.Seen.{seenSize, seen, seenWords, seenMessage, mostReply}
@@ -88,45 +88,58 @@ early-turn ts us f m c z e g =
 mul-pos : {a b : ℕ} → 0 < a → 0 < b → 0 < a * b
 mul-pos {a} {b} h k = mul-le-mul {n₁ = 1} {m₁ = 1} {n₂ = a} {m₂ = b} h k
 
--- n by n, and n by one column
+-- n by n, and n by one column or none
 system-bounds : (t : Terms) → sidesFit system (t .m) (t .k) (t .p) ≡ true
-    → (0 < t .m * t .k) × (t .m * t .k ≤ 256) × (0 < t .m * (t .p - t .m)) × (t .m * (t .p - t .m) ≤ 16)
+    → (0 < t .m * t .k) × (t .m * t .k ≤ 256) × (t .m * (t .p - t .m) ≤ 16)
 system-bounds t f =
     let s = system-sides (t .m) (t .k) (t .p) .0 f in
-    let one : t .p - t .m ≡ 1 = omega (arith, s .p-is) in
+    let most : t .p - t .m ≤ 1 = omega (arith, s .high) in
     let mk : t .k ≡ t .m = s .k-is in (
       mul-pos (s .some) (omega (arith, s .some, mk)),
       mul-le-mul {n₁ = t .m} {m₁ = t .k} {n₂ = 16} {m₂ = 16} (s .few) (omega (arith, s .few, mk)),
-      mul-pos (s .some) (omega (arith, one)),
-      mul-le-mul {n₁ = t .m} {m₁ = t .p - t .m} {n₂ = 16} {m₂ = 1} (s .few) (omega (arith, one)),
+      mul-le-mul {n₁ = t .m} {m₁ = t .p - t .m} {n₂ = 16} {m₂ = 1} (s .few) most,
     )
 
+-- a message of kind 5 has the one column
+side-some : (t : Terms) → sidesFit system (t .m) (t .k) (t .p) ≡ true → eqb 5 (lastKind (t .m) (t .p)) ≡ true → 0 < t .m * (t .p - t .m)
+side-some t f l =
+    let s = system-sides (t .m) (t .k) (t .p) .0 f in
+    let other : t .p ≡ t .m → ⊥ = last-system (t .m) (t .p) (sym (eqb-true 5 (lastKind (t .m) (t .p)) l)) in
+    mul-pos (s .some) (omega (arith, s .low, other))
+
 -- the count of a message whose sides fit; only of kind 2 it may be more than mostResidues
-size-bounds : (kind : ℕ) (t : Terms) → within 1 5 kind ≡ true → sidesFit (kindSort kind) (t .m) (t .k) (t .p) ≡ true
+size-bounds : (kind : ℕ) (t : Terms) → kindKnown kind ≡ true → lastFits kind (t .m) (t .p) ≡ true → sidesFit (kindSort kind) (t .m) (t .k) (t .p) ≡ true
     → (0 < messageSize kind t) × (messageSize kind t ≤ mostSent) × (eqb kind 2 ≡ false → messageSize kind t ≤ mostResidues)
-unfolding within kindSort messageSize messageLayout columns
-size-bounds zero t k f = absurd (let l : 1 ≤ 0 = leb-true 1 0 (and-left _ _ k) in omega arith)
-size-bounds (suc zero) t k f =
+unfolding within kindSort lastFits messageSize messageLayout columns
+size-bounds zero t k o f = absurd (let l : 1 ≤ 0 = leb-true 1 0 (and-left _ _ k) in omega arith)
+size-bounds (suc zero) t k o f =
     let s = product-sides (t .m) (t .k) (t .p) .0 f in
     (mul-pos (s .some-k) (s .some-p), omega (arith, s .few-y), λ n. s .few-y)
-size-bounds (suc (suc zero)) t k f =
+size-bounds (suc (suc zero)) t k o f =
     let s = product-sides (t .m) (t .k) (t .p) .0 f in
     let mk : 0 < t .m * t .k = mul-pos (s .some-m) (s .some-k) in
     let mp : t .m * t .p ≤ 1024 = mul-le-mul {n₁ = t .m} {m₁ = t .p} {n₂ = 32} {m₂ = 32} (s .few-m) (s .few-p) in
     (omega (arith, mk), omega (arith, s .few-x, mp), λ n. absurd (false≢true (sym n)))
-size-bounds (suc (suc (suc zero))) t k f = let b = system-bounds t f in (b .0, omega (arith, b .1), λ n. omega (arith, b .1))
-size-bounds (suc (suc (suc (suc zero)))) t k f =
+size-bounds (suc (suc (suc zero))) t k o f = let b = system-bounds t f in (b .0, omega (arith, b .1), λ n. omega (arith, b .1))
+size-bounds (suc (suc (suc (suc zero)))) t k o f =
     let b = system-bounds t f in
-    (omega (arith, b .0), omega (arith, b .1, b .3), λ n. omega (arith, b .1, b .3))
-size-bounds (suc (suc (suc (suc (suc zero))))) t k f = let b = system-bounds t f in (b .2, omega (arith, b .3), λ n. omega (arith, b .3))
-size-bounds (suc (suc (suc (suc (suc (suc n)))))) t k f =
-    absurd (let l : suc (suc (suc (suc (suc (suc n))))) ≤ 5 = leb-true _ _ (and-right _ _ k) in omega arith)
+    (omega (arith, b .0), omega (arith, b .1, b .2), λ n. omega (arith, b .1, b .2))
+size-bounds (suc (suc (suc (suc (suc zero))))) t k o f =
+    let b = system-bounds t f in
+    (side-some t f o, omega (arith, b .2), λ n. omega (arith, b .2))
+size-bounds (suc (suc (suc (suc (suc (suc zero)))))) t k o f = (omega arith, omega arith, λ n. omega arith)
+size-bounds (suc (suc (suc (suc (suc (suc (suc n))))))) t k o f =
+    absurd (let l : suc (suc (suc (suc (suc (suc (suc n)))))) ≤ 6 = leb-true _ _ (and-right _ _ k) in omega arith)
 
 -- ---- what can be the case of a call that takes a message
 
 -- its head's sides fit
 abbrev pub headFits : Message → Bool
 headFits a = sidesFit (kindSort (a .head .kind)) (a .head .terms .m) (a .head .terms .k) (a .head .terms .p)
+
+-- and are those of its kind, where it is a last one
+abbrev pub headLast : Message → Bool
+headLast a = lastFits (a .head .kind) (a .head .terms .m) (a .head .terms .p)
 
 -- and its count of residues
 abbrev pub headSize : Message → ℕ
@@ -145,22 +158,24 @@ module _ (P : Message → Type 0) (a : Message) where
   empty-is e h = rw e h
 
   -- a message that is longer than any has wrong sides or a wrong count, and so has an empty one
-  pub message-cases : within 1 5 (a .head .kind) ≡ true
+  pub message-cases : kindKnown (a .head .kind) ≡ true
+      → (headLast a ≡ false → P (messageWith (a .head) []))
       → (headFits a ≡ false → P (messageWith (a .head) []))
       → (headCounts a ≡ false → eqb 0 (headSize a) ≡ false → P (messageWith (a .head) []))
       → P a
       → P (seenMessage a)
-  message-cases known wrong-sides wrong-count fits = go (leb (length (a .residues)) mostSent) refl
+  message-cases known wrong-last wrong-sides wrong-count fits = go (leb (length (a .residues)) mostSent) refl
     where
-      counts : (b : Bool) → headFits a ≡ b → mostSent < length (a .residues) → P (messageWith (a .head) [])
-      counts false e l = wrong-sides e
-      counts true e l =
-          let z = size-bounds (a .head .kind) (a .head .terms) known e in
+      counts : (b c : Bool) → headFits a ≡ b → headLast a ≡ c → mostSent < length (a .residues) → P (messageWith (a .head) [])
+      counts b false e o l = wrong-last o
+      counts false true e o l = wrong-sides e
+      counts true true e o l =
+          let z = size-bounds (a .head .kind) (a .head .terms) known o e in
           wrong-count (ne-eqb (length (a .residues)) (headSize a) (λ f. omega (arith, l, z .1, f))) (ne-eqb 0 (headSize a) (λ f. omega (arith, z .0, f)))
 
       go : (b : Bool) → leb (length (a .residues)) mostSent ≡ b → P (seenMessage a)
       go true e = kept-is e fits
-      go false e = empty-is e (counts (headFits a) refl (leb-false (length (a .residues)) mostSent e))
+      go false e = empty-is e (counts (headFits a) (headLast a) refl refl (leb-false (length (a .residues)) mostSent e))
 
 -- ---- the message of a first step
 
@@ -197,19 +212,23 @@ module _ (a : Message) where
   unfolding shrunk kindSort sidesFit within both
   short-fits k = rw k refl
 
+  short-last : a .head .kind ≡ 2 → headLast a ≡ headLast (short a)
+  unfolding shrunk lastFits
+  short-last k = rw k refl
+
   short-counts : a .head .kind ≡ 2 → 2 ≤ length (a .residues) → headCounts (short a) ≡ true
   unfolding shrunk messageSize messageLayout
   short-counts k l = rw (k, length-take-le 2 (a .residues) l) refl
 
   -- of the other kinds none with sides that fit is as long
-  long-counts : within 1 5 (a .head .kind) ≡ true → headFits a ≡ true → mostResidues < length (a .residues) → is-reply ≡ false
+  long-counts : kindKnown (a .head .kind) ≡ true → headLast a ≡ true → headFits a ≡ true → mostResidues < length (a .residues) → is-reply ≡ false
       → headCounts a ≡ false
-  long-counts known e l r = go (eqb (a .head .kind) 2) refl
+  long-counts known o e l r = go (eqb (a .head .kind) 2) refl
     where
       go : (b : Bool) → eqb (a .head .kind) 2 ≡ b → headCounts a ≡ false
       go true k = sym (reply-counts (eqb-true (a .head .kind) 2 k) e) ∙ r
       go false k =
-          let z = size-bounds (a .head .kind) (a .head .terms) known e .2 k in
+          let z = size-bounds (a .head .kind) (a .head .terms) known o e .2 k in
           ne-eqb (length (a .residues)) (headSize a) (λ f. omega (arith, l, z, f))
 
 module _ (P : Message → Type 0) (a : Message) where
@@ -226,27 +245,29 @@ module _ (P : Message → Type 0) (a : Message) where
   other-is e r h = rw (e, r) h
 
   -- a message that is longer than any of kind 1 has wrong sides or a wrong count, and so has an empty one; or it is of kind 2, and its short one fits as well
-  pub opening-cases : within 1 5 (a .head .kind) ≡ true
+  pub opening-cases : kindKnown (a .head .kind) ≡ true
+      → (headLast a ≡ false → P (messageWith (a .head) []))
       → (headFits a ≡ false → P (messageWith (a .head) []))
       → (headCounts a ≡ false → eqb 0 (headSize a) ≡ false → P (messageWith (a .head) []))
-      → (a .head .kind ≡ 2 → headFits a ≡ headFits (short a) → headCounts a ≡ headCounts (short a) → P (short a))
+      → (a .head .kind ≡ 2 → headLast a ≡ headLast (short a) → headFits a ≡ headFits (short a) → headCounts a ≡ headCounts (short a) → P (short a))
       → P a
       → P (openingMessage a)
-  opening-cases known wrong-sides wrong-count reply fits = go (leb (length (a .residues)) mostResidues) (is-reply a) refl refl
+  opening-cases known wrong-last wrong-sides wrong-count reply fits = go (leb (length (a .residues)) mostResidues) (is-reply a) refl refl
     where
-      counts : (b : Bool) → headFits a ≡ b → mostResidues < length (a .residues) → is-reply a ≡ false → P (messageWith (a .head) [])
-      counts false e l r = wrong-sides e
-      counts true e l r =
-          let z = size-bounds (a .head .kind) (a .head .terms) known e .0 in
-          wrong-count (long-counts a known e l r) (ne-eqb 0 (headSize a) (λ f. omega (arith, z, f)))
+      counts : (b c : Bool) → headFits a ≡ b → headLast a ≡ c → mostResidues < length (a .residues) → is-reply a ≡ false → P (messageWith (a .head) [])
+      counts b false e o l r = wrong-last o
+      counts false true e o l r = wrong-sides e
+      counts true true e o l r =
+          let z = size-bounds (a .head .kind) (a .head .terms) known o e .0 in
+          wrong-count (long-counts a known o e l r) (ne-eqb 0 (headSize a) (λ f. omega (arith, z, f)))
 
       go : (b c : Bool) → leb (length (a .residues)) mostResidues ≡ b → is-reply a ≡ c → P (openingMessage a)
       go true c e r = opened-is e fits
       go false true e r =
           let l = leb-false (length (a .residues)) mostResidues e in
           let f = reply-fits a (omega (arith, l)) r in
-          reply-is e r (reply (f .0) (f .1 ∙ sym (short-fits a (f .0))) (f .2 ∙ sym (short-counts a (f .0) (omega (arith, l)))))
-      go false false e r = other-is e r (counts (headFits a) refl (leb-false (length (a .residues)) mostResidues e) r)
+          reply-is e r (reply (f .0) (short-last a (f .0)) (f .1 ∙ sym (short-fits a (f .0))) (f .2 ∙ sym (short-counts a (f .0) (omega (arith, l)))))
+      go false false e r = other-is e r (counts (headFits a) (headLast a) refl refl (leb-false (length (a .residues)) mostResidues e) r)
 
 -- the tests of a first step: `us` stand between those of its message, and `vs` after them
 abbrev pub opening : Terms → (us vs : List Test) → Message → List Test
@@ -257,7 +278,7 @@ due-cut : (t : Terms) (us vs : List Test) (r : Refusal) (a : Message)
 due-cut t us vs r a = clear-append r us (dueTests 1 t a ++ vs)
 
 -- where the messages differ, both are refused alike, by 4 or 5 at the latest
-pub opening-judged : (t : Terms) (us vs : List Test) (a : Message) → within 1 5 (a .head .kind) ≡ true
+pub opening-judged : (t : Terms) (us vs : List Test) (a : Message) → kindKnown (a .head .kind) ≡ true
     → judged (opening t us vs a) ≡ judged (opening t us vs (openingMessage a))
 unfolding messageTests termsTests shapeTests inputTests dueTests shrunk clear both
 opening-judged t us vs a known =
@@ -266,12 +287,13 @@ opening-judged t us vs a known =
     let b = short a in
     let cut = due-cut t us vs in
     opening-cases (λ c. judged (ts a) ≡ judged (ts c)) a known
+    (λ h. early-size (ts a) (ts none) refl refl refl (rw h) (rw h))
     (λ h. early-size (ts a) (ts none) refl refl refl (rw h (simp both-no)) (rw h (simp both-no)))
     (λ h g. early-size (ts a) (ts none) refl refl refl (rw h (simp both-no)) (rw g (simp both-no)))
-    (λ k e f.
+    (λ k o e f.
     let other : eqb (a .head .kind) 1 ≡ false = rw k refl in
     early-turn (ts a) (ts b) (rw (cut Form a, cut Form b) refl) (rw (cut Modulus a, cut Modulus b) refl) (rw (cut Composite a, cut Composite b) refl)
-    (rw (e, f, cut Size a, cut Size b) refl) (rw (cut Turn a, other) (both-no (clear Turn us))) (rw (cut Turn b, other) (both-no (clear Turn us))))
+    (rw (o, e, f, cut Size a, cut Size b) refl) (rw (cut Turn a, other) (both-no (clear Turn us))) (rw (cut Turn b, other) (both-no (clear Turn us))))
     refl
 
 -- the session of a later step or a drop: closed, its sides don't fit, its slot isn't in the pool, or none of these
@@ -315,7 +337,7 @@ first-cases P role t s input wrong-sides outside long fits = go (sidesFit (sortO
 -- a message that fits is looked at whole
 pub few-sent : (sort : Sort) (kind : ℕ) (t : Terms) → sidesFit sort (t .m) (t .k) (t .p) ≡ true → messageSize kind t ≤ mostSent
 unfolding messageSize messageLayout
-few-sent sort kind t e = go (eqb kind 1) (eqb kind 2) (eqb kind 3) (eqb kind 4)
+few-sent sort kind t e = go (eqb kind 1) (eqb kind 2) (eqb kind 3) (eqb kind 4) (eqb kind 5)
   where
     z : Sides (t .m) (t .k) (t .p)
     z = sides-of sort (t .m) (t .k) (t .p) e
@@ -323,13 +345,14 @@ few-sent sort kind t e = go (eqb kind 1) (eqb kind 2) (eqb kind 3) (eqb kind 4)
     c : t .m * columns (t .m) (t .p) ≤ t .m * t .p
     c = few-columns (t .m) (t .p)
 
-    go : (a b c d : Bool) → total (cond a (t .k * t .p ∷ []) (cond b (t .m * t .k ∷ t .m * t .p ∷ []) (cond c (t .m * t .k ∷ [])
-        (cond d (t .m * t .k ∷ t .m * columns (t .m) (t .p) ∷ []) (t .m * columns (t .m) (t .p) ∷ []))))) ≤ mostSent
-    go true b c′ d = omega (arith, z .few-kp)
-    go false true c′ d = omega (arith, z .few-mk, z .few-mp)
-    go false false true d = omega (arith, z .few-mk)
-    go false false false true = omega (arith, z .few-mk, z .few-mp, c)
-    go false false false false = omega (arith, z .few-mp, c)
+    go : (a b c d f : Bool) → total (cond a (t .k * t .p ∷ []) (cond b (t .m * t .k ∷ t .m * t .p ∷ []) (cond c (t .m * t .k ∷ [])
+        (cond d (t .m * t .k ∷ t .m * columns (t .m) (t .p) ∷ []) (cond f (t .m * columns (t .m) (t .p) ∷ []) (1 ∷ [])))))) ≤ mostSent
+    go true b c′ d f = omega (arith, z .few-kp)
+    go false true c′ d f = omega (arith, z .few-mk, z .few-mp)
+    go false false true d f = omega (arith, z .few-mk)
+    go false false false true f = omega (arith, z .few-mk, z .few-mp, c)
+    go false false false false true = omega (arith, z .few-mp, c)
+    go false false false false false = omega arith
 
 pub message-whole : (sort : Sort) (kind : ℕ) (t : Terms) (a : Message) → sidesFit sort (t .m) (t .k) (t .p) ≡ true → MessageFits kind t a → seenMessage a ≡ a
 unfolding seenMessage
@@ -356,7 +379,7 @@ pub some-kp : (sort : Sort) (t : Terms) → sidesFit sort (t .m) (t .k) (t .p) �
 some-kp product t e = let s = product-sides (t .m) (t .k) (t .p) .0 e in mul-pos (s .some-k) (s .some-p)
 some-kp system t e =
     let s = system-sides (t .m) (t .k) (t .p) .0 e in
-    mul-pos (omega (arith, s .some, s .k-is)) (omega (arith, s .p-is))
+    mul-pos (omega (arith, s .some, s .k-is)) (omega (arith, s .some, s .low))
 
 -- a system's matrix, and the vector behind it
 pub cut-length : (n : ℕ) (l : List ℕ) → length l ≤ n + length (drop n l)
@@ -369,13 +392,13 @@ few-square t e =
     let s = system-sides (t .m) (t .k) (t .p) .0 e in
     let b = system-bounds t e in (
       mul-pos (s .some) (s .some),
-      mul-le-mul {n₁ = t .m} {m₁ = t .p} {n₂ = 16} {m₂ = 17} (s .few) (omega (arith, s .few, s .p-is)),
+      mul-le-mul {n₁ = t .m} {m₁ = t .p} {n₂ = 16} {m₂ = 17} (s .few) (omega (arith, s .few, s .high)),
       mul-le-mul {n₁ = t .m} {m₁ = t .m} {n₂ = 16} {m₂ = 16} (s .few) (s .few),
-      b .3,
+      b .2,
     )
 
--- kinds 3, 4 and 5
+-- kinds 3 to 6
 pub few-reply : (t : Terms) → sidesFit system (t .m) (t .k) (t .p) ≡ true
-    → (messageSize 3 t ≤ mostReply) × (messageSize 4 t ≤ mostReply) × (messageSize 5 t ≤ mostReply)
+    → (messageSize 3 t ≤ mostReply) × (messageSize 4 t ≤ mostReply) × (messageSize 5 t ≤ mostReply) × (messageSize 6 t ≤ mostReply)
 unfolding messageSize messageLayout columns
-few-reply t e = let b = system-bounds t e in (omega (arith, b .1), omega (arith, b .1, b .3), omega (arith, b .3))
+few-reply t e = let b = system-bounds t e in (omega (arith, b .1), omega (arith, b .1, b .2), omega (arith, b .2), omega arith)

@@ -18,14 +18,14 @@ use Rattle.protocol.specs.Tape.{Slot}
 use Rattle.protocol.specs.Message.{Message}
 use Rattle.protocol.specs.Step.{Effect, Outcome, answerAfter}
 use Rattle.protocol.specs.Product.{rightFirst, leftStep, rightLast}
-use Rattle.protocol.specs.System.{solverFirst, blinderFirst, solverSecond, blinderSecond, solverLast, blinderLast}
+use Rattle.protocol.specs.System.{solverFirst, blinderFirst, solverSecond, blinderSecond, solverEnding}
 use Rattle.protocol.specs.Drop.{dropRight, dropSolver, dropBlinder}
-use Rattle.local.specs.Settled.{isAccepted, isSingular, isSettled}
+use Rattle.local.specs.Settled.{isAccepted, isSettled, isDoneBy}
 use Rattle.local.proofs.Recorded.{wasDone, Told}
-use Rattle.local.proofs.Ends.{left-told, right-first-told, blinder-first-told, solver-first-told, right-last-told, solver-second-told, solver-last-told, blinder-second-told, blinder-last-told, drop-right-told, drop-solver-told, drop-blinder-told}
+use Rattle.local.proofs.Ends.{left-told, right-first-told, blinder-first-told, solver-first-told, right-last-told, solver-second-told, solver-ending-told, blinder-second-told, blinder-ending-told, drop-right-told, drop-solver-told, drop-blinder-told}
 use Rattle.entry.specs.declared.Session.{Session}
 use Rattle.entry.specs.Record.{LEFT, RIGHT, BLINDER, SOLVER, rightOf, solverOf, blinderOf, ofLeft, ofRight, ofSolver, ofBlinder}
-use Rattle.entry.specs.Steps.{recorded, firstStep, nextStep, dropStep}
+use Rattle.entry.specs.Steps.{recorded, firstStep, blinderEnding, nextStep, dropStep}
 use Rattle.local.proofs.Proper.{Proper, first-proper, next-proper, drop-proper}
 use Rattle.local.specs.Entered.{laterStep}
 use Rattle.local.proofs.Finish.{Behaves}
@@ -59,35 +59,39 @@ module _ (end : ℕ) (t : Terms) (s : Slot) (scratch input words : List ℕ) (a 
           rw (i, j, k, l) (told-recorded ofSolver (solverFirst t s matrix vector room) (solver-first-told t s matrix vector room))
       go false false false false i j k l = rw (i, j, k, l) (record { tells = refl })
 
+-- whether the record is the solver's
+abbrev pub solves : Session → Bool
+solves x = eqb (x .end) SOLVER
+
 module _ (x : Session) (s : Slot) (scratch : List ℕ) (a : Message) (room share : ℕ) where
-  pub next-told : Told isSettled (nextStep x s scratch a room share)
+  pub next-told : Told (isDoneBy (solves x)) (nextStep x s scratch a room share)
   unfolding nextStep
   next-told = go (eqb (x .end) SOLVER) (eqb (x .end) BLINDER) (eqb (x .due) 2) (eqb (x .due) 3) refl refl refl refl
     where
       go : (b c d e : Bool) → eqb (x .end) SOLVER ≡ b → eqb (x .end) BLINDER ≡ c → eqb (x .due) 2 ≡ d → eqb (x .due) 3 ≡ e
-          → Told isSettled (nextStep x s scratch a room share)
+          → Told (isDoneBy (solves x)) (nextStep x s scratch a room share)
       go true c true e i j k l =
           rw (i, k) (told-recorded ofSolver (solverSecond (solverOf x) s a room) (solver-second-told (solverOf x) s a room))
-      go true c false e i j k l = rw (i, k) (told-recorded ofSolver (solverLast (solverOf x) s a room) (solver-last-told (solverOf x) s a room))
+      go true c false e i j k l = rw (i, k) (told-recorded ofSolver (solverEnding (solverOf x) s a room) (solver-ending-told (solverOf x) s a room))
       go false true d true i j k l =
           rw (i, j, l) (told-recorded ofBlinder (blinderSecond (blinderOf x) s scratch a room) (blinder-second-told (blinderOf x) s scratch a room))
       go false true d false i j k l =
-          rw (i, j, l) (told-recorded ofBlinder (blinderLast (blinderOf x) s scratch a share) (blinder-last-told (blinderOf x) s scratch a share))
+          rw (i, j, l) (told-recorded ofBlinder (blinderEnding (blinderOf x) s scratch a share) (blinder-ending-told (blinderOf x) s scratch a share))
       go false false d e i j k l = rw (i, j) (told-recorded ofRight (rightLast (rightOf x) s a share) (right-last-told (rightOf x) s a share))
 
 module _ (x : Session) (s : Slot) (scratch : List ℕ) where
-  pub drop-told : Told isSettled (dropStep x s scratch)
+  pub drop-told : Told (isDoneBy (solves x)) (dropStep x s scratch)
   unfolding dropStep
   drop-told = go (eqb (x .end) SOLVER) (eqb (x .end) BLINDER) refl refl
     where
-      go : (b c : Bool) → eqb (x .end) SOLVER ≡ b → eqb (x .end) BLINDER ≡ c → Told isSettled (dropStep x s scratch)
+      go : (b c : Bool) → eqb (x .end) SOLVER ≡ b → eqb (x .end) BLINDER ≡ c → Told (isDoneBy (solves x)) (dropStep x s scratch)
       go true c i j = rw i (told-recorded ofSolver (dropSolver (solverOf x) s) (drop-solver-told (solverOf x) s))
       go false true i j = rw (i, j) (told-recorded ofBlinder (dropBlinder (blinderOf x) s scratch) (drop-blinder-told (blinderOf x) s scratch))
       go false false i j = rw (i, j) (told-recorded ofRight (dropRight (rightOf x) s) (drop-right-told (rightOf x) s))
 
 -- ---- how a call behaves
 
--- of a first step no refusal is done
+-- where no refusal is done
 accepted-behaves : (s : Slot) (o : Outcome Session) → Told isAccepted o → ((e : Effect Session) → o ≡ done e → Proper s e) → Behaves false s o
 unfolding both
 accepted-behaves s o h p = record {
@@ -109,9 +113,13 @@ pub first-behaves : (end : ℕ) (t : Terms) (s : Slot) (scratch input words : Li
 first-behaves end t s scratch input words a room share =
     accepted-behaves s _ (first-told end t s scratch input words a room share) (first-proper end t s scratch input words a room share)
 
+told-behaves : (sums : Bool) (s : Slot) (o : Outcome Session) → Told (isDoneBy sums) o → ((e : Effect Session) → o ≡ done e → Proper s e) → Behaves sums s o
+told-behaves true = settled-behaves
+told-behaves false = accepted-behaves
+
 pub later-behaves : (drops : Bool) (x : Session) (s : Slot) (scratch : List ℕ) (a : Message) (room share : ℕ)
-    → Behaves true s (laterStep drops x s scratch a room share)
+    → Behaves (solves x) s (laterStep drops x s scratch a room share)
 unfolding laterStep
-later-behaves true x s scratch a room share = settled-behaves s (dropStep x s scratch) (drop-told x s scratch) (drop-proper x s scratch)
+later-behaves true x s scratch a room share = told-behaves (solves x) s (dropStep x s scratch) (drop-told x s scratch) (drop-proper x s scratch)
 later-behaves false x s scratch a room share =
-    settled-behaves s (nextStep x s scratch a room share) (next-told x s scratch a room share) (next-proper x s scratch a room share)
+    told-behaves (solves x) s (nextStep x s scratch a room share) (next-told x s scratch a room share) (next-proper x s scratch a room share)

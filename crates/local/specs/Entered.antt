@@ -43,6 +43,6 @@ seenLater drops x sent s scratch a result =
 abbrev pub Below : ℕ → List ℕ → Type 0
 Below b l = (i : ℕ) → getD l i 0 < b
 
-abbrev pub settled : Check → (later : Bool) (read : ℕ) → Answer → Session → Head → (words scratch sent result : List ℕ) → Lent → Left
-settled Passed later read a x h ws ls rs us l = stored later read a x h ws ls rs us l
-settled (Refused r) later read a x h ws ls rs us l = record { report = refusalReport (lowerOf (Refused r) a); lent = l }
+abbrev pub settled : Check → (sums : Bool) (read : ℕ) → Answer → Session → Head → (words scratch sent result : List ℕ) → Lent → Left
+settled Passed sums read a x h ws ls rs us l = stored sums read a x h ws ls rs us l
+settled (Refused r) sums read a x h ws ls rs us l = record { report = refusalReport (lowerOf (Refused r) a); lent = l }

@@ -13,7 +13,7 @@ use Rattle.entry.specs.declared.Session.{Session}
 use Rattle.entry.specs.Record.{RIGHT, BLINDER, SOLVER, ofLeft, ofRight, ofSolver, ofBlinder}
 use Rattle.protocol.specs.declared.Refusal.the-variants.{Form, Modulus, Composite, Size, Turn, Mark, Stranger, Residue, Dry, Singular}
 
--- a first step
+-- a call that is done is accepted
 abbrev pub isAccepted : Answer → Bool
 isAccepted (Accepted n) = true
 isAccepted (Refused r) = false
@@ -30,10 +30,14 @@ isSingular Residue = false
 isSingular Dry = false
 isSingular Singular = true
 
--- a later step or a drop: a singular sum is done, too
+-- a later step or a drop of the solver: one that answers a singular sum is done, too. At any other end, that is a refusal
 abbrev pub isSettled : Answer → Bool
 isSettled (Accepted n) = true
 isSettled (Refused r) = isSingular r
+
+-- `sums`: it is the solver's
+abbrev pub isDoneBy : (sums : Bool) → Answer → Bool
+isDoneBy sums a = cond sums (isSettled a) (isAccepted a)
 
 -- whether a call is done, and the refusal if not: what its tests alone tell
 abbrev pub judgement : {A : Type 0} → Judged A → Judged Unit

@@ -53,11 +53,11 @@ storedSent read x h ws ls rs us l =
     })
     (record { report = refusalReport Size; lent = l })
 
--- `later`: a singular sum is no refusal that changes nothing
-abbrev pub stored : (later : Bool) (read : ℕ) → Answer → Session → Head → (words scratch sent result : List ℕ) → Lent → Left
-stored later read (Accepted n) x h ws ls rs us l = storedSent read x h ws ls rs us l
-stored later read (Refused r) x h ws ls rs us l =
-    record { report = refusalReport r; lent = cond (both later (isSingular r)) (putAll x ws ls [] us l) l }
+-- `sums`: a singular sum is no refusal that changes nothing
+abbrev pub stored : (sums : Bool) (read : ℕ) → Answer → Session → Head → (words scratch sent result : List ℕ) → Lent → Left
+stored sums read (Accepted n) x h ws ls rs us l = storedSent read x h ws ls rs us l
+stored sums read (Refused r) x h ws ls rs us l =
+    record { report = refusalReport r; lent = cond (both sums (isSingular r)) (putAll x ws ls [] us l) l }
 
 -- a record's words before what is kept
 unfoldable pub startWords : Session → List ℕ

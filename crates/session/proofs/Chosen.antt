@@ -16,11 +16,11 @@ use Rattle.protocol.specs.Judge.{refused}
 use Rattle.protocol.specs.Tape.{Slot}
 use Rattle.protocol.specs.Message.{Message}
 use Rattle.protocol.specs.Product.{noRight, rightFirst, leftStep, rightLast}
-use Rattle.protocol.specs.System.{noSolver, noBlinder, solverFirst, blinderFirst, solverSecond, blinderSecond, solverLast, blinderLast}
+use Rattle.protocol.specs.System.{noSolver, noBlinder, solverFirst, blinderFirst, solverSecond, blinderSecond, solverEnding}
 use Rattle.protocol.specs.Drop.{dropRight, dropSolver, dropBlinder}
 use Rattle.entry.specs.declared.Session.{Session}
 use Rattle.entry.specs.Record.{LEFT, RIGHT, BLINDER, SOLVER, rightOf, solverOf, blinderOf, ofLeft, ofRight, ofSolver, ofBlinder}
-use Rattle.entry.specs.Steps.{recorded, firstStep, nextStep, dropStep}
+use Rattle.entry.specs.Steps.{recorded, firstStep, blinderEnding, nextStep, dropStep}
 use Rattle.local.specs.Settled.{unopened}
 
 module _ {end : ℕ} (t : Terms) (s : Slot) (scratch input words : List ℕ) (a : Message) (room share : ℕ) where
@@ -79,12 +79,12 @@ module _ {end : ℕ} (t : Terms) where
 module _ (x : Session) (s : Slot) (scratch : List ℕ) where
   module _ (a : Message) (room share : ℕ) where
     pub next-solver : x .end ≡ SOLVER → nextStep x s scratch a room share
-        ≡ recorded ofSolver (cond (eqb (x .due) 2) (solverSecond (solverOf x) s a room) (solverLast (solverOf x) s a room))
+        ≡ recorded ofSolver (cond (eqb (x .due) 2) (solverSecond (solverOf x) s a room) (solverEnding (solverOf x) s a room))
     unfolding nextStep
     next-solver e = rw (eq-eqb (x .end) SOLVER e)
 
     pub next-blinder : (x .end ≡ SOLVER → ⊥) → x .end ≡ BLINDER → nextStep x s scratch a room share
-        ≡ recorded ofBlinder (cond (eqb (x .due) 3) (blinderSecond (blinderOf x) s scratch a room) (blinderLast (blinderOf x) s scratch a share))
+        ≡ recorded ofBlinder (cond (eqb (x .due) 3) (blinderSecond (blinderOf x) s scratch a room) (blinderEnding (blinderOf x) s scratch a share))
     unfolding nextStep
     next-blinder h e = rw (ne-eqb (x .end) SOLVER h, eq-eqb (x .end) BLINDER e)
 

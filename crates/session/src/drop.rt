@@ -1,5 +1,6 @@
 // The drop of a session, by the record's end.
 use crate::Done;
+use crate::is_accepted;
 use crate::is_settled;
 use crate::record::blinder_of;
 use crate::record::of_blinder;
@@ -36,7 +37,7 @@ fn right(pool: &mut [u32], at: Place, x: Session) -> Done
     let dropped = right_drop(pool, at, right_of(x));
     let answer = dropped.answer;
     let session = dropped.session;
-    with_record(is_settled(answer), answer, of_right(session), x, no_head())
+    with_record(is_accepted(answer), answer, of_right(session), x, no_head())
 }
 
 fn solver(pool: &mut [u32], at: Place, x: Session) -> Done
@@ -58,7 +59,7 @@ fn blinder(pool: &mut [u32], at: Place, scratch: &mut [u32], x: Session) -> Done
     let answer = dropped.answer;
     let session = dropped.session;
     with_record(
-        is_settled(answer),
+        is_accepted(answer),
         answer,
         of_blinder(session),
         x,

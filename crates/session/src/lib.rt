@@ -33,7 +33,7 @@ pub struct Done {
     pub head: Head,
 }
 
-// A first step is done where it is accepted.
+// A call is done where it is accepted.
 fn is_accepted(a: Answer) -> bool
     ensures { λ r. ⌜ r ≡ isAccepted a ⌝ }
 {
@@ -43,7 +43,7 @@ fn is_accepted(a: Answer) -> bool
     }
 }
 
-// A later step is done, too, where it answers that the sum is singular.
+// A later one of the solver is done, too, where it answers that the sum is singular.
 fn is_settled(a: Answer) -> bool
     ensures { λ r. ⌜ r ≡ isSettled a ⌝ }
 {

@@ -1,5 +1,5 @@
 // The bounds on the sides, residues and unknowns of matrices.
-//   Matrix   the bounds; sides_fit, system_sides_fit: of a product and of a system; unknowns_fit
+//   Matrix   the bounds; sides_fit, system_sides_fit: of a product, and of a system or its determinant; unknowns_fit
 // No function here is for hosts.
 ghost use mathlib.Core.Path.{_≡_};
 ghost use Rattle.protocol.specs.Bounds.{within, mostUnknowns, sidesFit, product, system};
@@ -64,7 +64,7 @@ impl Matrix {
         true
     }
 
-    // Whether these are the sides of a system: n, n and n + 1.
+    // Whether these are the sides of a system: n, n and n + 1, or n where its determinant is asked for.
     pub fn system_sides_fit(m: u32, k: u32, p: u32) -> bool
         ensures { λ r. ⌜ r ≡ sidesFit system m k p ⌝ }
     {
@@ -74,6 +74,9 @@ impl Matrix {
         if k != m {
             return false;
         }
-        p == m + 1
+        if p < m {
+            return false;
+        }
+        p <= m + 1
     }
 }

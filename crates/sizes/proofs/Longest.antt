@@ -17,7 +17,7 @@ use Rattle.algebra.specs.Matrix.{tabulate, Residues}
 use Rattle.algebra.proofs.Tests.{and-left, and-right, and-both}
 use Rattle.protocol.specs.declared.Head.{Head}
 use Rattle.protocol.specs.Bounds.{within, allBelow, termsTests, largestModulus, fieldFits, sidesFit}
-use Rattle.protocol.specs.Message.{Message, messageWith, kindSort, messageSize, messageTests}
+use Rattle.protocol.specs.Message.{Message, messageWith, kindKnown, kindSort, lastFits, messageSize, messageTests}
 use Rattle.protocol.specs.Line.{decimal, endByte, line, messageLine}
 use Rattle.protocol.proofs.Tests.{TermsFit, terms-tests, input-tests}
 use Rattle.protocol.proofs.Judge.{Pass, split, here, rest}
@@ -52,6 +52,12 @@ line-most q (x ∷ xs) b =
 pub message-length : (h : Head) (rs : List ℕ) → length (messageLine (messageWith h rs)) ≡ length (line (headNumbers h)) + length (line rs)
 message-length h rs = message-bytes h rs ∙ ap₂ (λ (a b : ℕ). a + b) (before-length (length rs) (headNumbers h)) (before-length 0 rs)
 
+-- what is joined to a failing test fails
+and-false : (a : Bool) (b : Bool) → false ≡ b → false ≡ both a b
+unfolding both
+and-false true b e = e
+and-false false b e = refl
+
 module _ (kind q m k p : ℕ) where
   pub longest-length : length (messageLine (longestMessage kind q m k p))
       ≡ length (line (kind ∷ largestId ∷ largestId ∷ q ∷ m ∷ k ∷ p ∷ [])) + messageSize kind (longestTerms q m k p) * (length (decimal (q - 1)) + 1)
@@ -62,7 +68,7 @@ module _ (kind q m k p : ℕ) where
       ∙ ap (λ (n : ℕ). length (line (kind ∷ largestId ∷ largestId ∷ q ∷ m ∷ k ∷ p ∷ [])) + n) (line-same (messageSize kind t) (q - 1))
 
   -- what fits, one by one
-  pub fit-kind : kindFits kind q m k p ≡ true → within 1 5 kind ≡ true
+  pub fit-kind : kindFits kind q m k p ≡ true → kindKnown kind ≡ true
   unfolding kindFits
   fit-kind e = and-left _ _ e
 
@@ -76,28 +82,33 @@ module _ (kind q m k p : ℕ) where
         big = leb-true 2 q (and-left _ _ (and-left _ _ e1));
         small = leb-true q 2147483647 (and-right _ _ (and-left _ _ e1));
         field = and-left _ _ e2;
-        sides = and-right _ _ e2;
+        sides = and-left _ _ (and-right _ _ e2);
         tape = omega arith;
       }
 
   -- each test by itself
-  pub fits-not-kind : within 1 5 kind ≡ false → false ≡ kindFits kind q m k p
+  pub fits-not-kind : kindKnown kind ≡ false → false ≡ kindFits kind q m k p
   unfolding kindFits both
   fits-not-kind e = rw e
 
-  pub fits-not-sides : within 1 5 kind ≡ true → sidesFit (kindSort kind) m k p ≡ false → false ≡ kindFits kind q m k p
-  unfolding kindFits both
-  fits-not-sides e f = rw (e, f) (go (within 2 largestModulus q) (fieldFits (kindSort kind) q))
+  pub fits-not-sides : sidesFit (kindSort kind) m k p ≡ false → false ≡ kindFits kind q m k p
+  unfolding kindFits
+  fits-not-sides e = rw e (go (kindKnown kind) (within 2 largestModulus q) (fieldFits (kindSort kind) q))
     where
-      go : (a b : Bool) → false ≡ both true (both a (both b false))
-      go true true = refl
-      go true false = refl
-      go false b = refl
+      go : (z a b : Bool) → false ≡ both z (both a (both b (both false (lastFits kind m p))))
+      go z a b = unfold both in and-false z _ (and-false a _ (and-false b _ refl))
 
-  pub fits-modulus : within 1 5 kind ≡ true → sidesFit (kindSort kind) m k p ≡ true
+  pub fits-not-last : lastFits kind m p ≡ false → false ≡ kindFits kind q m k p
+  unfolding kindFits
+  fits-not-last e = rw e (go (kindKnown kind) (within 2 largestModulus q) (fieldFits (kindSort kind) q) (sidesFit (kindSort kind) m k p))
+    where
+      go : (z a b c : Bool) → false ≡ both z (both a (both b (both c false)))
+      go z a b c = and-false z _ (and-false a _ (and-false b _ (and-false c _ refl)))
+
+  pub fits-modulus : kindKnown kind ≡ true → sidesFit (kindSort kind) m k p ≡ true → lastFits kind m p ≡ true
       → both (within 2 largestModulus q) (fieldFits (kindSort kind) q) ≡ kindFits kind q m k p
   unfolding kindFits both
-  fits-modulus e f = rw (e, f) (go (within 2 largestModulus q) (fieldFits (kindSort kind) q))
+  fits-modulus e f l = rw (e, f, l) (go (within 2 largestModulus q) (fieldFits (kindSort kind) q))
     where
       go : (a b : Bool) → both a b ≡ both true (both a (both b true))
       go true true = refl
@@ -149,7 +160,7 @@ module _ (a : Message) (session : a .head .terms .session .0 < 2 ^ 32) (tape : a
   unfolding messageTests kindFits within
   none-written-longer p =
       let h = a .head in
-      let s = split {ts = termsTests (kindSort (h .kind)) (h .terms)} (rest p) in
+      let s = split {ts = termsTests (kindSort (h .kind)) (h .terms)} (rest (rest p)) in
       let t = terms-tests _ _ .0 (s .0) in
       let modulus = and-both (le-leb 2 (h .terms .q) (t .big)) (le-leb (h .terms .q) 2147483647 (t .small)) in
-      no-line-longer (and-both (here p) (and-both modulus (and-both (t .field) (t .sides)))) (input-tests _ _ _ .0 (s .1))
+      no-line-longer (and-both (here p) (and-both modulus (and-both (t .field) (and-both (t .sides) (here (rest p)))))) (input-tests _ _ _ .0 (s .1))

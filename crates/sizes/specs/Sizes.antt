@@ -16,7 +16,7 @@ use Rattle.protocol.specs.declared.Terms.{Terms}
 use Rattle.protocol.specs.Bounds.{Sort, product, system, within, largestModulus, fieldFits, sidesFit}
 use Rattle.protocol.specs.Tape.{Role, left, right, blinder, solver, sortNumber, sortOf, tapeSize}
 use Rattle.protocol.specs.Deal.{drawSize}
-use Rattle.protocol.specs.Message.{Message, messageWith, kindSort, messageSize}
+use Rattle.protocol.specs.Message.{Message, messageWith, kindKnown, kindSort, lastFits, messageSize}
 use Rattle.protocol.specs.Line.{messageLine}
 use Rattle.protocol.specs.System.{scratchSize}
 use Rattle.protocol.specs.View.{coinLayout}
@@ -27,7 +27,7 @@ abbrev pub versionOf : (major minor patch : ℕ) → ℕ
 versionOf major minor patch = 10000 * major + 100 * minor + patch
 
 abbrev pub versionNumber : ℕ
-versionNumber = versionOf 0 2 0
+versionNumber = versionOf 0 3 0
 
 -- ---- by the sides
 
@@ -73,10 +73,11 @@ longestMessage kind q m k p =
     let t = longestTerms q m k p in
     messageWith (record { kind = kind; terms = t }) (tabulate (messageSize kind t) (λ i. q - 1))
 
--- a kind, and a modulus and sides of its sort
+-- a kind, a modulus and sides of its sort; and sides of its own, where it is a last message's
 unfoldable pub kindFits : (kind q m k p : ℕ) → Bool
 kindFits kind q m k p =
-    both (within 1 5 kind) (both (within 2 largestModulus q) (both (fieldFits (kindSort kind) q) (sidesFit (kindSort kind) m k p)))
+    both (kindKnown kind)
+    (both (within 2 largestModulus q) (both (fieldFits (kindSort kind) q) (both (sidesFit (kindSort kind) m k p) (lastFits kind m p))))
 
 unfoldable pub longestLine : (kind q m k p : ℕ) → ℕ
 longestLine kind q m k p = cond (kindFits kind q m k p) (length (messageLine (longestMessage kind q m k p))) 0

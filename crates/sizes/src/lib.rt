@@ -42,7 +42,7 @@ ghost use Rattle.sizes.specs.Words.{Told, told, refusalWord};
 pub fn host_version() -> u32
     ensures { λ r. ⌜ r ≡ versionNumber ⌝ }
 {
-    200
+    300
 }
 
 // The words of a session's record.

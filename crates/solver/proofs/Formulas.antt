@@ -3,12 +3,13 @@
 --   y1-sent                            what step 1 sends
 --   w-part, c-part                     a message's parts, as slices of its residues
 --   shareOf, share-length, share-found S; f-sent, kept-column: F and s
---   joint-sum, joint-side              W + V and c + s; sum-residues, side-residues
---   last-left                          what step 5 computes, by whether W + V has an inverse
+--   joint-sum, sum-residues            W + V; joint-asked, sum-found: its array
+--   joint-side, side-residues          c + s
+--   last-left, determinant-left        what either step 5 computes
 -- Assumes nothing.
 use mathlib.Core.Path.{_≡_, refl, sym, ap, _∙_}
 use mathlib.Core.Bool.{Bool, true, false, cond}
-use mathlib.Core.List.{List, [], append-nil}
+use mathlib.Core.List.{List, [], _∷_, append-nil}
 use Prim.Native.Nat.{ℕ, _+_, _-_, _*_, _≤_, _<_}
 use native.Mathlib.Omega.{arith}
 use lib.ListN.{length, take, drop, length-drop}
@@ -20,19 +21,22 @@ use Rattle.algebra.specs.Product.{sendY, rightShare}
 use Rattle.algebra.specs.System.{cols, lastCols, solverShare, sendF, sumMatrix}
 use Rattle.algebra.specs.Words.{over}
 use Rattle.algebra.proofs.Lists.{length-tabulate, add-residues}
+use Rattle.determinant.specs.Determinant.{det}
 use Rattle.protocol.specs.declared.Terms.{Terms}
+use Rattle.protocol.specs.declared.Answer.the-variants.{Accepted}
 use Rattle.protocol.specs.declared.SolverSession.{SolverSession}
 use Rattle.protocol.specs.Bounds.{columns}
 use Rattle.protocol.specs.Tape.{Slot, slotWords, solver, matrices}
 use Rattle.protocol.specs.Message.{Message, messageLayout, messageParts}
-use Rattle.protocol.specs.System.{padded, sideSize, keptS, jointSum, solverLastEffect}
+use Rattle.protocol.specs.System.{padded, sideSize, keptS, jointSum, solverLastEffect, solverDeterminantEffect}
 use Rattle.protocol.specs.Step.{answerReply}
+use Rattle.protocol.proofs.StepTests.{SolverLastFits}
 use Rattle.vectors.proofs.Written.{after-over, over-part}
 use Rattle.tape.specs.Placed.{Placed}
 use Rattle.tape.proofs.Matrices.{matrix-length}
-use Rattle.judging.specs.Leaves.{Computed, computed}
+use Rattle.judging.specs.Leaves.{Computed, computed, computing}
 use Rattle.solver.specs.Formulas.{sentPart, sumOf, sideOf, lastAnswer, lastHead, closedTerms}
-use Rattle.solver.proofs.Known.{Few}
+use Rattle.solver.proofs.Known.{Few, few, last-terms, last-placed, last-count}
 
 -- ---- the matrices of a half that has its place
 
@@ -104,38 +108,59 @@ kept-column m p rhs share e z w = e ∙ rw (z, w) refl
 
 -- ---- step 5
 
-pub joint-sum : (t : Terms) (v residues : List ℕ) (n : ℕ) {w : List ℕ} (out : List ℕ) {sum : List ℕ} → sum ≡ over (matAdd (t .q) n w v) out
-    → n ≡ t .m * t .m → w ≡ sentPart 4 t 0 residues → sum ≡ over (sumOf t v residues) out
-unfolding sumOf sumMatrix
-joint-sum t v residues n out e en ew = e ∙ rw (en, ew) refl
+module _ (t : Terms) (s : Slot) (residues : List ℕ) where
+  pub joint-sum : (n : ℕ) {w v : List ℕ} (out : List ℕ) {sum : List ℕ} → sum ≡ over (matAdd (t .q) n w v) out → n ≡ t .m * t .m
+      → w ≡ sentPart 4 t 0 residues → v ≡ part 3 (matrices solver t (slotWords s)) → sum ≡ over (sumOf t s residues) out
+  unfolding sumOf sumMatrix
+  joint-sum n out e en ew ev = e ∙ rw (en, ew, ev) refl
+
+  pub sum-residues : 0 < t .q → Residues (t .q) (t .m * t .m) (sumOf t s residues)
+  unfolding sumOf sumMatrix
+  sum-residues h = add-residues h (t .m * t .m) _ _
+
+-- what its writer asks of an array of 256 words, and its first words then
+module _ {kind size room : ℕ} (x : SolverSession) (s : Slot) (a : Message) (f : SolverLastFits kind x s a size room) where
+  pub joint-asked : (0 < x .terms .q) × Placed solver (x .terms) s × (x .terms .m * x .terms .k ≤ length (a .residues)) × (x .terms .m * x .terms .k ≤ 256)
+  joint-asked =
+      let sides = few (x .terms) (last-terms f .sides) in
+      (omega (arith, last-terms f .big), last-placed f, omega (arith, last-count f), omega (arith, sides .mk-is, sides .mm))
+
+  pub sum-found : (n : ℕ) (out : List ℕ) {sum : List ℕ} → n ≡ x .terms .m * x .terms .m → length out ≡ 256 → sum ≡ over (sumOf (x .terms) s (a .residues)) out
+      → (n ≤ length sum) × (take n sum ≡ sumOf (x .terms) s (a .residues))
+  sum-found n out size room e =
+      let r = sum-residues (x .terms) s (a .residues) (joint-asked .0) .size in
+      let mm = few (x .terms) (last-terms f .sides) .mm in
+      let long = after-over (sumOf (x .terms) s (a .residues)) out e (omega (arith, r, mm, room)) in
+      (omega (arith, long, room, size, mm), over-part n (sumOf (x .terms) s (a .residues)) out e (r ∙ sym size))
 
 pub joint-side : (t : Terms) (residues kept : List ℕ) (n : ℕ) {c k : List ℕ} (out : List ℕ) {side : List ℕ} → side ≡ over (matAdd (t .q) n c k) out
     → n ≡ sideSize t → c ≡ sentPart 4 t 1 residues → k ≡ take (sideSize t) kept → side ≡ over (sideOf t residues kept) out
 unfolding sideOf
 joint-side t residues kept n out e en ec ek = e ∙ rw (en, ec, ek) refl
 
-pub sum-residues : (t : Terms) (v residues : List ℕ) → 0 < t .q → Residues (t .q) (t .m * t .m) (sumOf t v residues)
-unfolding sumOf sumMatrix
-sum-residues t v residues h = add-residues h (t .m * t .m) _ _
-
 pub side-residues : (t : Terms) (residues kept : List ℕ) → 0 < t .q → Residues (t .q) (sideSize t) (sideOf t residues kept)
 unfolding sideOf
 side-residues t residues kept h = add-residues h (sideSize t) _ _
 
-pub last-left : (x : SolverSession) (s : Slot) (a : Message) (out : List ℕ) (found : Bool) {sent v : List ℕ} → v ≡ part 3 (matrices solver (x .terms) (slotWords s))
-    → found ≡ regular (x .terms .q) (x .terms .m) (sumOf (x .terms) v (a .residues))
-    → sent ≡ cond (regular (x .terms .q) (x .terms .m) (sumOf (x .terms) v (a .residues)))
-    (over (solution (x .terms .q) (x .terms .m) (sumOf (x .terms) v (a .residues)) (sideOf (x .terms) (a .residues) (x .s))) out) out
-    → _≡_ {A = Computed SolverSession}
-    (record {
-      answer = answerReply (lastAnswer found);
-      session = closedTerms (x .terms);
-      head = lastHead (x .terms) found;
-      scratch = [];
-      sent = sent;
-      result = [];
-    })
-    (computed [] out [] (solverLastEffect x s a))
-unfolding solverLastEffect jointSum sumOf sideOf sentPart messageParts keptS sideSize join over
-last-left x s a out true e r o = rw (o, sym e, sym r) (simp append-nil)
-last-left x s a out false e r o = rw (o, sym e, sym r) (simp append-nil)
+module _ (x : SolverSession) (s : Slot) (a : Message) (out : List ℕ) where
+  pub last-left : (found : Bool) {sent : List ℕ} → found ≡ regular (x .terms .q) (x .terms .m) (sumOf (x .terms) s (a .residues))
+      → sent ≡ cond (regular (x .terms .q) (x .terms .m) (sumOf (x .terms) s (a .residues)))
+      (over (solution (x .terms .q) (x .terms .m) (sumOf (x .terms) s (a .residues)) (sideOf (x .terms) (a .residues) (x .s))) out) out
+      → _≡_ {A = Computed SolverSession}
+      (record {
+        answer = answerReply (lastAnswer found);
+        session = closedTerms (x .terms);
+        head = lastHead (x .terms) found;
+        scratch = [];
+        sent = sent;
+        result = [];
+      })
+      (computed [] out [] (solverLastEffect x s a))
+  unfolding solverLastEffect jointSum sumOf sideOf sentPart messageParts keptS sideSize join over
+  last-left true r o = rw (o, sym r) (simp append-nil)
+  last-left false r o = rw (o, sym r) (simp append-nil)
+
+  pub determinant-left : {sent : List ℕ} → sent ≡ over (det (x .terms .q) (x .terms .m) (sumOf (x .terms) s (a .residues)) ∷ []) out
+      → computing (Accepted 0) (closedTerms (x .terms)) (record { kind = 6; terms = x .terms }) [] sent [] ≡ computed [] out [] (solverDeterminantEffect x s a)
+  unfolding solverDeterminantEffect jointSum sumOf sentPart messageParts join over
+  determinant-left o = rw o refl

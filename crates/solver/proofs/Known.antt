@@ -1,8 +1,9 @@
 -- What is known where tests passed.
---   Few, few, one-side                       the sides of a system in numbers, and its one column of right-hand sides
+--   Few, few, one-side                       the sides in numbers, and a system's one column of right-hand sides
 --   inputs-known, arriving-known             before the last phase of a check
---   first-known, second-known, last-known    an accepted step
---   second-counts, last-counts               the lengths that its writers ask for
+--   first-known, second-known                an accepted step
+--   last-known, determinant-known            an accepted last step
+--   second-counts, last-terms, last-placed, last-count   what its writers ask for
 --   kept-length, len-le                      the length of what a session keeps
 -- Assumes nothing.
 use mathlib.Core.Path.{_≡_, sym, ap, _∙_}
@@ -18,16 +19,18 @@ use Rattle.protocol.specs.declared.SolverSession.{SolverSession}
 use Rattle.protocol.specs.Judge.{Test, done}
 use Rattle.protocol.specs.Bounds.{sidesFit, system, columns, inputTests, roomTests}
 use Rattle.protocol.specs.Tape.{Slot, solver}
-use Rattle.protocol.specs.Message.{Message, messageSize, messageTests, dueTests}
+use Rattle.protocol.specs.Message.{Message, lastKind, messageSize, messageTests, dueTests}
 use Rattle.protocol.specs.Step.{firstTests, laterTests}
 use Rattle.protocol.specs.System.{sideSize, solverFirstEffect, solverFirstTests, solverFirst, solverSecondEffect, solverSecondTests, solverSecond}
-use Rattle.protocol.specs.System.{solverLastEffect, solverLastTests, solverLast}
+use Rattle.protocol.specs.System.{solverLastEffect, solverLastTests, solverLast, solverDeterminantEffect, solverDeterminantTests, solverDeterminant}
 use Rattle.protocol.proofs.Judge.{Pass, split, all-split, passed}
-use Rattle.protocol.proofs.Tests.{FirstFits, first-tests, later-tests, input-tests}
-use Rattle.protocol.proofs.StepTests.{SolverFirstFits, solver-first, SolverFits, solver-second, solver-last}
+use Rattle.protocol.proofs.Tests.{TermsFit, FirstFits, first-tests, later-tests, input-tests}
+use Rattle.protocol.proofs.StepTests.{SolverFirstFits, solver-first, SolverFits, solver-second, SolverLastFits, solver-last, solver-determinant}
 use Rattle.judging.specs.InOrder.{judged}
 use Rattle.judging.proofs.InOrder.{accepted-by}
-use Rattle.judging.proofs.KindLaws.{size-2, size-3, size-4, size-5}
+use Rattle.judging.proofs.KindLaws.{size-2, size-3, size-4, last-system}
+use Rattle.judging.proofs.Fits.{open-placed}
+use Rattle.tape.specs.Placed.{Placed}
 use Rattle.tape.proofs.Sides.{unknowns, one-column}
 use Rattle.solver.specs.Groups.{arriving}
 
@@ -64,10 +67,10 @@ few t e =
       whole = omega (arith, u .least);
     }
 
-pub one-side : (t : Terms) → sidesFit system (t .m) (t .k) (t .p) ≡ true → sideSize t ≡ t .m
+pub one-side : (t : Terms) → sidesFit system (t .m) (t .k) (t .p) ≡ true → lastKind (t .m) (t .p) ≡ 5 → sideSize t ≡ t .m
 unfolding columns sideSize
-one-side t e =
-    let wide = one-column (t .m) (t .k) (t .p) e in
+one-side t e l =
+    let wide = one-column (t .m) (t .k) (t .p) e (last-system (t .m) (t .p) l) in
     let one : t .p - t .m ≡ 1 = omega arith in
     ap (λ (x : ℕ). t .m * x) one ∙ omega arith
 
@@ -108,22 +111,30 @@ module _ (x : SolverSession) (s : Slot) (a : Message) (room : ℕ) where
   unfolding solverSecond
   second-known h = solver-second x s a room .means (accepted-by (solverSecondTests x s a room) (solverSecondEffect x s a) h) .0
 
-  pub last-known : judged (solverLastTests x s a room) ≡ done tt → SolverFits 4 x s a (messageSize 5 (x .terms)) room
+  pub last-known : judged (solverLastTests x s a room) ≡ done tt → SolverLastFits 5 x s a (messageSize 5 (x .terms)) room
   unfolding solverLast
   last-known h = solver-last x s a room .means (accepted-by (solverLastTests x s a room) (solverLastEffect x s a) h) .0
 
-  -- X1 and R1, F's room, W and c, t's room
+  pub determinant-known : judged (solverDeterminantTests x s a room) ≡ done tt → SolverLastFits 6 x s a (messageSize 6 (x .terms)) room
+  unfolding solverDeterminant
+  determinant-known h = solver-determinant x s a room .means (accepted-by (solverDeterminantTests x s a room) (solverDeterminantEffect x s a) h) .0
+
+  -- X1 and R1, F's room
   pub second-counts : SolverFits 2 x s a (messageSize 3 (x .terms)) room
       → (length (a .residues) ≡ x .terms .m * x .terms .k + x .terms .m * x .terms .p) × (x .terms .m * x .terms .k ≤ room)
   second-counts f = (f .message .residues .size ∙ sym (size-2 (x .terms)), omega (arith, f .message-room, size-3 (x .terms)))
 
-  pub last-counts : SolverFits 4 x s a (messageSize 5 (x .terms)) room
-      → (length (a .residues) ≡ x .terms .m * x .terms .k + sideSize (x .terms)) × (sideSize (x .terms) ≤ room)
+-- either last step: its terms, its half's place, and how many residues W and c have
+module _ {kind size room : ℕ} {x : SolverSession} {s : Slot} {a : Message} (f : SolverLastFits kind x s a size room) where
+  pub last-terms : TermsFit system (x .terms)
+  last-terms = f .fits .later .session-open .terms
+
+  pub last-placed : Placed solver (x .terms) s
+  last-placed = open-placed solver (x .terms) s (f .fits .later .session-open)
+
+  pub last-count : length (a .residues) ≡ x .terms .m * x .terms .k + sideSize (x .terms)
   unfolding sideSize
-  last-counts f = (
-    f .message .residues .size ∙ sym (size-4 (x .terms)),
-    omega (arith, f .message-room, size-5 (x .terms) 5 (λ e. omega arith) (λ e. omega arith) (λ e. omega arith) (λ e. omega arith)),
-  )
+  last-count = f .fits .message .residues .size ∙ sym (size-4 (x .terms))
 
 -- a session's array, whose model is its list, mapped
 pub kept-length : (l : List ℕ) → length (map (λ (x : ℕ). x) l) ≡ 16 → length l ≡ 16

@@ -1,4 +1,4 @@
--- What the solver computes at its last step, by its matrices and a message's residues. Assumes nothing.
+-- What the solver computes at its last steps, by its half and a message's residues. Assumes nothing.
 --   sentPart                           a part of a message, by its residues
 --   sumOf, sideOf                      W + V, and c + s
 --   lastAnswer, lastHead, closedTerms  what the last step answers, by whether W + V has an inverse
@@ -15,14 +15,15 @@ use Rattle.protocol.specs.declared.Answer.{Answer}
 use Rattle.protocol.specs.declared.Answer.the-variants.{Accepted, Refused}
 use Rattle.protocol.specs.declared.Refusal.the-variants.{Singular}
 use Rattle.protocol.specs.declared.SolverSession.{SolverSession}
+use Rattle.protocol.specs.Tape.{Slot, slotWords, solver, matrices}
 use Rattle.protocol.specs.Message.{noMessage, messageLayout}
 use Rattle.protocol.specs.System.{sideSize}
 
 unfoldable pub sentPart : (kind : ℕ) → Terms → (j : ℕ) (residues : List ℕ) → List ℕ
 sentPart kind t j residues = part j (parts (messageLayout kind (t .m) (t .k) (t .p)) residues)
 
-unfoldable pub sumOf : Terms → (v residues : List ℕ) → List ℕ
-sumOf t v residues = sumMatrix (t .q) (t .m) (sentPart 4 t 0 residues) v
+unfoldable pub sumOf : Terms → Slot → (residues : List ℕ) → List ℕ
+sumOf t s residues = sumMatrix (t .q) (t .m) (sentPart 4 t 0 residues) (part 3 (matrices solver t (slotWords s)))
 
 unfoldable pub sideOf : Terms → (residues kept : List ℕ) → List ℕ
 sideOf t residues kept = matAdd (t .q) (sideSize t) (sentPart 4 t 1 residues) (take (sideSize t) kept)

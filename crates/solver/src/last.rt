@@ -3,6 +3,7 @@
 //   solver_last   the step
 use crate::SolverAnswer;
 use crate::accepted;
+use crate::joint::write_joint;
 use crate::later::check;
 use crate::refused;
 use crate::session_of;
@@ -18,7 +19,6 @@ use protocol::Terms;
 use tape::End;
 use tape::Place;
 use tape::change::spend_at;
-use tape::half::matrix;
 use vectors::times;
 use vectors::write_sum;
 ghost use mathlib.Core.Path.{_≡_};
@@ -32,21 +32,12 @@ ghost use Rattle.algebra.specs.Prime.{isPrime};
 ghost use Rattle.algebra.specs.Words.{over};
 ghost use Rattle.protocol.specs.Judge.{done};
 ghost use Rattle.protocol.specs.Bounds.{sidesFit, system};
+ghost use Rattle.protocol.specs.Message.{lastKind};
 ghost use Rattle.protocol.specs.System.{sideSize, solverLastEffect, solverLastTests, solverLast};
 ghost use Rattle.tape.specs.Placed.{slotIn};
 ghost use Rattle.judging.specs.InOrder.{judged};
 ghost use Rattle.judging.specs.Leaves.{leaves, leaving, computed, computing, taken};
-ghost use Rattle.solver.specs.Formulas.{sumOf, sideOf, lastAnswer, lastHead, closedTerms};
-
-// W + V, by the message's residues.
-fn write_joint(t: Terms, residues: &[u32], v: &[u32], out: &mut [u32])
-    requires { ⌜ (0 < t .q) × (sidesFit system (t .m) (t .k) (t .p) ≡ true) × (t .m * t .k ≤ length (now residues))
-        × (length (now v) ≡ t .m * t .k) × (t .m * t .k ≤ length (now out)) ⌝ }
-    ensures { λ _. ⌜ now (out .exit) ≡ over (sumOf t (now (v .entry)) (now (residues .entry))) (now (out .entry)) ⌝ }
-{
-    let n = times(t.m, t.k);
-    write_sum(t.q, n, &residues[..n], v, out);
-}
+ghost use Rattle.solver.specs.Formulas.{sideOf, lastAnswer, lastHead, closedTerms};
 
 // c + s, by the message's residues and what the session keeps.
 fn write_side(t: Terms, residues: &[u32], kept: &[u32], out: &mut [u32])
@@ -61,7 +52,7 @@ fn write_side(t: Terms, residues: &[u32], kept: &[u32], out: &mut [u32])
 // Whether W + V has an inverse, and t, written where it has.
 fn find_t(t: Terms, sum: &[u32], residues: &[u32], kept: &[u32], out: &mut [u32]) -> bool
     requires { ⌜ (isPrime (t .q) ≡ true) × (1 < t .q) × (t .q < 2147483648) × (sidesFit system (t .m) (t .k) (t .p) ≡ true)
-        × Residues (t .q) (t .m * t .m) (now sum) × (length (now residues) ≡ t .m * t .k + sideSize t)
+        × (lastKind (t .m) (t .p) ≡ 5) × Residues (t .q) (t .m * t .m) (now sum) × (length (now residues) ≡ t .m * t .k + sideSize t)
         × (length (now kept) ≡ 16) × (t .m ≤ length (now out)) ⌝ }
     ensures { λ r. ⌜ (r ≡ regular (t .q) (t .m) (now (sum .entry)))
         × (now (out .exit) ≡ cond (regular (t .q) (t .m) (now (sum .entry)))
@@ -101,9 +92,8 @@ fn compute(
 {
     let t = s.terms;
     let n = times(t.m, t.m);
-    let v = matrix(End::Solver, t, 3, pool, at);
     let mut sum = [0u32; 256];
-    write_joint(t, residues, v, &mut sum);
+    write_joint(pool, at, t, residues, &mut sum);
     let kept = s.s;
     let found = find_t(t, &sum[..n], residues, &kept, out);
     answer(t, found)

@@ -1,7 +1,9 @@
-// What the solver checks at its second step and its last: `judging`'s tests of a later step, the room for its message, and what it keeps.
-//   check   the tests of the step that takes a message of one kind and sends one of the next
+// What the solver checks at its second step and at both last ones: `judging`'s tests of a later step, the room for its message, its sort, and
+// what it keeps.
+//   check   the tests of the step that takes a message of one kind and sends one of another
 use judging::Check;
 use judging::message::has_room;
+use judging::message::last_fits;
 use judging::message::side_size;
 use judging::need;
 use judging::step::check_later;
@@ -47,7 +49,8 @@ pub fn check(
     let t = s.terms;
     let shared = check_later(End::Solver, kind, s.due, t, a, residues, pool, at);
     let sent = check_room(s.due, has_room(sends, t, room));
-    let arrived = worst(shared, sent);
+    let sort = need(Refusal::Turn, last_fits(sends, t));
+    let arrived = worst(shared, worst(sent, sort));
     let Check::Passed = arrived else {
         return arrived;
     };

@@ -1,19 +1,24 @@
-// The solver's three steps and its drop, by value: it hands over L and x at its first, and sends Y1, F and t. A step checks everything, then computes,
-// and then the tape's status changes.
+// The solver's steps and its drop, by value: it hands over L and x at its first, and sends Y1, F and t, or the determinant of W + V. A step checks
+// everything, then computes, and then the tape's status changes.
 //   SolverAnswer, SolverDropped   what a step answers, and what the drop does; refused, accepted
 //   first                         step 1: solver_first
 //   later                         what steps 3 and 5 check
 //   second, last                  steps 3 and 5: solver_second, solver_last
+//   det                           step 5 of a determinant: solver_determinant
+//   joint                         W + V, of either step 5
 //   drop                          solver_drop
 // A step is given its pool and the place of its slot; its terms or its session; its inputs; the message that it takes, a head and
 // residues; and last the slice that it writes.
-// For hosts: solver_first, solver_second, solver_last, solver_drop.
+// For hosts: solver_first, solver_second, solver_last, solver_determinant, solver_drop.
+mod det;
 mod drop;
 pub mod first;
+mod joint;
 mod last;
 mod later;
 mod second;
 
+pub use det::solver_determinant;
 pub use drop::solver_drop;
 pub use first::solver_first;
 use judging::Check;

@@ -1,7 +1,7 @@
 -- What sides and moduli that fit are bounded by.
 --   Sides, sides, sides-of the bounds on the sides, of a product and for both sorts
 --   Unknowns, unknowns     the sides of a system: p is n + 1 at the most, and n at least
---   one-column             its one column of right-hand sides
+--   one-column             its one column of right-hand sides, where p is not n
 --   Modulus, modulus       a modulus
 -- Assumes nothing.
 use mathlib.Core.Path.{_≡_}
@@ -61,18 +61,17 @@ pub record Unknowns (m k p : ℕ) : Type 0 where
 pub unknowns : (m k p : ℕ) → sidesFit system m k p ≡ true → Unknowns m k p
 unfolding sidesFit within
 unknowns m k p e =
-    let wide : p ≡ m + 1 = eqb-true p (m + 1) (and-right _ _ (and-right _ _ e)) in
+    let wide = and-right _ _ (and-right _ _ e) in
     record {
       some = leb-true 1 m (and-left _ _ (and-left _ _ e));
       few = leb-true m 16 (and-right _ _ (and-left _ _ e));
       square = eqb-true k m (and-left _ _ (and-right _ _ e));
-      least = omega arith;
-      most = omega arith;
+      least = leb-true m p (and-left _ _ wide);
+      most = leb-true p (m + 1) (and-right _ _ wide);
     }
 
-pub one-column : (m k p : ℕ) → sidesFit system m k p ≡ true → p ≡ m + 1
-unfolding sidesFit
-one-column m k p e = eqb-true p (m + 1) (and-right _ _ (and-right _ _ e))
+pub one-column : (m k p : ℕ) → sidesFit system m k p ≡ true → (p ≡ m → ⊥) → p ≡ m + 1
+one-column m k p e h = let u = unknowns m k p e in omega (arith, u .least, u .most, h)
 
 -- ---- both
 

@@ -1,14 +1,15 @@
 -- Words written over a list one after the other, and parts of slices that are lent.
 --   over-part, over-then, after-over   words over the start: read back, followed by others, and how many there are
+--   first-word                         one word stored at the start
 --   written-length                     a list that words were written into is as long as before
 --   tail-part                          `&xs[a..]`
 --   part-written, part-then            the part `&mut xs[a..]` was lent to a writer; the same after others had been written
 -- Assumes nothing.
 use mathlib.Core.Path.{_≡_, refl, ap, _∙_}
 use mathlib.Core.List.{List, [], _∷_, _++_, append-nil, append-assoc}
-use Prim.Native.Nat.{ℕ, zero, suc, _+_, _-_, _≤_}
+use Prim.Native.Nat.{ℕ, zero, suc, _+_, _-_, _≤_, _<_}
 use native.Mathlib.Omega.{arith}
-use lib.ListN.{length, take, drop, length-append, length-take, length-drop, drop-of-length-le}
+use lib.ListN.{length, set, take, drop, length-append, length-take, length-drop, drop-of-length-le}
 use lib.Seq.{take-all, take-at, take-take, drop-at, drop-drop}
 use borrow.Rule.Slice.PartMut.{midOf, putMid}
 use Rattle.algebra.specs.Words.{over, writtenAt}
@@ -28,6 +29,11 @@ over-then a b d n e =
 
 pub after-over : (ws d : List ℕ) {l : List ℕ} → l ≡ over ws d → length ws ≤ length d → length l ≡ length d
 after-over ws d e h = ap length e ∙ over-length ws d h
+
+pub first-word : (w : ℕ) (xs : List ℕ) → 0 < length xs → set xs 0 w ≡ over (w ∷ []) xs
+unfolding over
+first-word w [] h = absurd (omega arith)
+first-word w (x ∷ xs) h = refl
 
 pub written-length : (a : ℕ) (ws xs : List ℕ) → a + length ws ≤ length xs → length (writtenAt a ws xs) ≡ length xs
 unfolding writtenAt over

@@ -57,7 +57,8 @@ returns c =
 check-kept-requires : tie.Need-check-kept-requires
 check-kept-requires c κs =
     let a = (start (c .before .before)) .args in
-    kept-known (a .s) _ _ (a .step) (a .fits) _ (sym (told (c .before .before)) ∙ ap checked (c .enum-told .given .1))
+    let f = kept-known (a .s) _ _ (a .step) (a .fits) _ (sym (told (c .before .before)) ∙ ap checked (c .enum-told .given .1)) in
+    (f .0 .session-open .terms .sides, f .1)
 
 returns-2 : tie.Need-returns-2
 returns-2 c =

@@ -67,17 +67,20 @@ send-requires c κs =
     sending-known x _ _ (known (start told)) (c .before .before .before .before .matrix .ensures) (c .before .before .before .matrix2 .ensures)
     (length-take-le _ (x .mm) (m-fits told) ∙ told .before .times .ensures) (length-take-le _ (x .y) (y-fits told) ∙ told .side-size .ensures)
 
+last-kind-requires : tie.Need-last-kind-requires
+last-kind-requires c κs = search needs
+
 same-length : tie.Need-same-length
 same-length c = search needs
 
 returns : tie.Need-returns
 returns c =
-    let told = c .before .before .before .before .before .before .before .before in
+    let told = c .before .before .before .before .before .before .before .before .before in
     let a = (start told) .args in
     second-computed (a .s) (slotAt (a .pool .now) (a .at .size) (a .at .index)) (taken 3 (a .s .terms) (a .residues .now)) (known (start told))
-    (c .before .before .before .before .before .before .before .matrix .ensures) (c .before .before .before .before .before .before .matrix2 .ensures)
-    (a .out .now) (told .before .times .ensures) (told .side-size .ensures)
-    (c .before .before .send .ensures)
+    (c .before .before .before .before .before .before .before .before .matrix .ensures) (c .before .before .before .before .before .before .before .matrix2 .ensures)
+    (a .out .now) (c .last-kind .ensures) (told .before .times .ensures) (told .side-size .ensures)
+    (c .before .before .before .send .ensures)
 
 pub compute-spec : {M : Type 1} → statement M
 compute-spec =
@@ -92,5 +95,6 @@ compute-spec =
     array-share-prefix-y
     slice-aggregate-send-2
     send-requires
+    last-kind-requires
     same-length
     returns)

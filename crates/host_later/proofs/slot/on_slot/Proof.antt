@@ -1,6 +1,5 @@
 -- `host_later::slot::on_slot` meets its contract. Assumes nothing.
 use mathlib.Core.Path.{ap, _∙_}
-use mathlib.Core.Bool.{true}
 use mathlib.Core.List.{[]}
 use Prim.Native.Nat.{_≤_}
 use native.Mathlib.Omega.{arith}
@@ -17,7 +16,7 @@ use Rattle.entry.proofs.Bytes.{words-length}
 use Rattle.local.specs.Seen.{onDone, entering}
 use Rattle.local.specs.Entered.{enteredBy, laterStep}
 use Rattle.local.proofs.Finish.{settled-left}
-use Rattle.local.proofs.Told.{later-behaves}
+use Rattle.local.proofs.Told.{solves, later-behaves}
 use borrow.Author.Needs.{needs}
 use Rattle.host_later.proofs.slot.on_slot.Statement.{statement}
 use Rattle.host_later.proofs.slot.on_slot.Tie as tie
@@ -32,7 +31,7 @@ settle-requires : tie.Need-settle-requires
 settle-requires c κs =
     let at12 = c .before .before .before .before .before .before .before .before .before .before .before .before in
     let back = at12 in
-    let start = back .before .before .before .before .before .before .before .before .before .before .before .before .before .before .before .before .before .before .before .before .before .before .before .before .before .before .before in
+    let start = back .before .before .before .before .before .before .before .before .before .before .before .before .before .before .before .before .before .before .before .before .before .before .before .before .before .before .before .before in
     let p = start .pre in (
       p .0,
       omega (arith, p .1, back .before .before .before .before .before .before .words .given),
@@ -72,7 +71,7 @@ returns c =
     let at10 = c .before .before .before .before .before .before .before .before .before .before in
     let put = at10 in
     let ran = put .before .before .before .before .before .before .before .before .before .before .before .before .before .before .before .before .before .before .before .before in
-    let read = ran .before .before .before .before .before .before .before .before in
+    let read = ran .before .before .before .before .before .before .before .before .before in
     let start = read .before .before .before .before .before .before .before .before .before .before .before .before in
     let a = start .args in
     let p = start .pre in
@@ -95,7 +94,7 @@ returns c =
     let step : Session → Outcome Session = λ y. laterStep (a .q .drops) y s lent m room j in
     put .settle .ensures
     ∙ (settled-left l (p .4) (p .5) n k j (omega (arith, p .2)) (omega (arith, p .3)) (a .out .now) (length-take-le n (wordsOf (a .slot .now)) few)
-    true 0 x (a .q .own) (step x) (later-behaves (a .q .drops) x s lent m room j) (ran .run .result .answer) (ran .run .ensures)
+    (solves x) 0 x (a .q .own) (step x) (later-behaves (a .q .drops) x s lent m room j) (ran .run .result .answer) (ran .run .ensures)
     ∙ ap (λ (y : Session). enteredBy l 0 (checked (a .q .own)) (onDone (entering 0 []) (step y))) (read .session-in .ensures))
 
 pub on-slot-spec : {M : Type 1} → statement M

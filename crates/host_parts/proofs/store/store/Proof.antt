@@ -32,7 +32,7 @@ same-length-5 c = search needs
 returns : tie.Need-returns
 returns c =
     let a = c .before .before .before .before .before .before .before .before .before .before .before .before .before .before .before .before .before .before .before .before .before .before .before .before .before .before .before .args in
-    stored-accepted (a .later) (a .read) (a .answer) (a .x) (a .h) (a .words .now) (a .lent .now) (a .sent .now) (a .share .now)
+    stored-accepted (a .sums) (a .read) (a .answer) (a .x) (a .h) (a .words .now) (a .lent .now) (a .sent .now) (a .share .now)
     (record { host = a .session .now; pool = a .slot .now; scratch = a .scratch .now; line = a .line .now; result = a .result .now })
     (c .before .before .before .before .before .before .before .before .before .before .before .before .before .before .before .before .enum-told .given .1) (c .before .before .before .before .before .before .before .before .before .before .store-sent .ensures)
 
@@ -62,7 +62,7 @@ returns-2 c =
     let a = c .before .before .before .before .before .before .before .before .before .before .before .before .before .before .before .before .before .before .before .before .before .before .before .before .before .before .before .before .args in
     let put = c .before .before .before .before .before .before .before .before .before .put-all .ensures in
     let sum = sym (c .before .before .before .before .before .before .before .before .before .before .before .before .before .before .before .is-sum .ensures) ∙ c .before .before .before .before .before .before .before .before .before .before .before .before .before .before .if1 .taken in
-    stored-sum (a .later) (a .read) (a .answer) (a .x) (a .h) (a .words .now) (a .lent .now) (a .sent .now) (a .share .now)
+    stored-sum (a .sums) (a .read) (a .answer) (a .x) (a .h) (a .words .now) (a .lent .now) (a .sent .now) (a .share .now)
     (record { host = a .session .now; pool = a .slot .now; scratch = a .scratch .now; line = a .line .now; result = a .result .now })
     (c .before .before .before .before .before .before .before .before .before .before .before .before .before .before .before .before .before .answer .given .1) (c .refusal .ensures) sum (put .0) (put .1 .0) (put .1 .1 .0) (put .1 .1 .1)
 
@@ -73,7 +73,7 @@ returns-3 : tie.Need-returns-3
 returns-3 c =
     let a = c .before .before .before .before .before .before .before .before .before .before .before .before .before .before .before .args in
     let other = sym (c .before .before .is-sum .ensures) ∙ c .before .if1 .left in
-    stored-refused (a .later) (a .read) (a .answer) (a .x) (a .h) (a .words .now) (a .lent .now) (a .sent .now) (a .share .now)
+    stored-refused (a .sums) (a .read) (a .answer) (a .x) (a .h) (a .words .now) (a .lent .now) (a .sent .now) (a .share .now)
     (record { host = a .session .now; pool = a .slot .now; scratch = a .scratch .now; line = a .line .now; result = a .result .now })
     (c .before .before .before .before .answer .given .1) (c .refusal2 .ensures) other
 

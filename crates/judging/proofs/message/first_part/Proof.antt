@@ -39,14 +39,18 @@ side-size-requires c κs = search needs
 
 returns-5 : tie.Need-returns-5
 unfolding messageLayout sideSize
-returns-5 c =
+returns-5 c = rw (c .before .if5 .taken) (c .side-size .ensures)
+
+returns-6 : tie.Need-returns-6
+unfolding messageLayout
+returns-6 c =
     rw (
       ne-eqb _ 1 (c .before .before .before .before .if1 .left),
       ne-eqb _ 2 (c .before .before .before .if2 .left),
       ne-eqb _ 3 (c .before .before .if3 .left),
       ne-eqb _ 4 (c .before .if4 .left),
+      ne-eqb _ 5 (c .if5 .left),
     )
-    (c .side-size .ensures)
 
 pub first-part-spec : {M : Type 1} → statement M
 first-part-spec =
@@ -61,4 +65,5 @@ first-part-spec =
     times-requires-4
     returns-4
     side-size-requires
-    returns-5)
+    returns-5
+    returns-6)

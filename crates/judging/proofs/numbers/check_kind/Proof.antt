@@ -4,8 +4,7 @@ use mathlib.Core.List.{[], _∷_}
 use borrow.Author.Needs.{needs}
 use Rattle.protocol.specs.declared.Refusal.the-variants.{Form}
 use Rattle.protocol.specs.Judge as tests
-use Rattle.protocol.specs.Bounds.{within}
-use Rattle.protocol.specs.Message.{kindSort}
+use Rattle.protocol.specs.Message.{kindKnown, kindSort}
 use Rattle.field.specs.Field.{fieldTests}
 use Rattle.field.proofs.FieldLaws.{tests-judged}
 use Rattle.judging.specs.InOrder.{judged}
@@ -34,7 +33,7 @@ unfolding kindTests fieldTests
 returns c =
     let a = c .before .before .before .before .before .before .args .a in
     let field = c .before .before .kind-field in
-    also (tests.needs Form (within 1 5 (a .kind)) ∷ []) (fieldTests (kindSort (a .kind)) (a .terms .q)) (c .worst .ensures)
+    also (tests.needs Form (kindKnown (a .kind)) ∷ []) (fieldTests (kindSort (a .kind)) (a .terms .q)) (c .worst .ensures)
     (c .before .before .before .need .ensures ∙ rw (c .before .before .before .before .kind-known .ensures))
     (c .before .check-field .ensures ∙ tests-judged (kindSort (a .kind)) (a .terms .q) (field .result) (field .ensures))
 

@@ -9,7 +9,7 @@ use Rattle.protocol.specs.declared.Refusal.the-variants.{Form, Modulus, Composi
 use Rattle.protocol.specs.Judge.{judge, judgeBy, clear}
 use Rattle.protocol.specs.Judge as tests
 use Rattle.protocol.specs.Bounds.{Sort, product, system, largestModulus, within, fieldFits}
-use Rattle.protocol.specs.Message.{kindSort}
+use Rattle.protocol.specs.Message.{kindKnown, kindSort}
 use Rattle.field.specs.Field.{fieldTests}
 use Rattle.field.proofs.FieldLaws.{tests-judged}
 use Rattle.judging.specs.InOrder.{checked, judged}
@@ -69,21 +69,21 @@ worst-requires-2 c κs = search needs
 
 -- the session's modulus, in the message's place
 swapped : (kind : ℕ) (s : Sort) (p q : ℕ) → p ≡ q
-    → judged (tests.needs Form (within 1 5 kind) ∷ fieldTests (joint (kindSort kind) s) q)
-    ≡ judged (tests.needs Form (within 1 5 kind) ∷ tests.needs Modulus (within 2 largestModulus p) ∷ tests.needs Composite (fieldFits (kindSort kind) p) ∷ modulusTests s q)
+    → judged (tests.needs Form (kindKnown kind) ∷ fieldTests (joint (kindSort kind) s) q)
+    ≡ judged (tests.needs Form (kindKnown kind) ∷ tests.needs Modulus (within 2 largestModulus p) ∷ tests.needs Composite (fieldFits (kindSort kind) p) ∷ modulusTests s q)
 unfolding modulusTests fieldTests
-swapped kind s p q e = rw e (once (kindSort kind) s (within 1 5 kind) (within 2 largestModulus q) (fieldFits system q) q refl)
+swapped kind s p q e = rw e (once (kindSort kind) s (kindKnown kind) (within 2 largestModulus q) (fieldFits system q) q refl)
 
 -- what the code takes the worse of
 worse : (c : tie.After-worst2) → checked (c .worst2 .result)
-    ≡ judged (tests.needs Form (within 1 5 (c .before .before .before .before .before .before .before .before .args .a .kind))
+    ≡ judged (tests.needs Form (kindKnown (c .before .before .before .before .before .before .before .before .args .a .kind))
     ∷ fieldTests (joint (kindSort (c .before .before .before .before .before .before .before .before .args .a .kind))
     (sort (c .before .before .before .before .before .before .before .before .args .end)))
     (c .before .before .before .before .before .before .before .before .args .q))
 worse c =
     let a = c .before .before .before .before .before .before .before .before .args in
     let field = c .before .before .joint-field in
-    also (tests.needs Form (within 1 5 (a .a .kind)) ∷ []) (fieldTests (joint (kindSort (a .a .kind)) (sort (a .end))) (a .q)) (c .worst2 .ensures)
+    also (tests.needs Form (kindKnown (a .a .kind)) ∷ []) (fieldTests (joint (kindSort (a .a .kind)) (sort (a .end))) (a .q)) (c .worst2 .ensures)
     (c .before .before .before .need .ensures ∙ rw (c .before .before .before .before .kind-known .ensures))
     (c .before .check-field .ensures ∙ tests-judged _ (a .q) (field .result) (field .ensures))
 

@@ -14,8 +14,8 @@ blinder-of-requires c κs = search needs
 blinder-drop-requires : tie.Need-blinder-drop-requires
 blinder-drop-requires c κs = search needs
 
-is-settled-requires : tie.Need-is-settled-requires
-is-settled-requires c κs = search needs
+is-accepted-requires : tie.Need-is-accepted-requires
+is-accepted-requires c κs = search needs
 
 of-blinder-requires : tie.Need-of-blinder-requires
 of-blinder-requires c κs = search needs
@@ -41,7 +41,7 @@ returns c =
     let s = slotAt (a .pool .now) (a .at .size) (a .at .index) in
     let told = drop-blinder-told (blinderOf (a .x)) s (a .scratch .now) in
     let e = rw (at10 .blinder-of .ensures) at (at9 .blinder-drop .ensures) in
-    rw (c .with-record .ensures, c .before .before .before .is-settled .ensures, c .before .before .of-blinder .ensures, c .before .no-head .ensures)
+    rw (c .with-record .ensures, c .before .before .before .is-accepted .ensures, c .before .before .of-blinder .ensures, c .before .no-head .ensures)
     (recorded-leaves ofBlinder (a .x) (blinderOf (a .x)) s (a .scratch .now) [] [] told (at9 .blinder-drop .result .answer) e)
 
 pub blinder-spec : {M : Type 1} → statement M
@@ -50,7 +50,7 @@ blinder-spec =
     (tie.spec
     blinder-of-requires
     blinder-drop-requires
-    is-settled-requires
+    is-accepted-requires
     of-blinder-requires
     no-head-requires
     with-record-requires

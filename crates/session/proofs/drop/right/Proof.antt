@@ -14,8 +14,8 @@ right-of-requires c κs = search needs
 right-drop-requires : tie.Need-right-drop-requires
 right-drop-requires c κs = search needs
 
-is-settled-requires : tie.Need-is-settled-requires
-is-settled-requires c κs = search needs
+is-accepted-requires : tie.Need-is-accepted-requires
+is-accepted-requires c κs = search needs
 
 of-right-requires : tie.Need-of-right-requires
 of-right-requires c κs = search needs
@@ -38,7 +38,7 @@ returns c =
     let s = slotAt (a .pool .now) (a .at .size) (a .at .index) in
     let told = drop-right-told (rightOf (a .x)) s in
     let e = rw (at8 .right-of .ensures) at (at7 .right-drop .ensures) in
-    rw (c .with-record .ensures, c .before .before .before .is-settled .ensures, c .before .before .of-right .ensures, c .before .no-head .ensures)
+    rw (c .with-record .ensures, c .before .before .before .is-accepted .ensures, c .before .before .of-right .ensures, c .before .no-head .ensures)
     (recorded-leaves ofRight (a .x) (rightOf (a .x)) s [] [] [] told (at7 .right-drop .result .answer) e)
 
 pub right-spec : {M : Type 1} → statement M
@@ -47,7 +47,7 @@ right-spec =
     (tie.spec
     right-of-requires
     right-drop-requires
-    is-settled-requires
+    is-accepted-requires
     of-right-requires
     no-head-requires
     with-record-requires

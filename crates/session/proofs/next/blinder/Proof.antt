@@ -6,7 +6,7 @@ use Rattle.protocol.specs.Tape.{slotAt}
 use Rattle.protocol.specs.Message.{messageWith}
 use Rattle.entry.specs.Record.{blinderOf, ofBlinder}
 use Rattle.local.proofs.Recorded.{recorded-leaves, any-sent, any-result}
-use Rattle.local.proofs.Ends.{blinder-second-told, blinder-second-no-result, blinder-last-told, blinder-last-no-sent}
+use Rattle.local.proofs.Ends.{blinder-second-told, blinder-second-no-result, blinder-ending-told, blinder-ending-no-sent}
 use borrow.Author.Needs.{needs}
 use Rattle.session.proofs.next.blinder.Statement.{statement}
 use Rattle.session.proofs.next.blinder.Tie as tie
@@ -48,8 +48,8 @@ returns c =
 blinder-of-requires-2 : tie.Need-blinder-of-requires-2
 blinder-of-requires-2 c κs = search needs
 
-blinder-last-requires : tie.Need-blinder-last-requires
-blinder-last-requires c κs = search needs
+blinder-ending-requires : tie.Need-blinder-ending-requires
+blinder-ending-requires c κs = search needs
 
 blinder-done-requires-2 : tie.Need-blinder-done-requires-2
 blinder-done-requires-2 c κs = search needs
@@ -73,12 +73,12 @@ returns-2 c =
     let s = slotAt (a .pool .now) (a .at .size) (a .at .index) in
     let m = messageWith (a .a) (a .residues .now) in
     let y = blinderOf (a .x) in
-    let told = blinder-last-told y s (a .scratch .now) m (length (a .result .now)) in
-    let none = blinder-last-no-sent y s (a .scratch .now) m (length (a .result .now)) ofBlinder in
-    let e = rw (at9 .blinder-of2 .ensures) at (at7 .blinder-last .ensures) in
+    let told = blinder-ending-told y s (a .scratch .now) m (length (a .result .now)) in
+    let none = blinder-ending-no-sent y s (a .scratch .now) m (length (a .result .now)) ofBlinder in
+    let e = rw (at9 .blinder-of2 .ensures) at (at7 .blinder-ending .ensures) in
     rw (c .blinder-done2 .ensures, ne-eqb (a .x .due) 3 (at12 .if1 .left))
     (any-sent (a .x) s (a .scratch .now) (a .result .now) (a .out .now) none
-    (recorded-leaves ofBlinder (a .x) y s (a .scratch .now) [] (a .result .now) told (at7 .blinder-last .result .answer) e))
+    (recorded-leaves ofBlinder (a .x) y s (a .scratch .now) [] (a .result .now) told (at7 .blinder-ending .result .answer) e))
 
 pub blinder-spec : {M : Type 1} → statement M
 blinder-spec =
@@ -92,7 +92,7 @@ blinder-spec =
     same-length-3
     returns
     blinder-of-requires-2
-    blinder-last-requires
+    blinder-ending-requires
     blinder-done-requires-2
     same-length-4
     same-length-5

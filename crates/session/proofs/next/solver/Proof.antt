@@ -6,7 +6,7 @@ use Rattle.protocol.specs.Tape.{slotAt}
 use Rattle.protocol.specs.Message.{messageWith}
 use Rattle.entry.specs.Record.{solverOf, ofSolver}
 use Rattle.local.proofs.Recorded.{recorded-leaves}
-use Rattle.local.proofs.Ends.{solver-second-told, solver-last-told}
+use Rattle.local.proofs.Ends.{solver-second-told, solver-ending-told}
 use borrow.Author.Needs.{needs}
 use Rattle.session.proofs.next.solver.Statement.{statement}
 use Rattle.session.proofs.next.solver.Tie as tie
@@ -42,8 +42,8 @@ returns c =
 solver-of-requires-2 : tie.Need-solver-of-requires-2
 solver-of-requires-2 c κs = search needs
 
-solver-last-requires : tie.Need-solver-last-requires
-solver-last-requires c κs = search needs
+solver-ending-requires : tie.Need-solver-ending-requires
+solver-ending-requires c κs = search needs
 
 solver-done-requires-2 : tie.Need-solver-done-requires-2
 solver-done-requires-2 c κs = search needs
@@ -63,10 +63,10 @@ returns-2 c =
     let a = at14 .args in
     let s = slotAt (a .pool .now) (a .at .size) (a .at .index) in
     let m = messageWith (a .a) (a .residues .now) in
-    let told = solver-last-told (solverOf (a .x)) s m (length (a .out .now)) in
-    let e = rw (at7 .solver-of2 .ensures) at (at5 .solver-last .ensures) in
+    let told = solver-ending-told (solverOf (a .x)) s m (length (a .out .now)) in
+    let e = rw (at7 .solver-of2 .ensures) at (at5 .solver-ending .ensures) in
     rw (c .solver-done2 .ensures, ne-eqb (a .x .due) 2 (at9 .if1 .left))
-    (recorded-leaves ofSolver (a .x) (solverOf (a .x)) s [] (a .out .now) [] told (at5 .solver-last .result .answer) e)
+    (recorded-leaves ofSolver (a .x) (solverOf (a .x)) s [] (a .out .now) [] told (at5 .solver-ending .result .answer) e)
 
 pub solver-spec : {M : Type 1} → statement M
 solver-spec =
@@ -79,7 +79,7 @@ solver-spec =
     same-length-2
     returns
     solver-of-requires-2
-    solver-last-requires
+    solver-ending-requires
     solver-done-requires-2
     same-length-3
     same-length-4

@@ -4,7 +4,7 @@ use mathlib.Core.Bool.{true}
 use Prim.Native.Nat.{_≤_}
 use native.Mathlib.Omega.{arith}
 use borrow.Author.Needs.{needs}
-use borrow.Author.Tests.{not-true, not-false, leb-true, ne-eqb, eq-eqb}
+use borrow.Author.Tests.{not-true, not-false, leb-true, lt-leb, le-leb, ne-eqb, eq-eqb}
 use Rattle.algebra.specs.Count.{both}
 use Rattle.algebra.proofs.Count.{and-right}
 use Rattle.protocol.specs.Bounds.{within, mostUnknowns, sidesFit}
@@ -30,13 +30,17 @@ returns-2 : tie.Need-returns-2
 unfolding sidesFit both
 returns-2 c = rw (fits (c .before), ne-eqb _ _ (c .if2 .taken))
 
-add-result : tie.Need-add-result
-add-result c = omega (arith, few (c .before))
-
 returns-3 : tie.Need-returns-3
-unfolding sidesFit both
-returns-3 c = rw (fits (c .before), eq-eqb _ _ (c .if2 .left))
+unfolding sidesFit within both
+returns-3 c = rw (fits (c .before .before), eq-eqb _ _ (c .before .if2 .left), lt-leb _ _ (c .if3 .taken))
+
+add-result : tie.Need-add-result
+add-result c = omega (arith, few (c .before .before))
+
+returns-4 : tie.Need-returns-4
+unfolding sidesFit within both
+returns-4 c = rw (fits (c .before .before), eq-eqb _ _ (c .before .if2 .left), le-leb _ _ (c .if3 .left))
 
 pub system-sides-fit-spec : {M : Type 1} → statement M
 system-sides-fit-spec =
-    tie.close (tie.spec unknowns-fit-requires returns returns-2 add-result returns-3)
+    tie.close (tie.spec unknowns-fit-requires returns returns-2 returns-3 add-result returns-4)

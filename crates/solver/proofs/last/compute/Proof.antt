@@ -1,109 +1,80 @@
 -- `solver::last::compute` meets its contract. Assumes nothing.
-use mathlib.Core.Path.{refl, sym, ap, _∙_}
+use mathlib.Core.Path.{_≡_, refl, sym}
+use Prim.Native.Nat.{_≤_}
 use native.Mathlib.Omega.{arith}
-use lib.ListN.{length}
+use lib.ListN.{length, take}
 use lib.Seq.{length-take-le}
 use Rattle.protocol.specs.Bounds.{fieldFits}
-use Rattle.protocol.specs.Tape.{solver, slotAt}
-use Rattle.protocol.specs.Message.{messageSize}
-use Rattle.protocol.proofs.StepTests.{SolverFits}
-use Rattle.vectors.proofs.Written.{after-over, over-part}
-use Rattle.tape.specs.Placed.{Placed}
+use Rattle.protocol.specs.Tape.{Slot, slotAt}
+use Rattle.protocol.specs.Message.{Message, messageSize}
+use Rattle.protocol.proofs.StepTests.{SolverLastFits}
 use Rattle.judging.specs.Leaves.{taken}
-use Rattle.judging.proofs.Fits.{open-placed}
 use Rattle.solver.specs.Formulas.{sumOf}
-use Rattle.solver.proofs.Known.{few, one-side, last-known, last-counts, kept-length}
-use Rattle.solver.proofs.Formulas.{v-size, sum-residues, last-left}
+use Rattle.protocol.specs.System.{sideSize}
+use Rattle.judging.proofs.KindLaws.{size-5}
+use Rattle.solver.proofs.Known.{one-side, last-known, last-terms, last-count, kept-length}
+use Rattle.solver.proofs.Formulas.{joint-asked, sum-residues, sum-found, last-left}
 use borrow.Author.Needs.{needs}
 use Rattle.solver.proofs.last.compute.Statement.{statement}
 use Rattle.solver.proofs.last.compute.Tie as tie
 
-known : (c : tie.Start) →
-    let a = c .args in
-    let s = slotAt (a .pool .now) (a .at .size) (a .at .index) in
-    SolverFits 4 (a .s) s (taken 4 (a .s .terms) (a .residues .now)) (messageSize 5 (a .s .terms)) (length (a .out .now))
-known c =
-    let a = c .args in
-    last-known (a .s) (slotAt (a .pool .now) (a .at .size) (a .at .index)) (taken 4 (a .s .terms) (a .residues .now)) (length (a .out .now)) (c .pre)
+module _ (c : tie.Start) where
+  abbrev slot : Slot
+  slot = slotAt (c .args .pool .now) (c .args .at .size) (c .args .at .index)
 
-place : (c : tie.Start) → Placed solver (c .args .s .terms) (slotAt (c .args .pool .now) (c .args .at .size) (c .args .at .index))
-place c = open-placed solver (c .args .s .terms) (slotAt (c .args .pool .now) (c .args .at .size) (c .args .at .index)) (known c .later .session-open)
+  abbrev message : Message
+  message = taken 4 (c .args .s .terms) (c .args .residues .now)
+
+  known : SolverLastFits 5 (c .args .s) slot message (messageSize 5 (c .args .s .terms)) (length (c .args .out .now))
+  known = last-known (c .args .s) slot message (length (c .args .out .now)) (c .pre)
+
+abbrev start : tie.After-write-joint → tie.Start
+start c = c .before .before .before .before .before .before .before
+
+-- W + V, as the array holds it
+found : (c : tie.After-write-joint) →
+    let words = c .write-joint .last .1 .1 .1 .1 .0 in
+    let n = c .before .before .times .result in
+    (n ≤ length words) × (take n words ≡ sumOf (start c .args .s .terms) (slot (start c)) (start c .args .residues .now))
+found c =
+    let b = start c in
+    sum-found (b .args .s) (slot b) (message b) (known b) (c .before .before .times .result) _ (c .before .before .times .ensures) refl (c .write-joint .ensures)
 
 times-requires : tie.Need-times-requires
 times-requires c κs = search needs
-
-matrix-requires : tie.Need-matrix-requires
-matrix-requires c κs = (place (c .before .before .before .before .before), omega arith)
 
 slice-aggregate-write-joint : tie.Need-slice-aggregate-write-joint
 slice-aggregate-write-joint c = search needs
 
 write-joint-requires : tie.Need-write-joint-requires
-write-joint-requires c κs =
-    let start = c .before .before .before .before .before .before .before in
-    let a = start .args in
-    let t = a .s .terms in
-    let s = slotAt (a .pool .now) (a .at .size) (a .at .index) in
-    let k = known start in
-    let o = k .later .session-open in
-    let n = last-counts (a .s) s (taken 4 (a .s .terms) (a .residues .now)) (length (a .out .now)) k in
-    let f = few t (o .terms .sides) in (
-      omega (arith, o .terms .big),
-      o .terms .sides,
-      omega (arith, n .0),
-      ap length (c .before .matrix .ensures) ∙ v-size t s (place start),
-      omega (arith, f .mk-is, f .mm),
-    )
+write-joint-requires c κs = let b = c .before .before .before .before .before .before in joint-asked (b .args .s) (slot b) (message b) (known b)
 
 array-share-prefix-sum : tie.Need-array-share-prefix-sum
-array-share-prefix-sum c =
-    let at = c .before .before .before .before .before in
-    let start = at .before .before .before .before .before in
-    let a = start .args in
-    let t = a .s .terms in
-    let o = known start .later .session-open in
-    let f = few t (o .terms .sides) in
-    let r = sum-residues t (c .before .before .before .before .matrix .result .now) (a .residues .now) (omega (arith, o .terms .big)) .size in
-    let n = after-over (sumOf t _ (a .residues .now)) _ (c .before .before .write-joint .ensures) (omega (arith, r, f .mm)) in
-    omega (arith, n, f .mm, at .times .ensures)
+array-share-prefix-sum c = found (c .before .before) .0
 
 slice-aggregate-find-t : tie.Need-slice-aggregate-find-t
-slice-aggregate-find-t c =
-    let at = c .before .before .before .before .before .before in
-    let start = at .before .before .before .before .before in
-    let a = start .args in
-    let t = a .s .terms in
-    let o = known start .later .session-open in
-    let f = few t (o .terms .sides) in
-    let r = sum-residues t (c .before .before .before .before .before .matrix .result .now) (a .residues .now) (omega (arith, o .terms .big)) .size in
-    let n = after-over (sumOf t _ (a .residues .now)) _ (c .before .before .before .write-joint .ensures) (omega (arith, r, f .mm)) in
-    sym (length-take-le _ _ (omega (arith, n, f .mm, at .times .ensures)))
+slice-aggregate-find-t c = sym (length-take-le _ _ (found (c .before .before .before) .0))
 
 slice-aggregate-find-t-2 : tie.Need-slice-aggregate-find-t-2
 slice-aggregate-find-t-2 c = search needs
 
 find-t-requires : tie.Need-find-t-requires
-unfolding fieldFits
+unfolding fieldFits sideSize
 find-t-requires c κs =
-    let at = c .before .before .before .before .before .before .before .before in
-    let start = at .before .before .before .before .before in
-    let a = start .args in
-    let t = a .s .terms in
-    let s = slotAt (a .pool .now) (a .at .size) (a .at .index) in
-    let k = known start in
-    let o = k .later .session-open in
-    let n = last-counts (a .s) s (taken 4 (a .s .terms) (a .residues .now)) (length (a .out .now)) k in
-    let r = sum-residues t _ (a .residues .now) (omega (arith, o .terms .big)) in
-    let e = over-part (at .times .result) (sumOf t _ (a .residues .now)) _ (c .before .before .before .before .before .write-joint .ensures)
-    (r .size ∙ sym (at .times .ensures)) in (
-      o .terms .field,
-      o .terms .big,
-      omega (arith, o .terms .small),
-      o .terms .sides,
-      rw e r,
-      n .0,
-      kept-length (a .s .s) (start .good .1 .1 .0 .1 .1 .1 .1 .0 .1 .0 .1),
-      omega (arith, n .1, one-side t (o .terms .sides)),
+    let at = c .before .before .before .before .before in
+    let b = start at in
+    let t = b .args .s .terms in
+    let k = known b in
+    let o = last-terms k in (
+      o .field,
+      o .big,
+      omega (arith, o .small),
+      o .sides,
+      k .sort-is,
+      rw (found at .1) (sum-residues t (slot b) (b .args .residues .now) (omega (arith, o .big))),
+      last-count k,
+      kept-length (b .args .s .s) (b .good .1 .1 .0 .1 .1 .1 .1 .0 .1 .0 .1),
+      omega (arith, k .fits .message-room, size-5 t, one-side t (o .sides) (k .sort-is)),
     )
 
 answer-requires : tie.Need-answer-requires
@@ -114,25 +85,17 @@ same-length c = search needs
 
 returns : tie.Need-returns
 returns c =
-    let far = c .before .before .before .before .before .before .before .before .before in
-    let times = far .before .before .before .times in
-    let start = far .before .before .before .before .before .before .before .before in
-    let a = start .args in
-    let t = a .s .terms in
-    let s = slotAt (a .pool .now) (a .at .size) (a .at .index) in
-    let r = sum-residues t _ (a .residues .now) (omega (arith, known start .later .session-open .terms .big)) in
-    let e = over-part (times .result) (sumOf t _ (a .residues .now)) _ (far .write-joint .ensures) (r .size ∙ sym (times .ensures)) in
-    let found = c .before .before .before .find-t in
+    let at = c .before .before .before .before .before .before .before .before .before in
+    let b = start at in
+    let t = c .before .before .before .find-t in
     rw (c .answer .ensures)
-    (last-left (a .s) s (taken 4 (a .s .terms) (a .residues .now)) (a .out .now) (found .result) (far .before .before .matrix .ensures)
-    (rw e at (found .ensures .0)) (rw e at (found .ensures .1)))
+    (last-left (b .args .s) (slot b) (message b) (b .args .out .now) (t .result) (rw (found at .1) at (t .ensures .0)) (rw (found at .1) at (t .ensures .1)))
 
 pub compute-spec : {M : Type 1} → statement M
 compute-spec =
     tie.close
     (tie.spec
     times-requires
-    matrix-requires
     slice-aggregate-write-joint
     write-joint-requires
     array-share-prefix-sum

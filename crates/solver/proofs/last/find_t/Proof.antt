@@ -22,7 +22,7 @@ write-side-requires : tie.Need-write-side-requires
 write-side-requires c κs =
     let h = c .before .before .before .before .before .before .pre in
     let f = few (c .before .before .before .before .before .before .args .t) (h .3) in
-    (omega (arith, h .1), h .5, omega (arith, f .side-few, h .6), omega (arith, f .side-few))
+    (omega (arith, h .1), h .6, omega (arith, f .side-few, h .7), omega (arith, f .side-few))
 
 cast-solve : tie.Need-cast-solve
 cast-solve c = search needs
@@ -54,8 +54,8 @@ solve-requires c κs =
     let side = c .before .before .before .before .before .before .side-size in
     let r = side-residues (a .t) (a .residues .now) (a .kept .now) (omega (arith, h .1)) in
     let e = over-part (side .result) (sideOf (a .t) (a .residues .now) (a .kept .now)) _ (write-side .ensures) (r .size ∙ sym (side .ensures)) in
-    let one : a .t .m * 1 ≡ sideSize (a .t) = omega (arith, one-side (a .t) (h .3)) in
-    (h .0, h .2, few (a .t) (h .3) .few, h .4, rw (e, one) r, h .7)
+    let one : a .t .m * 1 ≡ sideSize (a .t) = omega (arith, one-side (a .t) (h .3) (h .4)) in
+    (h .0, h .2, few (a .t) (h .3) .few, h .5, rw (e, one) r, h .8)
 
 same-length : tie.Need-same-length
 same-length c = search needs

@@ -8,8 +8,8 @@ use Rattle.protocol.specs.System.{solverSecondEffect, solverSecondTests, solver
 use Rattle.tape.proofs.Slots.{same-pool}
 use Rattle.judging.specs.InOrder.{checked}
 use Rattle.judging.proofs.Leaving.{refused-leaves, step-leaves, as-taken}
-use Rattle.solver.specs.Groups.{receiving}
 use Rattle.solver.proofs.Known.{second-known}
+use Rattle.solver.proofs.Order.{second-tests}
 use borrow.Author.Needs.{needs}
 use Rattle.solver.proofs.second.solver_second.Statement.{statement}
 use Rattle.solver.proofs.second.solver_second.Tie as tie
@@ -27,40 +27,40 @@ refused-requires : tie.Need-refused-requires
 refused-requires c κs = search needs
 
 returns : tie.Need-returns
-unfolding solverSecond solverSecondTests receiving
+unfolding solverSecond
 returns c =
     let check = c .before .before .before .check in
     let a = c .before .before .before .before .before .before .before .args in
     let s = slotAt (a .pool .now) (a .at .size) (a .at .index) in
+    let message = messageWith (a .a) (a .residues .now) in
     let e = c .before .enum-told2 .given .1 in
-    let effect = solverSecondEffect (a .s) s (messageWith (a .a) (a .residues .now)) in
-    rw (c .refused .ensures, e) (sym (refused-leaves (a .s) s [] (a .out .now) [] _ effect (sym (check .ensures) ∙ ap checked e)))
+    let told = sym (second-tests (a .s) s message (length (a .out .now))) ∙ sym (check .ensures) ∙ ap checked e in
+    rw (c .refused .ensures, e) (sym (refused-leaves (a .s) s [] (a .out .now) [] _ (solverSecondEffect (a .s) s message) told))
 
 compute-requires : tie.Need-compute-requires
-unfolding solverSecondTests receiving
 compute-requires c κs =
     let check = c .before .before .before .check in
     let a = c .before .before .before .before .before .before .before .args in
     let s = slotAt (a .pool .now) (a .at .size) (a .at .index) in
-    let passed = sym (check .ensures) ∙ ap checked (c .before .enum-told .given .1) in
-    let k = second-known (a .s) s (messageWith (a .a) (a .residues .now)) (length (a .out .now)) passed in
+    let message = messageWith (a .a) (a .residues .now) in
+    let passed = sym (second-tests (a .s) s message (length (a .out .now))) ∙ sym (check .ensures) ∙ ap checked (c .before .enum-told .given .1) in
+    let k = second-known (a .s) s message (length (a .out .now)) passed in
     as-taken (λ (m : Message). solverSecondTests (a .s) s m (length (a .out .now))) (k .message) passed
 
 same-length : tie.Need-same-length
 same-length c = search needs
 
 returns-2 : tie.Need-returns-2
-unfolding solverSecond solverSecondTests solverSecondEffect receiving messageParts
+unfolding solverSecond solverSecondEffect messageParts
 returns-2 c =
     let check = c .before .before .before .before .before .before .check in
-    let enum-told = c .before .before .before .before .enum-told in
     let a = c .before .before .before .before .before .before .before .before .before .before .args in
     let s = slotAt (a .pool .now) (a .at .size) (a .at .index) in
-    let passed = sym (check .ensures) ∙ ap checked (enum-told .given .1) in
-    let k = second-known (a .s) s (messageWith (a .a) (a .residues .now)) (length (a .out .now)) passed in
-    let effect = solverSecondEffect (a .s) s (messageWith (a .a) (a .residues .now)) in
+    let message = messageWith (a .a) (a .residues .now) in
+    let passed = sym (second-tests (a .s) s message (length (a .out .now))) ∙ sym (check .ensures) ∙ ap checked (c .before .before .before .before .enum-told .given .1) in
+    let k = second-known (a .s) s message (length (a .out .now)) passed in
     let same = sym (same-pool s (k .later .session-open .half .inside)) in
-    step-leaves (a .s) s [] (a .out .now) [] _ effect passed (c .before .before .compute .ensures) same
+    step-leaves (a .s) s [] (a .out .now) [] _ (solverSecondEffect (a .s) s message) passed (c .before .before .compute .ensures) same
 
 pub solver-second-spec : {M : Type 1} → statement M
 solver-second-spec =
