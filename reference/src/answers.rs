@@ -1,6 +1,7 @@
 //! The entries on bytes by the rules: each call works on copies, and what it leaves is written back where it is done.
 
 use crate::dealer::{deal_product, deal_system};
+use crate::determinant::{blinder_determinant, solver_determinant};
 use crate::entries::{Deal, Dropping, Entries, First, Next, Reply, Residue, Score, Share, Slot, RECORD};
 use crate::faults::{self, Faults, SINGULAR, SIZE, TURN};
 use crate::line;
@@ -64,7 +65,8 @@ struct Lent<'a> {
 }
 
 /// The lowest of the entry's own faults and the step's; where there is none, all that the step leaves is written. So it is after a singular
-/// sum, which a later step alone tells by this number.
+/// sum, which a later step alone tells by this number; the blinder's last step of a determinant, which tells P or Q by it, leaves all as it
+/// was.
 fn settle(mut own: Faults, (reply, session): Done, work: Work, lent: Lent, is_first: bool) -> Reply {
     let line = if reply.message.kind == 0 { String::new() } else { line::write(&reply.message) };
     own.unless(reply.number == 0, reply.number);
@@ -84,7 +86,7 @@ fn settle(mut own: Faults, (reply, session): Done, work: Work, lent: Lent, is_fi
     }
 }
 
-/// A matrix of m rows and columns, and the vector behind it.
+/// A matrix of m rows and columns, and the vector behind it, or nothing.
 fn cut(m: u32, input: &[u32]) -> (&[u32], &[u32]) {
     let square = u64::from(m) * u64::from(m);
     input.split_at(square.min(input.len() as u64) as usize)
@@ -120,11 +122,19 @@ fn later_step(session: Session, work: &mut Work, a: &Message, room: usize) -> Do
             (reply, Session::Right(s))
         }
         Session::Solver(s) => {
-            let (reply, s) = if s.due == 2 { solver_second(s, place, a, ROOM) } else { solver_last(s, place, a, ROOM) };
+            let (reply, s) = match s.due {
+                2 => solver_second(s, place, a, ROOM),
+                _ if s.terms.is_determinant() => solver_determinant(s, place, a, ROOM),
+                _ => solver_last(s, place, a, ROOM),
+            };
             (reply, Session::Solver(s))
         }
         Session::Blinder(s) => {
-            let (reply, s) = if s.due == 3 { blinder_second(s, place, scratch, a, ROOM) } else { blinder_last(s, place, scratch, a, room) };
+            let (reply, s) = match s.due {
+                3 => blinder_second(s, place, scratch, a, ROOM),
+                _ if s.terms.is_determinant() => blinder_determinant(s, place, scratch, a, room),
+                _ => blinder_last(s, place, scratch, a, room),
+            };
             (reply, Session::Blinder(s))
         }
         // any closed session gives the same
@@ -183,8 +193,7 @@ impl Entries for Reference {
         let reply = if c.sort == 0 {
             deal_product(&mut first, &mut second, t.tape, t.q, t.m, t.k, t.p, &words)
         } else {
-            own.unless(t.k == t.m && u64::from(t.p) == u64::from(t.m) + 1, SIZE);
-            deal_system(&mut first, &mut second, t.tape, t.q, t.m, &words)
+            deal_system(&mut first, &mut second, t.tape, t.q, t.m, t.k, t.p, &words)
         };
         own.unless(reply.number == 0, reply.number);
         if own.lowest() != 0 {
@@ -244,7 +253,7 @@ impl Entries for Reference {
     }
 
     fn version() -> u32 {
-        200
+        300
     }
 
     fn record_words() -> usize {

@@ -11,9 +11,9 @@ pub fn deal_product(first: &mut Place, second: &mut Place, tape: u32, q: u32, m:
     deal(first, second, false, Terms { session: 1, tape, q, m, k, p }, words)
 }
 
-/// Deals a system's tape, blinder's half into the first place and solver's into the second.
-pub fn deal_system(first: &mut Place, second: &mut Place, tape: u32, q: u32, n: u32, words: &[u32]) -> Reply {
-    deal(first, second, true, Terms::system(1, tape, q, n), words)
+/// Deals a system's or a determinant's tape, blinder's half into the first place and solver's into the second.
+pub fn deal_system(first: &mut Place, second: &mut Place, tape: u32, q: u32, m: u32, k: u32, p: u32, words: &[u32]) -> Reply {
+    deal(first, second, true, Terms { session: 1, tape, q, m, k, p }, words)
 }
 
 fn deal(first: &mut Place, second: &mut Place, is_system: bool, t: Terms, words: &[u32]) -> Reply {

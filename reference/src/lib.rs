@@ -5,6 +5,7 @@
 
 pub mod answers;
 pub mod dealer;
+pub mod determinant;
 pub mod entries;
 pub mod faults;
 pub mod line;
@@ -44,6 +45,25 @@ impl Terms {
         Terms { session, tape, q, m: n, k: n, p: n.wrapping_add(1) }
     }
 
+    /// The determinant of a sum of n by n matrices: a system without its vectors, and so with as many columns as rows.
+    pub fn determinant(session: u32, tape: u32, q: u32, n: u32) -> Self {
+        Terms { session, tape, q, m: n, k: n, p: n }
+    }
+
+    /// Whether terms of a system's sort are those of a determinant.
+    pub fn is_determinant(&self) -> bool {
+        self.p == self.m
+    }
+
+    /// The kind of the last message of a system or a determinant.
+    pub fn last_kind(&self) -> u32 {
+        if self.is_determinant() {
+            6
+        } else {
+            5
+        }
+    }
+
     pub fn rows(&self) -> usize {
         self.m as usize
     }
@@ -54,6 +74,11 @@ impl Terms {
 
     pub fn columns(&self) -> usize {
         self.p as usize
+    }
+
+    /// The columns of x, y, c and t: one in a system, none in a determinant.
+    pub fn vectors(&self) -> usize {
+        self.columns().saturating_sub(self.rows())
     }
 }
 
@@ -73,7 +98,7 @@ pub struct Reply {
     /// Raw words read.
     pub read: usize,
     pub message: Message,
-    /// A share, or the solution.
+    /// A share, the solution, or the determinant.
     pub result: Vec<u32>,
 }
 

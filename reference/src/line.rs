@@ -1,6 +1,7 @@
 //! Lines of numbers, and messages as lines.
 
 use crate::faults::{Faults, FORM, SIZE};
+use crate::message::is_kind;
 use crate::{Message, Terms};
 
 pub const LONGEST: usize = 65_536;
@@ -29,7 +30,7 @@ pub fn text(numbers: &[u32]) -> String {
 /// A message's form alone: the number of the refusal where it has none.
 pub fn parse(bytes: &[u8]) -> Result<Message, u32> {
     let all = numbers(bytes).ok_or(FORM)?;
-    if all.len() < 7 || !(1..=5).contains(&all[0]) {
+    if all.len() < 7 || !is_kind(all[0]) {
         return Err(FORM);
     }
     let terms = Terms { session: all[1], tape: all[2], q: all[3], m: all[4], k: all[5], p: all[6] };

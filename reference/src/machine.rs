@@ -182,7 +182,7 @@ fn sum_of(bytes: &[u8]) -> u32 {
     bytes.chunks(4).fold(7, |s, b| mixed(s, four(b)))
 }
 
-fn wide(n: u32) -> usize {
+pub(crate) fn wide(n: u32) -> usize {
     if n < 1 << 31 {
         n as usize
     } else {
@@ -216,7 +216,7 @@ fn as_bytes(numbers: &[u32]) -> Vec<u8> {
 }
 
 /// Where so many bytes of an array stand, from some word on; fewer where it ends before.
-fn range(array: usize, at: usize, bytes: u32) -> Range<usize> {
+pub(crate) fn range(array: usize, at: usize, bytes: u32) -> Range<usize> {
     let start = shift(array) + 4 * at.min(WORDS[array]);
     start..start + most(bytes, length(array) - start)
 }

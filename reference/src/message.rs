@@ -4,15 +4,25 @@ use crate::faults::{Faults, FORM, SIZE, STRANGER, TURN};
 use crate::matrix::Matrix;
 use crate::{Message, Terms};
 
+pub fn is_kind(kind: u32) -> bool {
+    (1..=6).contains(&kind)
+}
+
+/// Kind 5 is of a system alone, and kind 6 of a determinant alone.
+pub fn is_kind_of(kind: u32, t: &Terms) -> bool {
+    kind < 5 || kind == t.last_kind()
+}
+
 /// Height and width of each part of a message of a kind.
 pub fn shapes(kind: u32, t: &Terms) -> Vec<(usize, usize)> {
     let (m, k, p) = (t.rows(), t.inner(), t.columns());
     match kind {
         1 => vec![(k, p)],
         2 => vec![(m, k), (m, p)],
-        3 => vec![(m, m)],
-        4 => vec![(m, m), (m, 1)],
-        _ => vec![(m, 1)],
+        3 => vec![(m, k)],
+        4 => vec![(m, k), (m, t.vectors())],
+        5 => vec![(m, t.vectors())],
+        _ => vec![(1, 1)],
     }
 }
 
@@ -39,8 +49,9 @@ impl Message {
 impl Faults {
     /// What a message shows by itself.
     pub fn message(&mut self, a: &Message) {
-        self.unless((1..=5).contains(&a.kind), FORM);
+        self.unless(is_kind(a.kind), FORM);
         self.terms(a.kind > 2, &a.terms);
+        self.unless(is_kind_of(a.kind, &a.terms), SIZE);
         // the count is of use only where the sides fit
         if self.none_to(SIZE) {
             self.unless(a.residues.len() == count(a.kind, &a.terms), SIZE);

@@ -1,12 +1,12 @@
 //! The sizes that a host asks for (RULES 11.5); 0 where there is none.
 
 use crate::faults::Faults;
-use crate::message::count;
+use crate::message::{count, is_kind, is_kind_of};
 use crate::pool::{End, HEADER};
 use crate::system::scratch_size;
 use crate::{line, Message, Terms};
 
-/// Terms of the sides that fit a product or a system.
+/// Terms of the sides that fit a product, or a system or determinant.
 fn fitting(is_system: bool, m: u32, k: u32, p: u32) -> Option<Terms> {
     let mut faults = Faults::new();
     if is_system {
@@ -29,7 +29,7 @@ pub fn tape_words(end: u32, m: u32, k: u32, p: u32) -> usize {
 
 pub fn scratch_words(end: u32, m: u32, k: u32, p: u32) -> usize {
     match of_end(end, m, k, p) {
-        Some((End::Blinder, t)) => scratch_size(t.rows()),
+        Some((End::Blinder, t)) => scratch_size(&t),
         _ => 0,
     }
 }
@@ -37,7 +37,7 @@ pub fn scratch_words(end: u32, m: u32, k: u32, p: u32) -> usize {
 pub fn coin_count(end: u32, m: u32, k: u32, p: u32) -> usize {
     match of_end(end, m, k, p) {
         Some((End::Left, t)) => t.rows() * t.columns(),
-        Some((End::Blinder, t)) => scratch_size(t.rows()),
+        Some((End::Blinder, t)) => scratch_size(&t),
         _ => 0,
     }
 }
@@ -56,7 +56,7 @@ pub fn line_bytes(kind: u32, q: u32, m: u32, k: u32, p: u32) -> usize {
     let terms = Terms { session: u32::MAX, tape: u32::MAX, q, m, k, p };
     let mut faults = Faults::new();
     faults.terms(kind > 2, &terms);
-    if !(1..=5).contains(&kind) || faults.lowest() != 0 {
+    if !is_kind(kind) || !is_kind_of(kind, &terms) || faults.lowest() != 0 {
         return 0;
     }
     line::write(&Message { kind, terms, residues: vec![q - 1; count(kind, &terms)] }).len()

@@ -1,4 +1,4 @@
-//! The runs of RULES 9.3 on bytes, and what RULES 11 says of records and lengths.
+//! The runs of RULES 9.3 on bytes, a determinant, and what RULES 11 says of records and lengths.
 
 use reference::answers::Reference;
 use reference::entries::*;
@@ -103,6 +103,39 @@ fn the_system() {
             assert_eq!(blinder.scratch, [0; 12]);
         }
     }
+}
+
+#[test]
+fn the_determinant() {
+    let t = Terms::determinant(9, 4, 5, 1);
+    for (m, d) in [(1, 3), (3, 0)] {
+        let (mut blinder, mut solver) = (Party::new(11), Party::new(11));
+        assert_eq!(deal(&mut blinder, &mut solver, 1, t, &[1, 4, 0, 3, 2, 1]).read, 6);
+        let sent = solver.first(4, t, &[2], &[], b"").bytes;
+        let sent = blinder.first(3, t, &[m], &[2, 1], &solver.line[..sent]).bytes;
+        assert_eq!(blinder.head(), [3, 9, 4, 5, 1, 1, 1, 3, m]);
+        let sent = solver.next(&blinder.line[..sent]).bytes;
+        assert_eq!(solver.head(), [4, 9, 4, 5, 1, 1, 1, 4, 0]);
+        let sent = blinder.next(&solver.line[..sent]).bytes;
+        assert_eq!(blinder.head(), [3, 9, 4, 5, 1, 1, 1, 6, m]);
+        let sent = solver.next(&blinder.line[..sent]).bytes;
+        assert_eq!(solver.line[..sent], *format!("6,9,4,5,1,1,1,{d}\n").as_bytes());
+        assert_eq!(solver.head(), [4, 9, 4, 5, 1, 1, 1, 0, 0]);
+        singular_p(&mut blinder, &solver.line[..sent]);
+        assert_eq!(blinder.next(&solver.line[..sent]), Reply::default());
+        assert_eq!(blinder.result, [d, 0, 0, 0, 9, 9, 9, 9]);
+        assert_eq!(blinder.scratch, [0, 0, 0, 0, 0, 0, 0, 0, 7, 7, 7, 7]);
+        assert_eq!(words_of(&blinder.pool), [3, 4, 1, 5, 1, 1, 1, 0, 0, 0, 0]);
+    }
+}
+
+/// The last step with another P is refused and changes no byte; P is then put back.
+fn singular_p(blinder: &mut Party, message: &[u8]) {
+    put_words(&[0], &mut blinder.scratch);
+    let before = [&blinder.record, &blinder.pool, &blinder.scratch, &blinder.result].map(Vec::clone);
+    assert_eq!(blinder.next(message), Reply { number: 10, read: 0, bytes: 0 });
+    assert_eq!([&blinder.record, &blinder.pool, &blinder.scratch, &blinder.result].map(Vec::clone), before);
+    put_words(&[2], &mut blinder.scratch);
 }
 
 #[test]

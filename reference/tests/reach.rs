@@ -6,8 +6,15 @@ use reference::script::tally::Tally;
 #[test]
 fn every_matrix_is_asked_for() {
     let all = faults(&Tally::default());
-    let matrices =
-        [("deal system", "Q"), ("first solver", "L"), ("first blinder", "M"), ("first blinder", "P"), ("next solver last", "W + V")];
+    let matrices = [
+        ("deal system", "Q"),
+        ("first solver", "L"),
+        ("first blinder", "M"),
+        ("first blinder", "P"),
+        ("next solver last", "W + V"),
+        ("next blinder last, p = n", "kept P"),
+        ("next blinder last, p = n", "dealt Q"),
+    ];
     for (call, matrix) in matrices {
         assert!(all.contains(&format!("{call} was never refused as singular for {matrix}")));
     }

@@ -27,7 +27,7 @@ fn system(q: u32, n: u32, input: [&[u32]; 4], dealer: &[u32], blinder: &[u32]) -
     let kept = |number: u32| if number == 0 { Ok(()) } else { Err(number) };
     let t = Terms::system(9, 4, q, n);
     let [l, x, m, y] = input;
-    kept(deal_system(&mut one, &mut two, 4, q, n, dealer).number)?;
+    kept(deal_system(&mut one, &mut two, 4, q, t.m, t.k, t.p, dealer).number)?;
     let (r1, s) = solver_first(t, &mut two, l, x, 9999);
     kept(r1.number)?;
     let (r2, b) = blinder_first(t, &mut one, &mut scratch, m, y, blinder, &r1.message, 9999);

@@ -2,8 +2,8 @@
 //! files.
 //!
 //! `days` makes the files of each run below, starts itself once for each call (`days call RUN NUMBER FOLDER`) and looks at what is left:
-//! the shares add to the product, z solves the system, dropped and singular sessions are closed and their tapes spent, and all files are
-//! what one process alone leaves.
+//! the shares add to the product, z solves the system, the determinant is that of the sum, dropped and singular sessions are closed and their
+//! tapes spent, and all files are what one process alone leaves.
 
 use std::fs;
 use std::path::{Path, PathBuf};
@@ -49,7 +49,7 @@ struct Run {
 
 use Call::{Drop, First as Begin, Next as Go};
 
-const RUNS: [Run; 5] = [
+const RUNS: [Run; 8] = [
     Run {
         name: "product",
         terms: Terms { session: 7, tape: 11, q: 1_000_000, m: 3, k: 5, p: 2 },
@@ -92,6 +92,33 @@ const RUNS: [Run; 5] = [
         is_system: true,
         calls: &[Call::Deal, Begin(SOLVER), Begin(BLINDER), Go(SOLVER), Go(BLINDER), Go(SOLVER)],
         last: 10,
+        seeds: [11, 11],
+        is_singular: true,
+    },
+    Run {
+        name: "determinant",
+        terms: Terms { session: 9, tape: 16, q: 2_147_483_647, m: 16, k: 16, p: 16 },
+        is_system: true,
+        calls: &[Call::Deal, Begin(SOLVER), Begin(BLINDER), Go(SOLVER), Go(BLINDER), Go(SOLVER), Go(BLINDER)],
+        last: 0,
+        seeds: [12, 13],
+        is_singular: false,
+    },
+    Run {
+        name: "determinant-dropped",
+        terms: Terms { session: 9, tape: 17, q: 65_537, m: 3, k: 3, p: 3 },
+        is_system: true,
+        calls: &[Call::Deal, Begin(SOLVER), Begin(BLINDER), Go(SOLVER), Go(BLINDER), Drop(SOLVER), Drop(BLINDER)],
+        last: 0,
+        seeds: [14, 15],
+        is_singular: false,
+    },
+    Run {
+        name: "determinant-zero",
+        terms: Terms { session: 9, tape: 18, q: 65_537, m: 4, k: 4, p: 4 },
+        is_system: true,
+        calls: &[Call::Deal, Begin(SOLVER), Begin(BLINDER), Go(SOLVER), Go(BLINDER), Go(SOLVER), Go(BLINDER)],
+        last: 0,
         seeds: [11, 11],
         is_singular: true,
     },
@@ -180,7 +207,7 @@ impl Run {
         self.ends().map(|end| Engine::tape_words(end, t.m, t.k, t.p)).into_iter().max().unwrap_or(0) + 2
     }
 
-    /// An input: X or Y, or a matrix and a vector.
+    /// An input: X or Y, or a matrix and, in a system, a vector.
     fn input(&self, end: u32) -> Vec<u32> {
         let t = &self.terms;
         let seed = self.seeds[usize::from(end == RIGHT || end == SOLVER)];
@@ -221,7 +248,7 @@ impl Run {
     fn step(&self, call: Call, end: u32, own: &mut Party, message: &[u8]) -> Reply {
         let t = self.terms;
         let [record, pool, scratch, result, sent] = &mut own.files;
-        let kinds = 1..=if self.is_system { 5 } else { 2 };
+        let kinds = 1..=if self.is_system { 6 } else { 2 };
         let mut line = vec![0; kinds.map(|kind| Engine::line_bytes(kind, t.q, t.m, t.k, t.p)).max().unwrap_or(0)];
         let slot = Slot { pool, size: self.slot_size(), index: SLOT };
         let reply = match call {
@@ -249,7 +276,7 @@ impl Run {
         let t = &self.terms;
         for (end, party) in self.ends().into_iter().zip(parties) {
             // a blinder whose solver found a singular sum, and a left end that was never called, are still as they were
-            let waits = (self.is_singular && end == BLINDER) || (end == LEFT && self.name == "product-dropped");
+            let waits = (self.last == 10 && end == BLINDER) || (end == LEFT && self.name == "product-dropped");
             if waits {
                 continue;
             }
@@ -274,6 +301,9 @@ impl Run {
         let [one, two] = self.ends().map(|end| self.input(end));
         if self.is_system {
             let sum = matrix(n, n, &one[..n * n]).plus(&matrix(n, n, &two[..n * n]));
+            if t.is_determinant() {
+                return u64::from(parties[0].result(1)[0]) == sum.determinant();
+            }
             let sides = matrix(n, 1, &one[n * n..]).plus(&matrix(n, 1, &two[n * n..]));
             return sum.times(&matrix(n, 1, &parties[0].result(n))) == sides;
         }

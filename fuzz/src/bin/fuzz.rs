@@ -1,6 +1,6 @@
 //! Random calls of the engine beside the reference: `fuzz [COUNT] [SEED]`.
 //!
-//! Worlds of a few hundred calls: sessions of both sorts with damaged calls between the right ones, calls with any numbers on what is left,
+//! Worlds of a few hundred calls: sessions of every sort with damaged calls between the right ones, calls with any numbers on what is left,
 //! messages of any bytes, small entries, and windows of days. After each call its answer and every byte of every array must be the same on
 //! both sides. The first difference ends the run; the script up to it is then in `failed.script`, which `replay` performs, here and in the
 //! reference.

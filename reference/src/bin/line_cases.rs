@@ -28,6 +28,11 @@ const RIGHT: &[&[u8]] = &[
     b"4,10,100,1000003,1,1,2,1000,1000002\n",
     b"5,9,4,5,1,1,2,1\n",
     b"5,1,1,2147483647,4,4,5,2147483646,0,1,2147483645\n",
+    b"3,9,4,5,2,2,2,1,2,3,4\n",
+    b"4,9,4,2,1,1,1,1\n",
+    b"4,9,4,5,2,2,2,1,2,3,4\n",
+    b"6,9,4,5,1,1,1,0\n",
+    b"6,4294967295,1,2147483647,16,16,16,2147483646\n",
 ];
 
 /// Numbers and lines at their edges.
@@ -92,11 +97,11 @@ const NUMBERS: &[&[u8]] = &[
 /// Messages that are none by their form, alone or beside other faults.
 const FORMS: &[&[u8]] = &[
     b"1,9,4,7,1,2\n",
-    b"6,9,4,7,1,2\n",
+    b"7,9,4,7,1,2\n",
     b"1,9,4,7,1,2,\n",
     b"1,9,4,7,1,2,1",
     b"0,9,4,7,1,2,1,3,3\n",
-    b"6,9,4,7,1,2,1,3,3\n",
+    b"7,9,4,7,1,2,1,3,3\n",
     b"4294967295,9,4,7,1,2,1,3,3\n",
     b"4294967297,9,4,7,1,2,1,3,3\n",
     b"01,9,4,7,1,2,1,3,3\n",
@@ -104,7 +109,7 @@ const FORMS: &[&[u8]] = &[
     b"1,9,4,7,1,2,1,3,3\n\n",
     b"1,9,4,7,1,2,1,3,03\n",
     b"1,9,4,7,1,2,1,3,4294967296\n",
-    b"6,0,0,1,0,0,0,9\n",
+    b"7,0,0,1,0,0,0,9\n",
     b"0,0,0,0,0,0,0\n",
     b"1,0,0,1,0,0,0,9,x\n",
 ];
@@ -124,12 +129,15 @@ const MODULI: &[&[u8]] = &[
     b"5,9,4,2147117569,1,1,2,1\n",
     b"5,9,4,2147483646,1,1,2,1\n",
     b"5,9,4,4294967291,1,1,2,1\n",
+    b"6,9,4,0,1,1,1,0\n",
+    b"6,9,4,2147483646,1,1,1,1\n",
     // beside faults that stand behind them
     b"1,0,4,1,1,2,1,3,3\n",
     b"2,9,4,0,33,2,1\n",
     b"3,0,0,6,1,1,2,6\n",
     b"4,9,4,6,17,17,18\n",
     b"5,9,4,1,0,0,1\n",
+    b"6,0,4,6,1,1,2,6\n",
 ];
 
 /// Sides out of bounds, counts that they do not give, numbers 0, and residues of q or more.
@@ -149,7 +157,7 @@ const SIDES: &[&[u8]] = &[
     b"2,9,4,7,4294967295,4294967295,4294967295,3\n",
     b"3,9,4,5,0,0,1\n",
     b"3,9,4,5,1,2,2,4\n",
-    b"3,9,4,5,1,1,1,4\n",
+    b"3,9,4,5,1,1,0,4\n",
     b"3,9,4,5,1,1,3,4\n",
     b"5,9,4,5,17,17,18,1\n",
     b"5,9,4,5,4294967295,4294967295,0,1\n",
@@ -168,6 +176,16 @@ const SIDES: &[&[u8]] = &[
     b"3,9,4,5,1,1,2,5\n",
     b"4,9,4,2,1,1,2,1,2\n",
     b"5,9,4,2147483647,1,1,2,2147483647\n",
+    // a kind of the other p, and counts of the other p
+    b"5,9,4,5,1,1,1\n",
+    b"5,9,4,5,1,1,1,1\n",
+    b"6,9,4,5,1,1,2,1\n",
+    b"6,9,4,5,1,2,1,1\n",
+    b"6,9,4,5,17,17,17,1\n",
+    b"4,9,4,5,1,1,1,1,4\n",
+    b"6,9,4,5,1,1,1\n",
+    b"6,9,4,5,2,2,2,1,0\n",
+    b"6,9,4,5,1,1,1,5\n",
     // a count and a residue at once
     b"1,9,4,7,1,2,1,7\n",
     b"5,9,0,5,1,1,2,5\n",
@@ -182,7 +200,8 @@ const ROOMS: &[&[u8]] = &[
     b"3,9,4,6,2,2,3,3,3,3,3,3\n",
     b"4,9,4,1,2,2,3,3,3,3,3,3,6\n",
     b"4,9,4,5,2,2,3,0,1,2,3,4,0\n",
-    b"6,9,4,1,1,5,1,3,3,3,3,3\n",
+    b"7,9,4,1,1,5,1,3,3,3,3,3\n",
+    b"6,9,4,5,2,2,2,3,3,3,3,3\n",
     b"1,9,4,1,1,5,1,3,3,3,3,3",
     b"5,9,4,65537,16,16,17,1,2,3,4,5,6,7,8,9,10,11,12,13,14,15,16\n",
 ];
@@ -192,7 +211,7 @@ fn long() -> Vec<Vec<u8>> {
     let message = |kind, q, residues| text(&[&[kind, 9, 4, q, 32, 64, 32][..], &vec![1; residues]].concat()).into_bytes();
     let mut unended = message(2, 3, 3072);
     unended.pop();
-    vec![message(2, 3, 3072), message(2, 3, 3073), message(1, 1, 3080), message(4, 4, 3081), message(6, 3, 3072), unended]
+    vec![message(2, 3, 3072), message(2, 3, 3073), message(1, 1, 3080), message(4, 4, 3081), message(7, 3, 3072), unended]
 }
 
 /// A message of small numbers, most of them wrong somewhere; of each fourth a byte is another.
@@ -200,15 +219,17 @@ fn any(random: &mut Random) -> Vec<u8> {
     const MODULUS: [u32; 8] = [1, 2, 3, 4, 5, 7, 7, 2147483648];
     const BYTES: [u8; 8] = *b"0,-19\n x";
     let mut below = |n: usize| random.below(n as u64) as usize;
-    let (kind, m, k) = (below(7) as u32, below(4) as u32, below(3) as u32);
-    let (k, p) = if kind < 3 { (k, below(3) as u32) } else { (m, m + u32::from(below(8) != 0)) };
+    let (kind, m, k) = (below(8) as u32, below(4) as u32, below(3) as u32);
+    let is_wide = below(8) < if kind == 6 { 1 } else { 6 };
+    let (k, p) = if kind < 3 { (k, below(3) as u32) } else { (m, m + u32::from(is_wide)) };
     let count = match (kind, below(4)) {
         (_, 0) => below(6),
         (1, _) => (k * p) as usize,
         (2, _) => (m * k + m * p) as usize,
         (3, _) => (m * m) as usize,
-        (4, _) => (m * m + m) as usize,
-        _ => m as usize,
+        (4, _) => (m * p) as usize,
+        (5, _) => (m * (p - m)) as usize,
+        _ => 1,
     };
     let mut all = vec![kind, u32::from(below(10) != 0), 4, MODULUS[below(8)], m, k, p];
     all.extend((0..count).map(|_| below(3) as u32));

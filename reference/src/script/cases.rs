@@ -2,6 +2,7 @@
 
 use super::damage::{single, Damage};
 use super::dealings::dealings;
+use super::determinants::determinants;
 use super::driver::Habit;
 use super::lines::lines;
 use super::plan::{matrix_seed, tape_size, Layout, Plan, Step};
@@ -15,7 +16,7 @@ use crate::machine::*;
 use crate::Terms;
 
 /// Slots that fit a tape exactly, and words behind the last.
-fn layout(is_system: bool, t: &Terms) -> Layout {
+pub fn layout(is_system: bool, t: &Terms) -> Layout {
     Layout { size: tape_size(is_system, t), slots: 2, tail: 3 }
 }
 
@@ -25,21 +26,21 @@ pub fn plan(writer: &mut Writer, random: &mut Random, is_system: bool, t: Terms)
     writer.lay(random, layout);
     loop {
         let plan = Plan::new(random, is_system, t, layout, 1, 0).expect("seeds");
-        if !is_system || plan.sum_is_regular() {
+        if plan.is_answered() {
             writer.free(&plan);
             return Plan { detail: 1, generous: false, ..plan };
         }
     }
 }
 
-fn whole(writer: &mut Writer, plan: &Plan) {
+pub fn whole(writer: &mut Writer, plan: &Plan) {
     for step in plan.steps() {
         assert_eq!(writer.right(plan, *step), 0);
     }
 }
 
 /// Every call of a plan, each after all that one change makes of it and is refused; and once more, when all of it is over.
-fn refusals(writer: &mut Writer, random: &mut Random, plan: &Plan) {
+pub fn refusals(writer: &mut Writer, random: &mut Random, plan: &Plan) {
     for step in plan.steps() {
         refused(writer, plan, *step);
         pairs(writer, random, plan, *step);
@@ -85,10 +86,17 @@ fn print(writer: &mut Writer, plan: &Plan) {
 }
 
 /// What a call of a run is handed: raw words and an input.
-type Given<'a> = (&'a [u32], &'a [u32]);
+pub type Given<'a> = (&'a [u32], &'a [u32]);
 
 /// A run with these inputs, and everything printed after each call.
-fn printed_run(writer: &mut Writer, random: &mut Random, is_system: bool, terms: Terms, counts: (u32, u32), given: &[Given]) -> Vec<u32> {
+pub fn printed_run(
+    writer: &mut Writer,
+    random: &mut Random,
+    is_system: bool,
+    terms: Terms,
+    counts: (u32, u32),
+    given: &[Given],
+) -> Vec<u32> {
     let layout = layout(is_system, &terms);
     writer.lay(random, layout);
     let (dealer, coins) = ((0, counts.0), (0, counts.1));
@@ -118,7 +126,7 @@ fn system_run(writer: &mut Writer, random: &mut Random, m: u32) -> Vec<u32> {
 }
 
 /// Singular matrices: the dealer's Q, the solver's L, the blinder's M and P.
-fn singular(writer: &mut Writer, random: &mut Random, plan: &Plan) {
+pub fn singular(writer: &mut Writer, random: &mut Random, plan: &Plan) {
     let (q, n) = (plan.terms.q, plan.terms.rows());
     for step in plan.steps() {
         let r = plan.registers(*step);
@@ -207,7 +215,8 @@ fn systems(writer: &mut Writer) {
 /// Drops at every stage, each after all that one change makes of it and is refused; then the slot is dealt anew.
 fn drops(writer: &mut Writer) {
     let random = &mut Random(9);
-    for (is_system, t) in [(false, Terms::product(5, 8, 10, 2, 3, 2)), (true, Terms::system(5, 8, 7, 2))] {
+    let sorts = [(false, Terms::product(5, 8, 10, 2, 3, 2)), (true, Terms::system(5, 8, 7, 2)), (true, Terms::determinant(5, 8, 7, 2))];
+    for (is_system, t) in sorts {
         let plan = plan(writer, random, is_system, t);
         for stage in 0..=plan.steps().len() {
             for step in &plan.steps()[..stage] {
@@ -233,7 +242,12 @@ fn drops(writer: &mut Writer) {
 /// The runs of RULES 9.3 that are executed: the longest inner side and one more, the most unknowns and one more.
 fn bounds(writer: &mut Writer, random: &mut Random) {
     let size = 4200;
-    for (is_system, t, more) in [(false, Terms::product(1, 1, 7, 1, 2048, 1), 9), (true, Terms::system(1, 2, 7, 16), 8)] {
+    let most = [
+        (false, Terms::product(1, 1, 7, 1, 2048, 1), 9),
+        (true, Terms::system(1, 2, 7, 16), 8),
+        (true, Terms::determinant(1, 3, 7, 16), 8),
+    ];
+    for (is_system, t, more) in most {
         let layout = Layout { size, slots: 2, tail: 0 };
         writer.lay(random, layout);
         let plan = Plan { detail: 1, ..Plan::new(random, is_system, t, layout, 0, 0).expect("seeds") };
@@ -264,8 +278,8 @@ fn sessions(writer: &mut Writer) {
     }
 }
 
-/// Small entries and dealings at their edges; lines, valid and damaged; products and systems with every refusal of their steps; drops;
-/// hostile records; a thousand sessions; windows of days.
+/// Small entries and dealings at their edges; lines, valid and damaged; products, systems and determinants with every refusal of their
+/// steps; drops; hostile records; a thousand sessions; windows of days.
 pub fn all() -> Writer {
     let mut writer = Writer::default();
     small(&mut writer);
@@ -273,6 +287,7 @@ pub fn all() -> Writer {
     lines(&mut writer);
     products(&mut writer);
     systems(&mut writer);
+    determinants(&mut writer);
     drops(&mut writer);
     records(&mut writer);
     sessions(&mut writer);

@@ -120,7 +120,7 @@ fn told(t: &Terms) -> Vec<(usize, u32)> {
     all.extend([0, 1, 1 << 31, u32::MAX, 4, 6, t.q + 1, 2, 65_537].map(|q| (7, q)));
     all.extend([0, t.m + 1, 17, 33, u32::MAX].map(|m| (8, m)));
     all.extend([0, t.k + 1, 17, 2049, u32::MAX].map(|k| (9, k)));
-    all.extend([0, t.p + 1, 18, 33, u32::MAX].map(|p| (10, p)));
+    all.extend([0, t.p - 1, t.p + 1, 18, 33, u32::MAX].map(|p| (10, p)));
     all
 }
 
@@ -129,7 +129,7 @@ fn header(t: &Terms, tape: usize, q: usize) -> Vec<(usize, u32)> {
     let mut all = vec![(tape, t.tape ^ 1), (tape, 0)];
     all.extend([0, 1, u32::MAX, t.q + 1, 6].map(|value| (q, value)));
     for (i, side) in [t.m, t.k, t.p].into_iter().enumerate() {
-        all.extend([0, side + 1, 33, u32::MAX].map(|n| (q + 1 + i, n)));
+        all.extend([0, side - 1, side + 1, 33, u32::MAX].map(|n| (q + 1 + i, n)));
     }
     all
 }
@@ -154,7 +154,7 @@ fn tapes(plan: &Plan, step: Step) -> Vec<(usize, usize, u32)> {
 pub fn record(plan: &Plan, end: End) -> Vec<(usize, u32)> {
     let (t, n) = (&plan.terms, plan.terms.rows());
     let mut all: Vec<(usize, u32)> = [0, 1, 2, 3, 4, 5, 256, u32::MAX].map(|end| (0, end)).to_vec();
-    all.extend([0, 1, 2, 3, 4, 5, 6, 9, 256, u32::MAX].map(|due| (7, due)));
+    all.extend([0, 1, 2, 3, 4, 5, 6, 7, 9, 256, u32::MAX].map(|due| (7, due)));
     all.extend(told(t).into_iter().map(|(i, w)| (i - 4, w)));
     let kept = match end {
         End::Solver => vec![8, 7 + n, 8 + n, 23, 24, 279],
@@ -184,7 +184,7 @@ fn edits(plan: &Plan, step: Step, line: &[u8]) -> Vec<Edit> {
     if step.takes() == 0 || length == 0 {
         return Vec::new();
     }
-    let mut all: Vec<Edit> = [0, 1, 2, 3, 4, 5, 6, u32::MAX].map(|kind| Edit::Number(0, kind)).to_vec();
+    let mut all: Vec<Edit> = [0, 1, 2, 3, 4, 5, 6, 7, u32::MAX].map(|kind| Edit::Number(0, kind)).to_vec();
     all.extend([0, t.session ^ 1].map(|session| Edit::Number(1, session)));
     all.extend(header(t, 2, 3).into_iter().map(|(i, w)| Edit::Number(i as u32, w)));
     let last = 6 + plan.taken(step) as u32;

@@ -2,7 +2,8 @@
 //!
 //! A row: the sort (0 product, 1 system, or none), q, m, k, p, the tape's number, size and index of the slot, how many words of either pool
 //! are lent, the marks that stand in the slot before the dealing, the seed of the raw words and their count. A size or an index of 2^31 or
-//! more stands for the number that is as far below 2^64 as it is below 2^32. A system's k and p of 0 stand for m and m + 1.
+//! more stands for the number that is as far below 2^64 as it is below 2^32. A system's k and p of 0 stand for m and m + 1; a determinant's
+//! are both m, and stand there.
 
 use super::writer::Writer;
 use crate::machine::*;
@@ -34,7 +35,7 @@ pub fn dealings(writer: &mut Writer) {
 
 /// Bytes more or fewer than whole words: of the pools, also past the slot, and of the raw words, also past those that are needed.
 fn odd(writer: &mut Writer) {
-    for (sort, k, p) in [(0, 1, 1), (1, 1, 2), (2, 1, 1)] {
+    for (sort, k, p) in [(0, 1, 1), (1, 1, 2), (1, 1, 1), (2, 1, 1)] {
         for (register, more) in [(1, 1), (1, 2), (1, 3), (2, 1), (2, -1), (27, 1), (27, 2), (27, 3), (27, -1)] {
             writer.put(ONE, 20, &[0]);
             writer.put(TWO, 20, &[3]);
@@ -281,15 +282,71 @@ const GROUPS: &[Group] = &[
             [0, 65536, 2, 2, 2, 11, 45, 1, 95, 95, 3, 3, 8, 5200],
         ],
     },
+    // Determinants that are dealt, in slots of just their size and of one word less.
+    Group {
+        goes_on: false,
+        rows: &[
+            [1, 7, 1, 1, 1, 9, 11, 1, 25, 22, 0, 3, 4, 5200],
+            [1, 7, 1, 1, 1, 9, 10, 1, 25, 22, 0, 3, 4, 5200],
+            [1, 2, 1, 1, 1, 9, 11, 0, 11, 11, 0, 3, 3, 5200],
+            [1, 2, 2, 2, 2, 9, 23, 1, 47, 46, 0, 3, 3, 5200],
+            [1, 2, 2, 2, 2, 9, 22, 1, 47, 46, 0, 3, 3, 5200],
+            [1, 257, 3, 3, 3, 4294967295, 43, 1, 89, 86, 0, 3, 3, 5200],
+            [1, 2147483647, 16, 16, 16, 9, 1031, 1, 2065, 2062, 0, 3, 3, 5200],
+            [1, 2147483647, 16, 16, 16, 9, 1030, 1, 2065, 2062, 0, 3, 3, 5200],
+            [1, 3, 16, 16, 16, 9, 1063, 1, 2129, 2126, 0, 3, 3, 5200],
+        ],
+    },
+    // Just enough raw words for a determinant, and one too few; Q without an inverse.
+    Group {
+        goes_on: false,
+        rows: &[
+            [1, 2147483629, 3, 3, 3, 9, 43, 0, 43, 43, 0, 3, 3, 65],
+            [1, 2147483629, 3, 3, 3, 9, 43, 0, 43, 43, 0, 3, 3, 64],
+            [1, 7, 2, 2, 2, 9, 23, 0, 23, 23, 0, 3, 3, 26],
+            [1, 7, 2, 2, 2, 9, 23, 0, 23, 23, 0, 3, 3, 25],
+            [1, 2147483647, 16, 16, 16, 9, 1031, 0, 1031, 1031, 0, 3, 3, 1595],
+            [1, 2147483647, 16, 16, 16, 9, 1031, 0, 1031, 1031, 0, 3, 3, 1594],
+            [1, 2, 1, 1, 1, 9, 11, 0, 11, 11, 0, 3, 8, 6],
+            [1, 2, 1, 1, 1, 9, 11, 0, 11, 11, 0, 3, 8, 5],
+            [1, 3, 4, 4, 4, 9, 71, 0, 71, 71, 0, 3, 5, 5200],
+            [1, 3, 4, 4, 4, 9, 71, 0, 71, 71, 0, 3, 6, 5200],
+        ],
+    },
+    // Determinants that are refused, and one slot dealt to one and then to others.
+    Group {
+        goes_on: false,
+        rows: &[
+            [1, 1, 1, 1, 1, 9, 20, 0, 40, 40, 0, 3, 3, 5200],
+            [1, 6, 1, 1, 1, 9, 20, 0, 40, 40, 0, 3, 3, 5200],
+            [1, 4, 17, 17, 17, 0, 20, 0, 40, 40, 1, 3, 3, 0],
+            [1, 7, 17, 17, 17, 9, 1300, 0, 1300, 1300, 0, 3, 3, 5200],
+            [1, 7, 4294967295, 4294967295, 4294967295, 9, 1300, 0, 1300, 1300, 0, 3, 3, 5200],
+            [1, 7, 1, 1, 1, 0, 11, 0, 40, 40, 0, 3, 3, 5200],
+            [1, 7, 1, 1, 1, 9, 11, 0, 40, 40, 1, 0, 3, 5200],
+            [1, 7, 1, 1, 1, 9, 11, 0, 40, 40, 0, 2, 3, 5200],
+        ],
+    },
+    Group {
+        goes_on: true,
+        rows: &[
+            [1, 7, 2, 2, 2, 9, 45, 1, 95, 95, 0, 3, 3, 5200],
+            [1, 7, 2, 2, 3, 10, 45, 1, 95, 95, 3, 3, 3, 5200],
+            [1, 7, 2, 2, 2, 11, 45, 1, 95, 95, 1, 3, 3, 5200],
+            [1, 2147483647, 1, 1, 1, 11, 45, 1, 95, 95, 3, 3, 3, 5200],
+            [0, 65536, 2, 2, 2, 12, 45, 1, 95, 95, 3, 3, 8, 5200],
+        ],
+    },
     // A system's other sides that are refused, and sorts that are none.
     Group {
         goes_on: false,
         rows: &[
             [1, 7, 1, 1, 2, 9, 13, 0, 40, 40, 0, 3, 3, 5200],
             [1, 7, 1, 2, 2, 9, 13, 0, 40, 40, 0, 3, 3, 5200],
-            [1, 7, 1, 1, 1, 9, 13, 0, 40, 40, 0, 3, 3, 5200],
+            [1, 7, 1, 2, 1, 9, 13, 0, 40, 40, 0, 3, 3, 5200],
+            [1, 7, 1, 1, 3, 9, 13, 0, 40, 40, 0, 3, 3, 5200],
             [1, 7, 1, 1, 4294967295, 9, 13, 0, 40, 40, 0, 3, 3, 5200],
-            [1, 7, 2, 2, 2, 9, 40, 0, 40, 40, 0, 3, 3, 5200],
+            [1, 7, 2, 2, 1, 9, 40, 0, 40, 40, 0, 3, 3, 5200],
             [1, 6, 2, 1, 3, 9, 40, 0, 40, 40, 0, 3, 3, 5200],
             [1, 1, 2, 1, 3, 9, 40, 0, 40, 40, 0, 3, 3, 5200],
             [1, 7, 4294967295, 4294967295, 0, 9, 40, 0, 40, 40, 0, 3, 3, 5200],

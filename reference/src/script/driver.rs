@@ -45,9 +45,11 @@ pub fn product_terms(random: &mut Random, large: bool) -> Terms {
     Terms::product(random.from(1, 99), random.from(1, 999), q, m, k, p)
 }
 
+/// Of a system or of a determinant.
 pub fn system_terms(random: &mut Random, large: bool) -> Terms {
     let n = if large { 16 } else { random.from(1, 5) };
-    Terms::system(random.from(1, 99), random.from(1, 999), *random.one_of(&PRIMES), n)
+    let of = *random.one_of(&[Terms::system, Terms::determinant]);
+    of(random.from(1, 99), random.from(1, 999), *random.one_of(&PRIMES), n)
 }
 
 impl Writer {

@@ -9,10 +9,11 @@ use crate::entries::RECORD;
 use crate::machine::*;
 use crate::Terms;
 
-/// At each step of a product and of a system every line arrives, but one that is taken, and then the message that was sent.
+/// At each step of each sort every line arrives, but one that is taken, and then the message that was sent.
 pub fn lines(writer: &mut Writer) {
     let random = &mut Random(6);
-    for (is_system, t) in [(false, Terms::product(9, 4, 7, 1, 2, 1)), (true, Terms::system(9, 4, 5, 1))] {
+    let sorts = [(false, Terms::product(9, 4, 7, 1, 2, 1)), (true, Terms::system(9, 4, 5, 1)), (true, Terms::determinant(9, 4, 5, 1))];
+    for (is_system, t) in sorts {
         let plan = plan(writer, random, is_system, t);
         for step in plan.steps() {
             if step.takes() != 0 {
@@ -46,7 +47,7 @@ fn rows(writer: &mut Writer, plan: &Plan, step: Step) {
     }
 }
 
-/// What is in the spare box arrives.
+/// What is in the spare box arrives, where it is refused.
 fn arrives(writer: &mut Writer, plan: &Plan, step: Step) {
     let mut damage = Damage::none(step.call(), plan.registers(step));
     damage.registers[16] = SPARE;
@@ -109,6 +110,11 @@ const ROWS: &[&[u8]] = &[
     b"3,9,4,5,1,1,2,4\n",            // system 3
     b"4,9,4,5,1,1,2,1,4\n",          // system 4
     b"5,9,4,5,1,1,2,1\n",            // system 5
+    b"1,9,4,5,1,1,1,3\n",            // determinant 1
+    b"2,9,4,5,1,1,1,3,0\n",          // determinant 2
+    b"3,9,4,5,1,1,1,4\n",            // determinant 3
+    b"4,9,4,5,1,1,1,1\n",            // determinant 4
+    b"6,9,4,5,1,1,1,3\n",            // determinant 6
     b"1,4294967295,4,7,1,2,1,3,3\n", // largest session
     // Faults of form.
     b"",                                       // empty
@@ -128,7 +134,7 @@ const ROWS: &[&[u8]] = &[
     b"1,9,4,7,1,2\n",                          // 6 numbers
     b"1,9,4,7,1,2,1\n",                        // 7 numbers
     b"0,9,4,7,1,2,1,3,3\n",                    // kind 0
-    b"6,9,4,7,1,2,1,3,3\n",                    // kind 6
+    b"7,9,4,7,1,2,1,3,3\n",                    // kind 7
     b"1,9,4,7,1,2,1,3,3,\n",                   // trailing comma
     b",1,9,4,7,1,2,1,3,3\n",                   // leading comma
     b"1,9,4,7,1,2,1,3,,3\n",                   // double comma
@@ -154,7 +160,7 @@ const ROWS: &[&[u8]] = &[
     b"1,9,4,7,1,2,1,3,3,3\n",                 // one residue too many
     b"1,9,4,7,1,2,1,3,7\n",                   // residue q
     b"1,0,4,7,1,2,1,3,7\n",                   // residue q, session 0
-    b"6,9,4,1,1,2,1,0,0\n",                   // kind 6, q 1
+    b"7,9,4,1,1,2,1,0,0\n",                   // kind 7, q 1
     b"3,0,4,0,1,1,2,4\n",                     // q 0 in a system, session 0
     b"2,9,4,2147483648,1,2,1,0,0,0\n",        // q 2147483648 in a second message
     b"5,9,4,6,17,17,18,1\n",                  // q 6 and n 17 in a system
@@ -163,4 +169,25 @@ const ROWS: &[&[u8]] = &[
     b"1,9,4,1,1,2,1\n",                       // no residue, q 1
     b"1,9,4,5,1,1,2,5,1\n",                   // a system's first message with residue q
     b"2,9,4,5,1,1,2,4,4,5\n",                 // a system's second message with residue q
+    // Systems and determinants taken for each other, and other faults of a determinant's messages.
+    b"6,9,4,5,1,1,2,3\n",    // kind 6 with p = n + 1
+    b"5,9,4,5,1,1,1\n",      // kind 5 with p = n, as many residues as the sides give
+    b"5,9,4,5,1,1,1,1\n",    // kind 5 with p = n
+    b"4,9,4,5,1,1,1,1,4\n",  // W and c with p = n
+    b"4,9,4,5,1,1,2,1\n",    // W alone with p = n + 1
+    b"3,9,4,5,1,1,0,4\n",    // p = n - 1
+    b"3,9,4,5,1,1,3,4\n",    // p = n + 2
+    b"6,9,4,5,1,2,1,3\n",    // k = n + 1
+    b"6,9,4,7,1,2,1,3,3\n",  // kind 6 of a product's sides
+    b"6,9,4,5,1,1,1\n",      // no determinant
+    b"6,9,4,5,1,1,1,3,3\n",  // two
+    b"6,9,4,5,1,1,1,5\n",    // residue q
+    b"6,9,4,5,1,1,2,5\n",    // residue q, p = n + 1
+    b"6,9,4,5,2,2,2,1\n",    // n 2
+    b"6,9,4,5,17,17,17,1\n", // n 17
+    b"6,9,0,5,1,1,1,3\n",    // tape 0
+    b"6,9,4,6,1,1,1,3\n",    // q 6
+    b"6,9,4,6,1,1,2,3\n",    // q 6, p = n + 1
+    b"6,9,4,1,1,1,1,0\n",    // q 1
+    b"6,10,4,5,1,1,1,3\n",   // another session
 ];

@@ -56,7 +56,7 @@ impl Writer {
         let large = random.once_in(30);
         let is_system = random.once_in(2);
         let terms = if is_system { system_terms(random, large) } else { product_terms(random, large) };
-        let kind = random.from(1, if is_system { 5 } else { 2 });
+        let kind = random.from(1, if is_system { 6 } else { 2 });
         let residues = seeded(random.from(1, 60_000), terms.q, count(kind, &terms));
         let mut message = Message { kind, terms, residues };
         if random.once_in(3) {
@@ -64,7 +64,8 @@ impl Writer {
             *[&mut t.session, &mut t.tape, &mut t.q, &mut t.m, &mut t.k, &mut t.p, &mut message.kind][random.below(7) as usize] =
                 number(random);
         }
-        if random.once_in(6) {
+        // a message of kind 5 has none where p is n
+        if !message.residues.is_empty() && random.once_in(6) {
             let at = random.below(message.residues.len() as u64) as usize;
             message.residues[at] = number(random);
         }
@@ -114,7 +115,7 @@ impl Writer {
         let t = if is_system { system_terms(random, large) } else { product_terms(random, large) };
         let mut r = self.machine.registers;
         r[7..11].copy_from_slice(&[t.q, t.m, t.k, t.p]);
-        r[11] = random.from(0, 5);
+        r[11] = random.from(0, 7);
         r[19] = random.from(0, 12);
         (r[21], r[22], r[23], r[25]) = (t.q, random.from(0, 60_000), t.m * t.m, 4 * t.m * t.m);
         r[28] = match call {

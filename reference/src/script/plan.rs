@@ -24,6 +24,8 @@ pub enum Step {
     BlinderSecond,
     SolverLast,
     BlinderLast,
+    SolverDeterminant,
+    BlinderDeterminant,
     SolverDrop,
     BlinderDrop,
 }
@@ -31,6 +33,15 @@ pub enum Step {
 const PRODUCT: [Step; 4] = [Step::Deal, Step::RightFirst, Step::Left, Step::RightLast];
 const SYSTEM: [Step; 7] =
     [Step::Deal, Step::SolverFirst, Step::BlinderFirst, Step::SolverSecond, Step::BlinderSecond, Step::SolverLast, Step::BlinderLast];
+const DETERMINANT: [Step; 7] = [
+    Step::Deal,
+    Step::SolverFirst,
+    Step::BlinderFirst,
+    Step::SolverSecond,
+    Step::BlinderSecond,
+    Step::SolverDeterminant,
+    Step::BlinderDeterminant,
+];
 
 impl Step {
     /// The number of the call.
@@ -49,7 +60,7 @@ impl Step {
             Step::Deal => None,
             Step::Left => Some(End::Left),
             Step::RightFirst | Step::RightLast | Step::RightDrop => Some(End::Right),
-            Step::SolverFirst | Step::SolverSecond | Step::SolverLast | Step::SolverDrop => Some(End::Solver),
+            Step::SolverFirst | Step::SolverSecond | Step::SolverLast | Step::SolverDeterminant | Step::SolverDrop => Some(End::Solver),
             _ => Some(End::Blinder),
         }
     }
@@ -60,14 +71,15 @@ impl Step {
             Step::Left | Step::BlinderFirst => 1,
             Step::RightLast | Step::SolverSecond => 2,
             Step::BlinderSecond => 3,
-            Step::SolverLast => 4,
+            Step::SolverLast | Step::SolverDeterminant => 4,
             Step::BlinderLast => 5,
+            Step::BlinderDeterminant => 6,
             _ => 0,
         }
     }
 
     pub fn sends(self) -> bool {
-        !matches!(self, Step::Deal | Step::RightLast | Step::BlinderLast) && self.call() != DROP
+        !matches!(self, Step::Deal | Step::RightLast | Step::BlinderLast | Step::BlinderDeterminant) && self.call() != DROP
     }
 
     /// The words of the result.
@@ -75,6 +87,7 @@ impl Step {
         match self {
             Step::Left | Step::RightLast => t.rows() * t.columns(),
             Step::BlinderLast => t.rows(),
+            Step::BlinderDeterminant => 1,
             _ => 0,
         }
     }
@@ -82,7 +95,7 @@ impl Step {
     /// The words of the scratch.
     pub fn scratch(self, t: &Terms) -> usize {
         if self.end() == Some(End::Blinder) {
-            scratch_size(t.rows())
+            scratch_size(t)
         } else {
             0
         }
@@ -111,6 +124,7 @@ impl Layout {
 
 #[derive(Clone)]
 pub struct Plan {
+    /// A system, or a determinant, as the terms tell.
     pub is_system: bool,
     pub terms: Terms,
     pub layout: Layout,
@@ -160,7 +174,7 @@ impl Plan {
         let (dealer, coins, inputs);
         if is_system {
             dealer = words_for(random, q, masks + 3 * m * m, |w| is_regular(q, m, &w[masks..masks + m * m]))?;
-            coins = words_for(random, q, scratch_size(m), |w| is_regular(q, m, &w[..m * m]))?;
+            coins = words_for(random, q, scratch_size(&terms), |w| is_regular(q, m, &w[..m * m]))?;
             let mut input = || Some((matrix_seed(random, q, m, true)?, random.from(1, 60_000)));
             inputs = [input()?, input()?];
         } else {
@@ -171,18 +185,25 @@ impl Plan {
         Some(Plan { is_system, terms, layout, index, pool, generous: true, detail: 0, dealer, coins, inputs })
     }
 
-    /// Whether the sum of both ends' matrices has an inverse.
-    pub fn sum_is_regular(&self) -> bool {
+    pub fn is_determinant(&self) -> bool {
+        self.is_system && self.terms.is_determinant()
+    }
+
+    /// Whether no step is refused: a system's sum has an inverse, and a determinant's may be any.
+    pub fn is_answered(&self) -> bool {
         let (q, n) = (self.terms.q, self.terms.rows());
+        if !self.is_system || self.is_determinant() {
+            return true;
+        }
         let [l, m] = self.inputs.map(|(seed, _)| Matrix::new(q, n, n, &seeded(seed, q, n * n)));
         l.plus(&m).is_regular()
     }
 
     pub fn steps(&self) -> &'static [Step] {
-        if self.is_system {
-            &SYSTEM
-        } else {
-            &PRODUCT
+        match self.is_system {
+            false => &PRODUCT,
+            true if self.is_determinant() => &DETERMINANT,
+            true => &SYSTEM,
         }
     }
 
@@ -227,8 +248,8 @@ impl Plan {
         let (input, one, two) = match step {
             Step::RightFirst => (self.inputs[0], t.k * t.p, 0),
             Step::Left => (self.inputs[1], t.m * t.k, 0),
-            Step::SolverFirst => (self.inputs[0], t.m * t.m, t.m),
-            Step::BlinderFirst => (self.inputs[1], t.m * t.m, t.m),
+            Step::SolverFirst => (self.inputs[0], t.m * t.m, t.m * (t.p - t.m)),
+            Step::BlinderFirst => (self.inputs[1], t.m * t.m, t.m * (t.p - t.m)),
             _ => ((0, 0), 0, 0),
         };
         [input.0, one, input.1, 4 * (one + two)]

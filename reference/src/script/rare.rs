@@ -1,6 +1,7 @@
 //! Calls that damage makes too seldom: with a matrix that has no inverse, in a session that is right otherwise, and with a message of
 //! another kind.
 
+use super::damage::Damage;
 use super::driver::MODULI;
 use super::plan::{is_regular, Plan, Step};
 use super::random::Random;
@@ -8,6 +9,7 @@ use super::writer::Writer;
 use crate::line;
 use crate::machine::*;
 use crate::message::count;
+use crate::pool::HEADER;
 use crate::Message;
 
 /// A matrix with one row, or column, replaced by another or by a sum of multiples of all others.
@@ -31,14 +33,21 @@ fn singular(random: &mut Random, q: u32, n: usize, words: &[u32]) -> Vec<u32> {
 }
 
 impl Writer {
-    /// The step with a matrix without an inverse, where it judges one that it is handed or draws.
+    /// The step with a matrix without an inverse, where it judges one that it is handed, draws, or finds in scratch and tape.
     pub fn singular(&mut self, random: &mut Random, plan: &Plan, step: Step) {
         let (q, n) = (plan.terms.q, plan.terms.rows());
         let mut registers = plan.registers(step);
+        let one_or_both = [(true, false), (false, true), (true, true)];
         let (of_input, of_words) = match step {
             Step::Deal => (false, true),
             Step::SolverFirst => (true, false),
-            Step::BlinderFirst => *random.one_of(&[(true, false), (false, true), (true, true)]),
+            Step::BlinderFirst => *random.one_of(&one_or_both),
+            Step::BlinderDeterminant => {
+                let (kept, dealt) = *random.one_of(&one_or_both);
+                let damage = self.singular_divisor(random, plan, kept, dealt);
+                self.damaged(&damage);
+                return;
+            }
             _ => return,
         };
         if of_input {
@@ -47,7 +56,7 @@ impl Writer {
         }
         if of_words {
             // Q is drawn behind X0, Y0 and A0; P is drawn first
-            let before = if step == Step::Deal { n * n + 2 * n * (n + 1) } else { 0 };
+            let before = if step == Step::Deal { n * n + 2 * n * plan.terms.columns() } else { 0 };
             self.draw_singular(random, q, n, before, &mut registers);
         }
         self.call(step.call(), &registers);
@@ -71,10 +80,29 @@ impl Writer {
         self.made(plan, Step::BlinderFirst, registers)
     }
 
-    /// The step with a message of another kind, of the session's numbers or of another q.
+    /// A determinant's last step of the blinder with a P in the scratch, or a Q on the tape, that has no inverse.
+    pub fn singular_divisor(&self, random: &mut Random, plan: &Plan, kept: bool, dealt: bool) -> Damage {
+        let (t, n) = (&plan.terms, plan.terms.rows());
+        let registers = plan.registers(Step::BlinderDeterminant);
+        let (pool, slot) = plan.slot(Step::BlinderDeterminant);
+        let places = [(kept, SCRATCHES, registers[14] as usize), (dealt, pool, slot + HEADER + n * t.inner() + n * t.columns())];
+        let mut damage = Damage::none(NEXT, registers);
+        for (_, array, at) in places.into_iter().filter(|place| place.0) {
+            let old = self.machine.words(array, at as u32, t.m * t.m);
+            let new = singular(random, t.q, n, &old);
+            damage.pokes.extend((0..n * n).filter(|i| old[*i] != new[*i]).map(|i| (array, at + i, new[i])));
+        }
+        damage
+    }
+
+    /// The step with a message of another kind, of the session's numbers or of another q. A last message of the other sort is sometimes of
+    /// the other p, with which it is a message.
     pub fn stray(&mut self, random: &mut Random, plan: &Plan, step: Step) {
-        let kinds: Vec<u32> = (1..=5).filter(|kind| *kind != step.takes()).collect();
+        let kinds: Vec<u32> = (1..=6).filter(|kind| *kind != step.takes()).collect();
         let (kind, mut terms) = (*random.one_of(&kinds), plan.terms);
+        if kind > 4 && random.once_in(2) {
+            (terms.k, terms.p) = (terms.m, terms.m + u32::from(kind == 5));
+        }
         if random.once_in(3) {
             terms.q = *random.one_of(&MODULI);
         }

@@ -3,26 +3,35 @@
 use super::tally::Tally;
 use crate::faults::word;
 
-/// The calls as the machine names them, and the words of their answers.
+/// The calls as the machine names them, and the words of their answers. Those of a determinant have `p = n` behind them.
 const ANSWERS: &[(&str, &str)] = &[
     ("deal product", "accepted modulus size mark dry"),
     ("deal system", "accepted modulus composite size mark dry singular"),
+    ("deal system, p = n", "accepted modulus composite size mark dry singular"),
     ("deal of no sort", "size"),
     ("first left", "accepted form modulus composite size turn mark stranger residue dry"),
     ("first right", "accepted modulus size turn mark stranger residue"),
     ("first blinder", "accepted form modulus composite size turn mark stranger residue dry singular"),
     ("first solver", "accepted modulus composite size turn mark stranger residue singular"),
+    ("first blinder, p = n", "accepted form modulus composite size turn mark stranger residue dry singular"),
+    ("first solver, p = n", "accepted modulus composite size turn mark stranger residue singular"),
     ("first of no end", "size"),
     ("next right last", "accepted form modulus composite size turn mark stranger residue"),
     ("next solver second", "accepted form modulus composite size turn mark stranger residue"),
     ("next solver last", "accepted form modulus composite size turn mark stranger residue singular"),
     ("next blinder second", "accepted form modulus composite size turn mark stranger residue"),
     ("next blinder last", "accepted form modulus composite size turn mark stranger residue"),
+    ("next solver second, p = n", "accepted form modulus composite size turn mark stranger residue"),
+    ("next solver last, p = n", "accepted form modulus composite size turn mark stranger residue"),
+    ("next blinder second, p = n", "accepted form modulus composite size turn mark stranger residue"),
+    ("next blinder last, p = n", "accepted form modulus composite size turn mark stranger residue singular"),
     ("next (closed)", "form modulus composite size turn"),
     ("next (no session)", "form modulus composite size turn"),
     ("drop right", "accepted modulus size mark stranger"),
     ("drop solver", "accepted modulus composite size mark stranger"),
     ("drop blinder", "accepted modulus composite size mark stranger"),
+    ("drop solver, p = n", "accepted modulus composite size mark stranger"),
+    ("drop blinder, p = n", "accepted modulus composite size mark stranger"),
     ("drop (closed)", "size turn"),
     ("drop (no session)", "size turn"),
     ("version", "accepted"),
@@ -49,6 +58,8 @@ const MATRICES: &[(&str, &str)] = &[
     ("first blinder", "M"),
     ("first blinder", "P"),
     ("next solver last", "W + V"),
+    ("next blinder last, p = n", "kept P"),
+    ("next blinder last, p = n", "dealt Q"),
     ("has_inverse", "the matrix"),
 ];
 
@@ -107,6 +118,7 @@ pub fn shown(tally: &Tally) -> String {
     let mut text = line("", &columns.iter().map(|word| word.to_string()).collect::<Vec<_>>());
     rows.iter().for_each(|(name, cells)| text += &line(name, cells));
     let count = |matrix: &str| tally.matrices.get(matrix).copied().unwrap_or(0);
-    let parts: Vec<String> = ["Q", "L", "M", "P", "M and P", "W + V"].iter().map(|matrix| format!("{matrix} {}", count(matrix))).collect();
+    let matrices = ["Q", "L", "M", "P", "M and P", "W + V", "kept P", "dealt Q", "kept P and dealt Q"];
+    let parts: Vec<String> = matrices.iter().map(|matrix| format!("{matrix} {}", count(matrix))).collect();
     text + &format!("singular, by matrix: {}\n", parts.join(", "))
 }

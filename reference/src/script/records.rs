@@ -10,7 +10,8 @@ use crate::Terms;
 
 pub fn records(writer: &mut Writer) {
     let random = &mut Random(11);
-    for (is_system, t) in [(false, Terms::product(5, 9, 10, 2, 3, 2)), (true, Terms::system(5, 9, 7, 2))] {
+    let sorts = [(false, Terms::product(5, 9, 10, 2, 3, 2)), (true, Terms::system(5, 9, 7, 2)), (true, Terms::determinant(5, 9, 7, 2))];
+    for (is_system, t) in sorts {
         let plan = plan(writer, random, is_system, t);
         for (stage, step) in plan.steps().iter().enumerate().skip(1) {
             anew(writer, &plan, stage);
@@ -63,7 +64,8 @@ fn cut(writer: &mut Writer, plan: &Plan, step: Step) {
 fn made_up(writer: &mut Writer, random: &mut Random, plan: &Plan, step: Step) {
     let at = plan.place(step) * PLACE;
     let old = writer.machine.words(RECORDS, at as u32, 280);
-    for (end, due) in [(None, None), (Some(0), Some(2)), (Some(1), Some(2)), (Some(2), Some(2)), (Some(3), Some(5)), (Some(4), Some(4))] {
+    let kept = [(0, 2), (1, 2), (2, 2), (3, 5), (3, 6), (4, 4)].map(|(end, due)| (Some(end), Some(due)));
+    for (end, due) in [(None, None)].into_iter().chain(kept) {
         writer.say(&[1, RECORDS as u32, at as u32, 280, random.from(1, 60_000), 0]);
         for (i, value) in [(0, end), (7, due)] {
             if let Some(value) = value {

@@ -3,7 +3,7 @@
 use super::writer::Writer;
 use crate::machine::*;
 
-const SIDES: [[u32; 3]; 22] = [
+const SIDES: [[u32; 3]; 27] = [
     [1, 1, 1],
     [1, 2048, 1],
     [32, 64, 32],
@@ -22,6 +22,11 @@ const SIDES: [[u32; 3]; 22] = [
     [2, 2, 3],
     [2, 2, 2],
     [2, 3, 3],
+    [2, 3, 2],
+    [2, 2, 1],
+    [2, 2, 4],
+    [16, 16, 16],
+    [17, 17, 17],
     [0, 0, 1],
     [65_536, 65_536, 1],
     [u32::MAX, u32::MAX, 0],
@@ -88,7 +93,7 @@ pub fn with(values: &[(usize, u32)]) -> Registers {
 
 fn sizes(writer: &mut Writer) {
     for [m, k, p] in SIDES {
-        for end in [0, 1, 2, 3, 4, 5, u32::MAX] {
+        for end in [0, 1, 2, 3, 4, 5, 6, 7, u32::MAX] {
             let r = with(&[(7, 7), (8, m), (9, k), (10, p), (11, end)]);
             for call in TAPE_WORDS..=DEAL_COUNT {
                 writer.call(call, &r);
@@ -96,8 +101,8 @@ fn sizes(writer: &mut Writer) {
         }
     }
     for q in MODULI {
-        for kind in [1, 2, 3, 4, 5, 6, 1 << 31] {
-            for [m, k, p] in [[2, 2, 3], [1, 1, 2]] {
+        for kind in [1, 2, 3, 4, 5, 6, 7, 1 << 31] {
+            for [m, k, p] in [[2, 2, 3], [1, 1, 2], [2, 2, 2], [1, 1, 1], [16, 16, 16]] {
                 writer.call(LINE_BYTES, &with(&[(7, q), (8, m), (9, k), (10, p), (11, kind)]));
             }
         }
