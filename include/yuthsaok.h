@@ -1,8 +1,9 @@
 /* Yuthsaok: two-party linear algebra with a dealer. Every entry of the archive libhost.a (x86-64 Linux), for C and C++.
  *
  * Two ends hold a private matrix each. In a product session each gets a share, and the shares add to the product modulo q; in a system session
- * the blinder learns the solution z of (L + M) z = x + y. A dealer hands out a tape for each session beforehand. docs/EMBEDDING.md goes from
- * here to a running app, docs/HOSTS.md has a host's duties in one page, docs/RULES.md sections 11 and 12 have every rule.
+ * the blinder learns the solution z of (L + M) z = x + y; in a determinant session, which is a system's with p = n and without x and y, it learns
+ * the determinant of L + M. A dealer hands out a tape for each session beforehand. docs/EMBEDDING.md goes from here to a running app,
+ * docs/HOSTS.md has a host's duties in one page, docs/RULES.md sections 11 and 12 have every rule.
  *
  * SLICES. A slice is a pointer to bytes and then its length in bytes. A slice of length 0 may have any pointer, also NULL.
  *   No two slices of one call may overlap. Nothing checks this, and nothing is promised of such a call: with one buffer as line and as result
@@ -12,8 +13,8 @@
  *   in bytes, and of these slices whole words, also where a step has no use of one; slot sizes (`size`), and sizes whose names end in _WORDS or
  *   _words, are in words.
  * LINES. Messages are lines of text: kind, session, tape, q, m, k, p and then residues, in decimal, with commas between and byte 10 at the end.
- * ANSWERS. 0: done. Else the number of the lowest refusal that applies, the other numbers are 0, and no byte that was lent has changed; the one exception is
- *   YUTHSAOK_SINGULAR from the solver's last step, which closes its session and spends its tape.
+ * ANSWERS. 0: done. Else the number of the lowest refusal that applies, the other numbers are 0, and no byte that was lent has changed; the one
+ *   exception is YUTHSAOK_SINGULAR from the solver's last step of a system, which closes its session and spends its tape.
  * No entry keeps a pointer, allocates, locks, or looks at anything that it was not handed. One takes at most 64 KiB of stack (measured). Calls on
  *   different records, pools, scratches and buffers may run at the same time.
  */
@@ -35,21 +36,21 @@ extern "C" {
 
 /* ---- version */
 
-#define YUTHSAOK_VERSION 200 /* 10,000 * major + 100 * minor + patch; yuthsaok_version() tells the archive's */
-#define YUTHSAOK_VERSION_TEXT "0.2.0"
+#define YUTHSAOK_VERSION 300 /* 10,000 * major + 100 * minor + patch; yuthsaok_version() tells the archive's */
+#define YUTHSAOK_VERSION_TEXT "0.3.0"
 
 /* ---- numbers that calls take */
 
 enum { /* sorts of tapes */
     YUTHSAOK_PRODUCT = 0,
-    YUTHSAOK_SYSTEM = 1
+    YUTHSAOK_SYSTEM = 1 /* p = n + 1: a system; p = n: a determinant */
 };
 
 enum { /* ends */
     YUTHSAOK_LEFT = 1,    /* of a product: has X */
     YUTHSAOK_RIGHT = 2,   /* of a product: has Y */
-    YUTHSAOK_BLINDER = 3, /* of a system: has M and y, learns z */
-    YUTHSAOK_SOLVER = 4   /* of a system: has L and x */
+    YUTHSAOK_BLINDER = 3, /* of a system: has M and y, learns z; of a determinant: has M, learns the determinant */
+    YUTHSAOK_SOLVER = 4   /* of a system: has L and x; of a determinant: has L */
 };
 
 enum { /* statuses: word 0 of a tape */
@@ -84,14 +85,15 @@ enum { /* kinds of messages: the first number of a line */
     YUTHSAOK_KIND_Y1 = 1,    /* right to left, solver to blinder: k*p residues */
     YUTHSAOK_KIND_X1_R1 = 2, /* left to right, blinder to solver: m*k + m*p residues */
     YUTHSAOK_KIND_F = 3,     /* solver to blinder: n*n residues */
-    YUTHSAOK_KIND_W_C = 4,   /* blinder to solver: n*n + n residues */
-    YUTHSAOK_KIND_T = 5      /* solver to blinder: n residues */
+    YUTHSAOK_KIND_W_C = 4,   /* blinder to solver: n*n + n residues; of a determinant W alone, n*n */
+    YUTHSAOK_KIND_T = 5,     /* of a system, solver to blinder: n residues */
+    YUTHSAOK_KIND_D = 6      /* of a determinant, solver to blinder: 1 residue */
 };
 
 enum { /* refusals: the lowest that applies is given */
     YUTHSAOK_FORM = 1,      /* form: a message is no line of numbers, or of no known kind */
     YUTHSAOK_MODULUS = 2,   /* modulus: q outside 2 to 2,147,483,647 */
-    YUTHSAOK_COMPOSITE = 3, /* composite: q is not prime, in a system */
+    YUTHSAOK_COMPOSITE = 3, /* composite: q is not prime, in a system or a determinant */
     YUTHSAOK_SIZE = 4,      /* size: a side, count, slot, length or window does not fit; a session or tape number of 0 */
     YUTHSAOK_TURN = 5,      /* turn: not the step or kind of message that is due; the session is closed, or already open */
     YUTHSAOK_MARK = 6,      /* mark: the tape's status is not the one that the call needs */
@@ -110,12 +112,12 @@ enum { /* refusals: the lowest that applies is given */
 /* ---- bounds */
 
 #define YUTHSAOK_LEAST_Q 2
-#define YUTHSAOK_MOST_Q 2147483647   /* in a system q is prime; this one is */
+#define YUTHSAOK_MOST_Q 2147483647   /* in a system and a determinant q is prime; this one is */
 #define YUTHSAOK_MOST_M 32           /* rows of X, of a product */
 #define YUTHSAOK_MOST_K 2048         /* columns of X and rows of Y */
 #define YUTHSAOK_MOST_P 32           /* columns of Y */
 #define YUTHSAOK_MOST_INPUT 2048     /* residues of X (m*k), and of Y (k*p) */
-#define YUTHSAOK_MOST_UNKNOWNS 16    /* n of a system: m = k = n, p = n + 1 */
+#define YUTHSAOK_MOST_UNKNOWNS 16    /* n of a system: m = k = n, p = n + 1; and of a determinant: m = k = p = n */
 #define YUTHSAOK_MOST_MESSAGE 3072   /* residues of a message */
 #define YUTHSAOK_MOST_DAYS 2048      /* of a run of flags or of day shares, and of a window; of one that is moved a day less */
 #define YUTHSAOK_MOST_LINE 65536     /* bytes of a line that is read, with its byte 10 */
@@ -129,20 +131,27 @@ enum { /* refusals: the lowest that applies is given */
 #define YUTHSAOK_RIGHT_WORDS(m, k, p) ((size_t)7 + (size_t)(k) * (size_t)(p) + (size_t)(m) * (size_t)(p))
 #define YUTHSAOK_BLINDER_WORDS(n) ((size_t)7 + (size_t)4 * (size_t)(n) * (size_t)(n) + (size_t)(n))
 #define YUTHSAOK_SOLVER_WORDS(n) ((size_t)7 + (size_t)4 * (size_t)(n) * (size_t)(n) + (size_t)2 * (size_t)(n))
+#define YUTHSAOK_DETERMINANT_WORDS(n) ((size_t)7 + (size_t)4 * (size_t)(n) * (size_t)(n)) /* the blinder's half, and the solver's */
 /* a slot that serves either half, and so both pools of a dealing */
 #define YUTHSAOK_PRODUCT_SLOT_WORDS(m, k, p) ((m) > (p) ? YUTHSAOK_LEFT_WORDS(m, k, p) : YUTHSAOK_RIGHT_WORDS(m, k, p))
 #define YUTHSAOK_SYSTEM_SLOT_WORDS(n) YUTHSAOK_SOLVER_WORDS(n)
+#define YUTHSAOK_DETERMINANT_SLOT_WORDS(n) YUTHSAOK_DETERMINANT_WORDS(n)
 #define YUTHSAOK_MOST_SLOT_WORDS 3079
-#define YUTHSAOK_SCRATCH_WORDS(n) ((size_t)2 * (size_t)(n) * (size_t)(n) + (size_t)(n)) /* of the blinder; no other end has one */
+/* of the blinder, in a system and in a determinant; no other end has one */
+#define YUTHSAOK_SCRATCH_WORDS(n) ((size_t)2 * (size_t)(n) * (size_t)(n) + (size_t)(n))
+#define YUTHSAOK_DETERMINANT_SCRATCH_WORDS(n) ((size_t)2 * (size_t)(n) * (size_t)(n))
 #define YUTHSAOK_MOST_SCRATCH_WORDS 528
-#define YUTHSAOK_SHARE_WORDS(m, p) ((size_t)(m) * (size_t)(p)) /* left's and right's result; the blinder's has n words */
+/* left's and right's result; the blinder's has n words in a system, and 1 in a determinant */
+#define YUTHSAOK_SHARE_WORDS(m, p) ((size_t)(m) * (size_t)(p))
 #define YUTHSAOK_MOST_RESULT_WORDS 1024
 
 /* residues that are drawn from raw words: by a first step of left or the blinder, and by a dealing */
 #define YUTHSAOK_LEFT_COINS(m, p) ((size_t)(m) * (size_t)(p))
 #define YUTHSAOK_BLINDER_COINS(n) YUTHSAOK_SCRATCH_WORDS(n)
+#define YUTHSAOK_DETERMINANT_COINS(n) YUTHSAOK_DETERMINANT_SCRATCH_WORDS(n)
 #define YUTHSAOK_PRODUCT_DRAWS(m, k, p) ((size_t)(m) * (size_t)(k) + (size_t)(k) * (size_t)(p) + (size_t)(m) * (size_t)(p))
 #define YUTHSAOK_SYSTEM_DRAWS(n) ((size_t)6 * (size_t)(n) * (size_t)(n) + (size_t)2 * (size_t)(n))
+#define YUTHSAOK_DETERMINANT_DRAWS(n) ((size_t)6 * (size_t)(n) * (size_t)(n))
 #define YUTHSAOK_MOST_DRAWS 5120
 /* raw words to bring for so many residues. Of every three words at least two are kept on the average, whatever q is; with these the chance of
  * YUTHSAOK_DRY is below 2^-60. */
@@ -159,6 +168,8 @@ enum { /* refusals: the lowest that applies is given */
 #define YUTHSAOK_F_RESIDUES(n) ((size_t)(n) * (size_t)(n))
 #define YUTHSAOK_W_C_RESIDUES(n) ((size_t)(n) * (size_t)(n) + (size_t)(n))
 #define YUTHSAOK_T_RESIDUES(n) ((size_t)(n))
+#define YUTHSAOK_W_RESIDUES(n) ((size_t)(n) * (size_t)(n)) /* of kind 4 in a determinant */
+#define YUTHSAOK_D_RESIDUES 1
 #define YUTHSAOK_LINE_BYTES(residues) ((size_t)46 + (size_t)11 * (size_t)(residues))
 #define YUTHSAOK_MOST_LINE_WRITTEN 33836 /* bytes of the longest line that an entry writes */
 
@@ -196,9 +207,9 @@ yuthsaok_report yuthsaok_deal(uint32_t sort, uint8_t *YUTHSAOK_RESTRICT first, s
 /* ---- a session */
 
 /* The first step of an end. `session` is a record of YUTHSAOK_RECORD_BYTES, of zeros or closed; `number` is the session's, `tape` the tape's. The
- * input is X, Y, or a system's matrix with its vector behind it. Left and the blinder bring raw words and take the other end's line as `message`;
- * right and the solver look at neither. `line` gets the line to send, `result` left's share. Only the blinder has a `scratch`, which may hold
- * anything before this call. */
+ * input is X, Y, a system's matrix with its vector behind it, or a determinant's matrix. Left and the blinder bring raw words and take the other
+ * end's line as `message`; right and the solver look at neither. `line` gets the line to send, `result` left's share. Only the blinder has a
+ * `scratch`, which may hold anything before this call. */
 yuthsaok_report yuthsaok_first(uint8_t *YUTHSAOK_RESTRICT session, size_t session_bytes, uint32_t end, uint8_t *YUTHSAOK_RESTRICT pool,
                                size_t pool_bytes, size_t size, size_t index, uint32_t number, uint32_t tape, uint32_t q, uint32_t m, uint32_t k,
                                uint32_t p, const uint8_t *YUTHSAOK_RESTRICT input, size_t input_bytes, const uint8_t *YUTHSAOK_RESTRICT words,
@@ -206,8 +217,8 @@ yuthsaok_report yuthsaok_first(uint8_t *YUTHSAOK_RESTRICT session, size_t sessio
                                const uint8_t *YUTHSAOK_RESTRICT message, size_t message_bytes, uint8_t *YUTHSAOK_RESTRICT line, size_t line_bytes,
                                uint8_t *YUTHSAOK_RESTRICT result, size_t result_bytes);
 
-/* The step that is due, with the line that has arrived. `result` gets right's share or the blinder's z, with the session's last step. The blinder
- * lends the same scratch to every step and to a drop; nothing checks that it is the same. */
+/* The step that is due, with the line that has arrived. `result` gets right's share, the blinder's z or its determinant, with the session's last
+ * step. The blinder lends the same scratch to every step and to a drop; nothing checks that it is the same. */
 yuthsaok_report yuthsaok_next(uint8_t *YUTHSAOK_RESTRICT session, size_t session_bytes, uint8_t *YUTHSAOK_RESTRICT pool, size_t pool_bytes,
                               size_t size, size_t index, uint8_t *YUTHSAOK_RESTRICT scratch, size_t scratch_bytes,
                               const uint8_t *YUTHSAOK_RESTRICT message, size_t message_bytes, uint8_t *YUTHSAOK_RESTRICT line, size_t line_bytes,

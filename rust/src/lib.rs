@@ -1,5 +1,6 @@
 //! Two parties work out a common answer from private records, and neither hands its records to the other: a product of two private
-//! matrices, of which each end gets a share, or the solution of a joint linear system, which one end learns.
+//! matrices, of which each end gets a share, or the solution of a joint linear system or the determinant of a joint table, which one end
+//! learns.
 //!
 //! The work is done by a proved archive that this crate links. What it needs beforehand are tapes: a third party, the dealer, makes them by
 //! [`deal`] (or the program `yuthsaok-deal`) and hands each end its pool of halves. It takes no part in a session. Of the repository's pages
@@ -65,6 +66,32 @@
 //! let fifth = solving.next(&mut solver, Slot(0), &fourth.line)?;
 //! let last = blinding.next(&mut blinder, Slot(0), &fifth.line)?;
 //! assert_eq!(last.result, [3]);
+//! # Ok::<(), Refusal>(())
+//! ```
+//!
+//! # A determinant
+//!
+//! The solver has L and the blinder has M, 2 by 2 and modulo 7, and there are no vectors. The blinder learns the determinant of L + M, here
+//! 4 × 2 − 2 × 5.
+//!
+//! ```
+//! use yuthsaok::{deal, Pool, Refusal, Session, SessionNumber, Shape, Slot, TapeNumber, Terms};
+//!
+//! let shape = Shape::Determinant { q: 7, n: 2 };
+//! let mut blinder = Pool::new(shape.slot_words(), 1);
+//! let mut solver = Pool::new(shape.slot_words(), 1);
+//! deal(&mut blinder, &mut solver, Slot(0), TapeNumber(5), shape, &(1..25).collect::<Vec<u32>>())?;
+//!
+//! let terms = Terms { session: SessionNumber(10), tape: TapeNumber(5), shape };
+//! let (mut solving, first) = Session::solver(&mut solver, Slot(0), terms, &[1, 2, 0, 1], &[])?;
+//! let words = [1, 2, 3, 5, 6, 1, 2, 3];
+//! let (mut blinding, second) = Session::blinder(&mut blinder, Slot(0), terms, &[3, 0, 5, 1], &[], &words, &first.line)?;
+//! let third = solving.next(&mut solver, Slot(0), &second.line)?;
+//! let fourth = blinding.next(&mut blinder, Slot(0), &third.line)?;
+//! let sixth = solving.next(&mut solver, Slot(0), &fourth.line)?;
+//! assert_eq!(sixth.line, b"6,10,5,7,2,2,2,3\n");
+//! let last = blinding.next(&mut blinder, Slot(0), &sixth.line)?;
+//! assert_eq!(last.result, [5]);
 //! # Ok::<(), Refusal>(())
 //! ```
 

@@ -18,9 +18,9 @@ pub enum End {
     Left = 1,
     /// Has Y of a product, and begins.
     Right = 2,
-    /// Has M and y of a system, steps second, and learns z.
+    /// Has M and y of a system, or M of a determinant, steps second, and learns z, or the determinant.
     Blinder = 3,
-    /// Has L and x of a system, and begins.
+    /// Has L and x of a system, or L of a determinant, and begins.
     Solver = 4,
 }
 
@@ -38,7 +38,7 @@ impl End {
         End::ALL.into_iter().find(|end| end.number() == number)
     }
 
-    /// Whether it is an end of a system, and not of a product.
+    /// Whether it is an end of a system or a determinant, and not of a product.
     pub fn is_of_system(self) -> bool {
         matches!(self, End::Blinder | End::Solver)
     }

@@ -58,15 +58,15 @@ pub struct Tape {
     pub status: Status,
     /// Its number.
     pub number: TapeNumber,
-    /// 0 for a product, 1 for a system.
+    /// 0 for a product, 1 for a system or a determinant.
     pub sort: u32,
     /// The modulus.
     pub q: u32,
-    /// The rows of X; the unknowns of a system.
+    /// The rows of X; the unknowns of a system, the rows of a determinant.
     pub m: u32,
-    /// The columns of X and rows of Y; the unknowns of a system.
+    /// The columns of X and rows of Y; else as m.
     pub k: u32,
-    /// The columns of Y; one more than the unknowns of a system.
+    /// The columns of Y; one more than the unknowns of a system, and as m in a determinant.
     pub p: u32,
 }
 
@@ -171,7 +171,7 @@ impl Tape {
     pub fn shape(&self) -> Option<Shape> {
         let (shape, kind) = match self.sort {
             0 => (Shape::Product { q: self.q, m: self.m, k: self.k, p: self.p }, 1),
-            1 => (Shape::System { q: self.q, n: self.m }, 3),
+            1 => (Shape::of_blinder(self.q, self.m, self.p), 3),
             _ => return None,
         };
         // A message of this kind has a line exactly where modulus and sides are in bounds.

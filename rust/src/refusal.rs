@@ -22,7 +22,7 @@ pub enum Refusal {
     Form = 1,
     /// The modulus is below 2 or above 2,147,483,647.
     Modulus = 2,
-    /// The modulus of a system is not prime.
+    /// The modulus of a system or a determinant is not prime.
     Composite = 3,
     /// A side, a count, a slot, a length or a window does not fit, or a number is 0.
     Size = 4,
@@ -76,7 +76,7 @@ impl Refusal {
         match self {
             Form => "the message is not a line of numbers as it should be, or its kind is unknown",
             Modulus => "the modulus is below 2 or above 2147483647",
-            Composite => "the modulus of a system is not prime",
+            Composite => "the modulus of a system or a determinant is not prime",
             Size => "a side, a count, a slot, a length or a window does not fit, or a number is 0",
             Turn => "this is not the step or the message that is due, or the session is closed",
             Mark => "the tape is not ready, in use or free as the call needs it",

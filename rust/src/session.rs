@@ -53,8 +53,8 @@ pub struct Session {
 pub struct Step {
     /// The line to be sent to the other end; empty where nothing is sent.
     pub line: Vec<u8>,
-    /// What the end has learned, row by row: left's or right's share, or the blinder's z; empty before an end's last step, and for the
-    /// solver, which learns nothing. It is secret.
+    /// What the end has learned, row by row: left's or right's share, the blinder's z, or of a determinant the one residue that is it; empty
+    /// before an end's last step, and for the solver, which is given nothing. It is secret.
     pub result: Vec<u32>,
     /// How many raw words were read.
     pub words_read: usize,
@@ -78,16 +78,16 @@ impl Session {
         Session::begin(End::Right, pool, slot, terms, &words::to_bytes(y), &[], &[])
     }
 
-    /// The solver's first step, with its matrix L, which must have an inverse ([`Refusal::Singular`] where it has none), and its vector x: it
-    /// gives the line for the blinder.
+    /// The solver's first step, with its matrix L, which must have an inverse ([`Refusal::Singular`] where it has none), and its vector x,
+    /// which is empty in a determinant: it gives the line for the blinder.
     pub fn solver(pool: &mut Pool, slot: Slot, terms: Terms, l: &[u32], x: &[u32]) -> Result<(Session, Step), Refusal> {
         Session::begin(End::Solver, pool, slot, terms, &system_input(terms.shape, l, x), &[], &[])
     }
 
-    /// The blinder's first step, with its matrix M, which must have an inverse, and its vector y: it takes the solver's line and gives the
-    /// blinder's. [`Shape::coin_count`] residues are drawn from the raw words, which come from a good random source and serve nothing else.
-    /// [`Refusal::Singular`] says that M or the drawn matrix P has no inverse; [`has_inverse`](crate::has_inverse) tells of M, and for
-    /// another P fresh words are needed.
+    /// The blinder's first step, with its matrix M, which must have an inverse, and its vector y, which is empty in a determinant: it takes
+    /// the solver's line and gives the blinder's. [`Shape::coin_count`] residues are drawn from the raw words, which come from a good random
+    /// source and serve nothing else. [`Refusal::Singular`] says that M or the drawn matrix P has no inverse;
+    /// [`has_inverse`](crate::has_inverse) tells of M, and for another P fresh words are needed.
     pub fn blinder(
         pool: &mut Pool,
         slot: Slot,
@@ -126,7 +126,8 @@ impl Session {
     /// The step that is due, with the line that has arrived.
     ///
     /// One refusal changes something: where the sum of the two matrices of a system has no inverse, the solver's last step gives
-    /// [`Refusal::Singular`], and the session is closed and its tape spent. Nothing is sent; the blinder then gives its session up.
+    /// [`Refusal::Singular`], and the session is closed and its tape spent. Nothing is sent; the blinder then gives its session up. The
+    /// determinant of such a sum is 0, and no step refuses it.
     pub fn next(&mut self, pool: &mut Pool, slot: Slot, message: &[u8]) -> Result<Step, Refusal> {
         let mut room = self.room_for_next();
         let report = slices::next(pool.at(slot), message, self.lend(&mut room));
@@ -158,7 +159,7 @@ impl Session {
     pub fn shape(&self) -> Shape {
         let [_, _, _, q, m, k, p, _] = self.header();
         if self.end().is_of_system() {
-            Shape::System { q, n: m }
+            Shape::of_blinder(q, m, p)
         } else {
             Shape::Product { q, m, k, p }
         }
@@ -203,8 +204,10 @@ impl Session {
     fn room_for_next(&self) -> Room {
         let (end, shape) = (self.end(), self.shape());
         match (end, self.due()) {
-            (End::Right, Some(2)) | (End::Blinder, Some(5)) => Room::new(0, shape.result_words(end)),
-            (End::Blinder | End::Solver, Some(due)) => Room::new(shape.line_bytes(due.saturating_add(1)), 0),
+            (End::Right, Some(2)) | (End::Blinder, Some(5 | 6)) => Room::new(0, shape.result_words(end)),
+            (End::Solver, Some(2)) => Room::new(shape.line_bytes(3), 0),
+            (End::Blinder, Some(3)) => Room::new(shape.line_bytes(4), 0),
+            (End::Solver, Some(4)) => Room::new(shape.line_bytes(shape.last_kind()), 0),
             _ => Room::new(0, 0),
         }
     }

@@ -5,9 +5,9 @@ use std::fmt;
 use crate::names::{End, SessionNumber, TapeNumber};
 use crate::slices;
 
-/// A product or a system, with its modulus and its sides.
+/// A product, a system or a determinant, with its modulus and its sides.
 ///
-/// The numbers may be any: where they are out of bounds the sizes are 0, and the calls refuse. So it is with an end of the other sort.
+/// The numbers may be any: where they are out of bounds the sizes are 0, and the calls refuse. So it is with an end of another sort.
 ///
 /// ```
 /// use yuthsaok::{End, Shape};
@@ -19,6 +19,7 @@ use crate::slices;
 /// assert_eq!((shape.input_words(End::Right), shape.result_words(End::Right)), (2, 1));
 /// assert_eq!(shape.tape_words(End::Solver), 0);
 /// assert_eq!(Shape::System { q: 5, n: 17 }.slot_words(), 0);
+/// assert_eq!(Shape::Determinant { q: 5, n: 3 }.result_words(End::Blinder), 1);
 /// ```
 #[derive(Clone, Copy, Debug, PartialEq, Eq, Hash)]
 pub enum Shape {
@@ -38,6 +39,13 @@ pub enum Shape {
         /// The modulus, a prime up to 2,147,483,647.
         q: u32,
         /// The unknowns, 1 to 16.
+        n: u32,
+    },
+    /// The determinant of L + M: a system without its vectors x and y. A sum without an inverse answers 0.
+    Determinant {
+        /// The modulus, a prime up to 2,147,483,647.
+        q: u32,
+        /// The rows and columns of L and of M, 1 to 16.
         n: u32,
     },
 }
@@ -65,15 +73,16 @@ impl Shape {
     /// The modulus q.
     pub fn modulus(&self) -> u32 {
         match *self {
-            Shape::Product { q, .. } | Shape::System { q, .. } => q,
+            Shape::Product { q, .. } | Shape::System { q, .. } | Shape::Determinant { q, .. } => q,
         }
     }
 
-    /// m, k and p; of a system n, n and n + 1.
+    /// m, k and p; of a system n, n and n + 1, of a determinant n, n and n.
     pub fn sides(&self) -> [u32; 3] {
         match *self {
             Shape::Product { m, k, p, .. } => [m, k, p],
             Shape::System { n, .. } => [n, n, n.saturating_add(1)],
+            Shape::Determinant { n, .. } => [n, n, n],
         }
     }
 
@@ -103,9 +112,9 @@ impl Shape {
         slices::deal_count(self.sort(), self.sides())
     }
 
-    /// The bytes of the longest line of a kind, 1 to 5; those from 3 on occur in systems alone.
+    /// The bytes of the longest line of a kind, 1 to 6; 3 and 4 occur in systems and determinants alone, 5 in systems, 6 in determinants.
     pub fn line_bytes(&self, kind: u32) -> usize {
-        if kind > 2 && !self.is_system() {
+        if kind > 2 && self.is_product() {
             return 0;
         }
         slices::line_bytes(kind, self.modulus(), self.sides())
@@ -121,11 +130,13 @@ impl Shape {
         }
     }
 
-    /// The words of what an end learns: its share of a product, or the blinder's z.
+    /// The words of what an end learns: its share of a product, the blinder's z, or its determinant.
     pub fn result_words(&self, end: End) -> usize {
         let [m, _, p] = self.fitting_sides(end);
         match end {
             End::Left | End::Right => m * p,
+            // one, where the sides are in bounds
+            End::Blinder if self.is_determinant() => m.min(1),
             End::Blinder => m,
             End::Solver => 0,
         }
@@ -133,25 +144,48 @@ impl Shape {
 
     /// Its two ends: the one that the first pool of a dealing belongs to, and the one that begins.
     pub fn ends(&self) -> [End; 2] {
-        if self.is_system() {
-            [End::Blinder, End::Solver]
-        } else {
+        if self.is_product() {
             [End::Left, End::Right]
+        } else {
+            [End::Blinder, End::Solver]
         }
     }
 
-    pub(crate) fn is_system(&self) -> bool {
-        matches!(self, Shape::System { .. })
+    fn is_product(&self) -> bool {
+        matches!(self, Shape::Product { .. })
     }
 
+    fn is_determinant(&self) -> bool {
+        matches!(self, Shape::Determinant { .. })
+    }
+
+    /// What the blinder and the solver work out by these sides: a determinant where they are a square's.
+    pub(crate) fn of_blinder(q: u32, m: u32, p: u32) -> Shape {
+        if p == m {
+            Shape::Determinant { q, n: m }
+        } else {
+            Shape::System { q, n: m }
+        }
+    }
+
+    /// The kind of the solver's last line.
+    pub(crate) fn last_kind(&self) -> u32 {
+        if self.is_determinant() {
+            6
+        } else {
+            5
+        }
+    }
+
+    /// A determinant's tapes are of a system's sort.
     pub(crate) fn sort(&self) -> u32 {
-        u32::from(self.is_system())
+        u32::from(!self.is_product())
     }
 
-    /// The sides as they are handed to the archive for an end: those of the other sort would pass as the end's own, and so they are made
+    /// The sides as they are handed to the archive for an end: those of another sort would pass as the end's own, and so they are made
     /// such as no session has.
     pub(crate) fn sides_for(&self, end: End) -> [u32; 3] {
-        if end.is_of_system() == self.is_system() {
+        if end.is_of_system() != self.is_product() {
             self.sides()
         } else {
             [0; 3]
@@ -173,6 +207,7 @@ impl fmt::Display for Shape {
             Shape::Product { q, m, k, p } => write!(f, "a product {m} by {k} by {p} modulo {q}"),
             Shape::System { q, n: 1 } => write!(f, "a system of 1 unknown modulo {q}"),
             Shape::System { q, n } => write!(f, "a system of {n} unknowns modulo {q}"),
+            Shape::Determinant { q, n } => write!(f, "a determinant {n} by {n} modulo {q}"),
         }
     }
 }

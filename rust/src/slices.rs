@@ -29,7 +29,7 @@ pub struct Numbers {
 
 /// What a first step only reads.
 pub struct Handed<'a> {
-    /// X, Y, or a system's matrix and its vector behind it, as words.
+    /// X, Y, a system's matrix and its vector behind it, or a determinant's matrix, as words.
     pub input: &'a [u8],
     /// Raw words.
     pub words: &'a [u8],
@@ -45,7 +45,7 @@ pub struct Lent<'a> {
     pub scratch: &'a mut [u8],
     /// Where the line that is sent is written.
     pub line: &'a mut [u8],
-    /// Where a share or z is written.
+    /// Where a share, z or a determinant is written.
     pub result: &'a mut [u8],
 }
 

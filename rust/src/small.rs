@@ -6,7 +6,7 @@ use crate::refusal::{done, Refusal};
 use crate::slices;
 use crate::words;
 
-/// Whether a number is prime, as the modulus of a system must be.
+/// Whether a number is prime, as the modulus of a system or a determinant must be.
 ///
 /// ```
 /// assert!(yuthsaok::is_prime(2_147_483_647));
@@ -16,8 +16,8 @@ pub fn is_prime(n: u32) -> bool {
     slices::is_prime(n) == 1
 }
 
-/// Whether an n by n matrix of residues has an inverse modulo q, as the matrices of a system must: [`Refusal::Singular`] where it has none,
-/// and a lower refusal where it is no such matrix.
+/// Whether an n by n matrix of residues has an inverse modulo q, as the matrices of a system and of a determinant must:
+/// [`Refusal::Singular`] where it has none, and a lower refusal where it is no such matrix.
 ///
 /// ```
 /// use yuthsaok::{has_inverse, Refusal};

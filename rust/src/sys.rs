@@ -44,7 +44,7 @@ pub struct Share {
 }
 
 extern "C" {
-    /// Deals a tape (sort 0 product, 1 system) into one slot of two pools.
+    /// Deals a tape (sort 0 product, 1 system, or determinant where p is m) into one slot of two pools.
     pub fn yuthsaok_deal(
         sort: u32,
         first: *mut u8,

@@ -123,6 +123,26 @@ fn a_system_is_solved_with_every_dealt_tape() {
 }
 
 #[test]
+fn a_determinant_is_worked_out_with_every_dealt_tape() {
+    let folder = Folder::new("determinant");
+    let made = "3 tapes of a determinant 2 by 2 modulo 101, numbers 1 to 3, in blinder and solver; 23 words a slot\n";
+    assert_eq!(folder.run("determinant --q 101 --rows 2 --count 3 --numbers next blinder solver"), done(made));
+    let shape = Shape::Determinant { q: 101, n: 2 };
+    let (mut blinders, mut solvers) = (folder.pool("blinder", shape), folder.pool("solver", shape));
+    for number in 1..4 {
+        let terms = Terms { session: SessionNumber(1), tape: TapeNumber(number), shape };
+        let slot = Slot(number as usize - 1);
+        let (mut solving, first) = Session::solver(&mut solvers, slot, terms, &[1, 2, 3, 4], &[]).unwrap();
+        let (mut blinding, second) = blinder(&mut blinders, slot, terms, &[5, 0, 0, 1], &[], &first.line);
+        let third = solving.next(&mut solvers, slot, &second.line).unwrap();
+        let fourth = blinding.next(&mut blinders, slot, &third.line).unwrap();
+        let sixth = solving.next(&mut solvers, slot, &fourth.line).unwrap();
+        // 6 × 5 − 2 × 3
+        assert_eq!(blinding.next(&mut blinders, slot, &sixth.line).unwrap().result, [24]);
+    }
+}
+
+#[test]
 fn files_are_for_their_owner_alone() {
     let folder = Folder::new("mode");
     folder.run(&format!("{PRODUCT} --from 1 left right"));
@@ -350,6 +370,13 @@ fn show_has_headers_and_no_matrix() {
                   0     4294967295  system  2147483647  1 unknown  ready\n\
                   1 ready, 0 in use, 0 spent, 0 empty\n";
     assert_eq!(folder.run("show solver"), done(system));
+
+    folder.run("determinant --q 101 --rows 3 --count 1 --from 7 one other");
+    let determinant = "one: 1 slot of 43 words\n\
+                       slot  number  sort         q    sides   status\n\
+                       0     7       determinant  101  3 by 3  ready\n\
+                       1 ready, 0 in use, 0 spent, 0 empty\n";
+    assert_eq!(folder.run("show one"), done(determinant));
 }
 
 #[test]
@@ -383,8 +410,8 @@ fn misuse_is_told_in_a_sentence() {
     let folder = Folder::new("misuse");
     let tail = "--count 3 --from 1 left right";
     let cases = [
-        (String::new(), "say product, system or show"),
-        ("deal".into(), "deal is none of product, system and show"),
+        (String::new(), "say product, system, determinant or show"),
+        ("deal".into(), "deal is none of product, system, determinant and show"),
         (format!("product --sides 1,30,1 {tail}"), "--q is missing"),
         (format!("product --q 31 {tail}"), "--sides is missing"),
         (format!("product --q 31 --sides 1,30 {tail}"), "--sides takes three numbers, as in 1,30,1"),
@@ -394,6 +421,11 @@ fn misuse_is_told_in_a_sentence() {
         (format!("system --q 6 --unknowns 2 {tail}"), "--q of a system is prime, and 6 is not"),
         (format!("system --q 5 --unknowns 17 {tail}"), "--unknowns is 1 to 16, and not 17"),
         (format!("system --q 5 --sides 1,1,2 {tail}"), "--sides is not known here"),
+        (format!("determinant --q 6 --rows 2 {tail}"), "--q of a determinant is prime, and 6 is not"),
+        (format!("determinant --q 5 --rows 0 {tail}"), "--rows is 1 to 16, and not 0"),
+        (format!("determinant --q 5 --rows 17 {tail}"), "--rows is 1 to 16, and not 17"),
+        (format!("determinant --q 5 {tail}"), "--rows is missing"),
+        (format!("determinant --q 5 --unknowns 2 {tail}"), "--unknowns is not known here"),
         (
             "product --q 31 --sides 1,30,1 --count 0 --from 1 a b".into(),
             "--count is at least 1, and at most 7064090 of a product 1 by 30 by 1 modulo 31",

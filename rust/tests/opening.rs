@@ -1,5 +1,5 @@
 //! What an opened sum tells (docs/HOSTS.md): the count, more than the count to an end that chooses its list, and with secret factors zero or
-//! not and nothing else.
+//! not and nothing else. And what several determinants of one table tell together.
 
 mod common;
 
@@ -54,4 +54,26 @@ fn factors_leave_zero_or_not() {
             assert_eq!(sums, right, "{both} days, factor {own}");
         }
     }
+}
+
+/// The blinder's answer for L and its own M.
+fn determined(q: u32, n: u32, l: &[u32], m: &[u32]) -> u32 {
+    let shape = Shape::Determinant { q, n };
+    let [mut blinders, mut solvers] = pools(shape);
+    let (mut solving, first) = Session::solver(&mut solvers, SLOT, terms(shape), l, &[]).unwrap();
+    let (mut blinding, second) = blinder(&mut blinders, SLOT, terms(shape), m, &[], &first.line);
+    let third = solving.next(&mut solvers, SLOT, &second.line).unwrap();
+    let fourth = blinding.next(&mut blinders, SLOT, &third.line).unwrap();
+    let sixth = solving.next(&mut solvers, SLOT, &fourth.line).unwrap();
+    blinding.next(&mut blinders, SLOT, &sixth.line).unwrap().result[0]
+}
+
+/// Two tables of the blinder that differ by 1 in the first entry: of two rows the answers differ by the last entry of L + M.
+#[test]
+fn determinants_of_one_table_tell_a_minor() {
+    let q = 101;
+    let l = invertible(2, q);
+    let (one, two) = (determined(q, 2, &l, &[1, 0, 0, 1]), determined(q, 2, &l, &[2, 0, 0, 1]));
+    assert_eq!((two + q - one) % q, (l[3] + 1) % q);
+    assert_eq!(determined(q, 1, &[l[3].max(1)], &[5]), (l[3].max(1) + 5) % q);
 }

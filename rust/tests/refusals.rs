@@ -30,6 +30,13 @@ fn dealings_are_refused() {
     check_deal(Slot(0), 1, product, &words[..4], Refusal::Dry);
     check_deal(Slot(0), 1, product, &[u32::MAX; 9], Refusal::Dry);
     check_deal(Slot(0), 1, Shape::System { q: 5, n: 1 }, &[0; 8], Refusal::Singular);
+    check_deal(Slot(0), 1, Shape::Determinant { q: 0, n: 1 }, &words, Refusal::Modulus);
+    check_deal(Slot(0), 1, Shape::Determinant { q: 6, n: 1 }, &words, Refusal::Composite);
+    check_deal(Slot(0), 1, Shape::Determinant { q: 5, n: 0 }, &words, Refusal::Size);
+    check_deal(Slot(0), 1, Shape::Determinant { q: 5, n: 2 }, &words, Refusal::Size);
+    check_deal(Slot(0), 1, Shape::Determinant { q: 5, n: u32::MAX }, &words, Refusal::Size);
+    check_deal(Slot(0), 1, Shape::Determinant { q: 5, n: 1 }, &words[..5], Refusal::Dry);
+    check_deal(Slot(0), 1, Shape::Determinant { q: 5, n: 1 }, &[0; 6], Refusal::Singular);
 }
 
 #[test]
@@ -94,7 +101,7 @@ fn check_left(x: &[u32], words: &[u32], message: &[u8], refusal: Refusal) {
 fn first_steps_with_a_message_are_refused() {
     check_left(&[3, 5], &[5], b"", Refusal::Form);
     check_left(&[3, 5], &[5], &FIRST[..17], Refusal::Form);
-    check_left(&[3, 5], &[5], b"6,9,4,7,1,2,1,3,3\n", Refusal::Form);
+    check_left(&[3, 5], &[5], b"7,9,4,7,1,2,1,3,3\n", Refusal::Form);
     check_left(&[3, 5], &[5], b"1,9,4,1,1,2,1,3,3\n", Refusal::Modulus);
     check_left(&[3, 5], &[5], b"3,9,4,6,1,1,2,3\n", Refusal::Composite);
     check_left(&[3], &[5], FIRST, Refusal::Size);
@@ -122,6 +129,78 @@ fn first_steps_of_a_system_are_refused() {
     assert_eq!(begin(&[0], &[2, 1, 2], message), Err(Refusal::Singular));
     assert_eq!(begin(&[1], &[0, 1, 2], message), Err(Refusal::Singular));
     assert_eq!((blinders.into_bytes(), solvers.into_bytes()), before);
+}
+
+/// Every step of the two is refused on a tape and on terms of the other, and so is every vector in a determinant.
+#[test]
+fn systems_and_determinants_are_not_taken_for_each_other() {
+    let (system, [_, mut of_system]) = known_system();
+    let (determinant, [mut blinders, mut solvers]) = known_determinant();
+    let before = (blinders.as_bytes().to_vec(), solvers.as_bytes().to_vec());
+    assert_eq!(Session::solver(&mut of_system, SLOT, determinant, &[2], &[]), Err(Refusal::Stranger));
+    assert_eq!(Session::solver(&mut solvers, SLOT, determinant, &[2], &[3]), Err(Refusal::Size));
+    assert_eq!(Session::solver(&mut solvers, SLOT, determinant, &[], &[2]), Err(Refusal::Size));
+    assert_eq!(Session::solver(&mut solvers, SLOT, determinant, &[0], &[]), Err(Refusal::Singular));
+    // its slot is shorter than a system's half
+    assert_eq!(Session::solver(&mut solvers, SLOT, system, &[2], &[3]), Err(Refusal::Size));
+    let mut begin = |m: &[u32], y: &[u32], words: &[u32], message: &[u8]| {
+        Session::blinder(&mut blinders, SLOT, determinant, m, y, words, message).map(|_| ())
+    };
+    let message = b"1,9,4,5,1,1,1,3\n";
+    assert_eq!(begin(&[1], &[], &[2, 1], b"1,9,4,5,1,1,2,3,1\n"), Err(Refusal::Stranger));
+    assert_eq!(begin(&[1], &[1], &[2, 1], message), Err(Refusal::Size));
+    assert_eq!(begin(&[1], &[], &[2], message), Err(Refusal::Dry));
+    assert_eq!(begin(&[0], &[], &[2, 1], message), Err(Refusal::Singular));
+    assert_eq!(begin(&[1], &[], &[0, 1], message), Err(Refusal::Singular));
+    assert_eq!((blinders.into_bytes(), solvers.into_bytes()), before);
+}
+
+/// Of the last two kinds one is the system's and the other the determinant's.
+#[test]
+fn last_lines_of_the_other_sort_are_refused() {
+    for (known, l, words, due) in
+        [(known_system as fn() -> (Terms, [Pool; 2]), &[2, 3][..], &[2, 1, 2][..], Some(5)), (known_determinant, &[2], &[2, 1], Some(6))]
+    {
+        let (terms, [mut blinders, mut solvers]) = known();
+        let (mut solving, first) = Session::solver(&mut solvers, SLOT, terms, &l[..1], &l[1..]).unwrap();
+        let (mut blinding, second) = Session::blinder(&mut blinders, SLOT, terms, &l[..1], &l[1..], words, &first.line).unwrap();
+        let third = solving.next(&mut solvers, SLOT, &second.line).unwrap();
+        let fourth = blinding.next(&mut blinders, SLOT, &third.line).unwrap();
+        let last = solving.next(&mut solvers, SLOT, &fourth.line).unwrap();
+        assert_eq!(blinding.due(), due);
+        for (line, kind, refusal) in [
+            (&b"5,9,4,5,1,1,1\n"[..], None, Refusal::Size),
+            (b"5,9,4,5,1,1,1,1\n", None, Refusal::Size),
+            (b"6,9,4,5,1,1,2,1\n", None, Refusal::Size),
+            (b"5,9,4,5,1,1,2,1\n", Some(5), Refusal::Turn),
+            (b"6,9,4,5,1,1,1,1\n", Some(6), Refusal::Turn),
+            (b"7,9,4,5,1,1,1,1\n", None, Refusal::Form),
+        ] {
+            if kind != due || kind.is_none() {
+                assert_eq!(blinding.next(&mut blinders, SLOT, line), Err(refusal));
+            }
+        }
+        assert_eq!(blinding.next(&mut blinders, SLOT, &last.line).unwrap().result.len(), 1);
+    }
+}
+
+/// A host that altered P: the determinant can't be divided, and nothing changes.
+#[test]
+fn an_altered_scratch_is_refused() {
+    let (terms, [mut blinders, mut solvers]) = known_determinant();
+    let (mut solving, first) = Session::solver(&mut solvers, SLOT, terms, &[2], &[]).unwrap();
+    let (mut blinding, second) = Session::blinder(&mut blinders, SLOT, terms, &[1], &[], &[2, 1], &first.line).unwrap();
+    let third = solving.next(&mut solvers, SLOT, &second.line).unwrap();
+    let fourth = blinding.next(&mut blinders, SLOT, &third.line).unwrap();
+    let last = solving.next(&mut solvers, SLOT, &fourth.line).unwrap();
+    let right = blinding.to_bytes();
+    let mut altered = right.clone();
+    assert_eq!(std::mem::replace(&mut altered[1120], 0), 2);
+    let mut session = Session::from_bytes(&altered).unwrap();
+    let before = blinders.as_bytes().to_vec();
+    assert_eq!(session.next(&mut blinders, SLOT, &last.line), Err(Refusal::Singular));
+    assert_eq!((session.to_bytes(), blinders.as_bytes()), (altered, &before[..]));
+    assert_eq!(Session::from_bytes(&right).unwrap().next(&mut blinders, SLOT, &last.line).unwrap().result, [3]);
 }
 
 #[test]

@@ -1,9 +1,9 @@
-//! Whole sessions, kept as bytes between all steps; the drop and the singular sum.
+//! Whole sessions, kept as bytes between all steps; the drop, the singular sum, and the determinant that is zero.
 
 mod common;
 
 use common::*;
-use yuthsaok::{End, Pool, Refusal, Session, SessionNumber, Shape, Slot, Status, TapeNumber};
+use yuthsaok::{End, Head, Pool, Refusal, Session, SessionNumber, Shape, Slot, Status, TapeNumber};
 
 /// What is kept between two days.
 fn kept(session: Session, pool: Pool) -> (Session, Pool) {
@@ -89,6 +89,83 @@ fn the_blinder_learns_the_solution() {
     }
 }
 
+/// The answer of a whole session; all lines of it are of the determinant's kinds.
+fn determined(shape: Shape, l: &[u32], m: &[u32]) -> u32 {
+    let [mut blinders, mut solvers] = pools(shape);
+    let (solving, first) = Session::solver(&mut solvers, SLOT, terms(shape), l, &[]).unwrap();
+    let (mut solving, mut solvers) = kept(solving, solvers);
+    let (blinding, second) = blinder(&mut blinders, SLOT, terms(shape), m, &[], &first.line);
+    let (mut blinding, mut blinders) = kept(blinding, blinders);
+    let third = solving.next(&mut solvers, SLOT, &second.line).unwrap();
+    let (mut solving, mut solvers) = kept(solving, solvers);
+    let fourth = blinding.next(&mut blinders, SLOT, &third.line).unwrap();
+    assert_eq!((blinding.shape(), blinding.due(), fourth.result.len()), (shape, Some(6), 0));
+    let (mut blinding, mut blinders) = kept(blinding, blinders);
+    let sixth = solving.next(&mut solvers, SLOT, &fourth.line).unwrap();
+    assert_eq!((solving.is_open(), sixth.result.len()), (false, 0));
+    let last = blinding.next(&mut blinders, SLOT, &sixth.line).unwrap();
+
+    let lines = [first, second, third, fourth, sixth].map(|step| step.line);
+    assert_eq!(lines.each_ref().map(|line| Head::of(line).unwrap().kind), [1, 2, 3, 4, 6]);
+    assert!(lines.iter().all(|line| line.len() <= shape.line_bytes(Head::of(line).unwrap().kind)));
+    assert_eq!((last.line.len(), last.result.len(), blinding.is_open()), (0, 1, false));
+    assert!(blinding.to_bytes()[32..].iter().all(|byte| *byte == 0));
+    check_spent(&blinders, shape);
+    check_spent(&solvers, shape);
+    last.result[0]
+}
+
+#[test]
+fn the_blinder_learns_the_determinant() {
+    for (q, n) in [(2, 1), (5, 1), (2, 3), (3, 2), (101, 4), (2_147_483_647, 5)] {
+        let (l, m) = (invertible(n, q), invertible(n, q));
+        assert_eq!(determined(Shape::Determinant { q, n }, &l, &m), determinant(&plus(&l, &m, q), n as usize, q), "n {n} modulo {q}");
+    }
+}
+
+/// L and M that have an inverse, of 16 rows, whose sum has zeros below its diagonal, and the product of the diagonal.
+fn triangular_sum(q: u32) -> (Vec<u32>, Vec<u32>, u32) {
+    loop {
+        let (l, mut sum) = (invertible(16, q), residues(256, q));
+        (0..256).filter(|at| at / 16 > at % 16).for_each(|at| sum[at] = 0);
+        let m = plus(&sum, &less(&l, q), q);
+        if yuthsaok::has_inverse(q, 16, &m).is_ok() {
+            let product = (0..16).fold(1, |product, i| product * u64::from(sum[17 * i]) % u64::from(q));
+            return (l, m, product as u32);
+        }
+    }
+}
+
+fn less(matrix: &[u32], q: u32) -> Vec<u32> {
+    matrix.iter().map(|x| (q - x) % q).collect()
+}
+
+#[test]
+fn the_largest_determinant() {
+    let q = 2_147_483_647;
+    let (l, m, product) = triangular_sum(q);
+    assert_eq!(determined(Shape::Determinant { q, n: 16 }, &l, &m), product);
+}
+
+/// A sum without an inverse is no refusal: its determinant is 0.
+#[test]
+fn a_determinant_may_be_zero() {
+    for (q, n) in [(2, 1), (2, 3), (257, 2), (2_147_483_647, 16)] {
+        let l = invertible(n, q);
+        assert_eq!(determined(Shape::Determinant { q, n }, &l, &less(&l, q)), 0);
+    }
+    let (terms, [mut blinders, mut solvers]) = known_determinant();
+    let (mut solving, first) = Session::solver(&mut solvers, SLOT, terms, &[2], &[]).unwrap();
+    let (mut blinding, second) = Session::blinder(&mut blinders, SLOT, terms, &[3], &[], &[2, 1], &first.line).unwrap();
+    let third = solving.next(&mut solvers, SLOT, &second.line).unwrap();
+    let fourth = blinding.next(&mut blinders, SLOT, &third.line).unwrap();
+    let sixth = solving.next(&mut solvers, SLOT, &fourth.line).unwrap();
+    let lines = [first.line, second.line, third.line, fourth.line, sixth.line].concat();
+    let written = "1,9,4,5,1,1,1,3\n2,9,4,5,1,1,1,3,0\n3,9,4,5,1,1,1,4\n4,9,4,5,1,1,1,3\n6,9,4,5,1,1,1,0\n";
+    assert_eq!(String::from_utf8(lines).unwrap(), written);
+    assert_eq!(blinding.next(&mut blinders, SLOT, written[written.len() - 16..].as_bytes()).unwrap().result, [0]);
+}
+
 #[test]
 fn a_singular_sum_closes_the_solver() {
     let (terms, [mut blinders, mut solvers]) = known_system();
@@ -124,6 +201,26 @@ fn given_up_sessions_are_closed_and_their_tapes_spent() {
 }
 
 #[test]
+fn determinants_are_given_up_at_every_stage() {
+    for stage in 0..3 {
+        let (terms, [mut blinders, mut solvers]) = known_determinant();
+        let (mut solving, first) = Session::solver(&mut solvers, SLOT, terms, &[2], &[]).unwrap();
+        let (mut blinding, second) = Session::blinder(&mut blinders, SLOT, terms, &[1], &[], &[2, 1], &first.line).unwrap();
+        if stage > 0 {
+            let third = solving.next(&mut solvers, SLOT, &second.line).unwrap();
+            if stage > 1 {
+                blinding.next(&mut blinders, SLOT, &third.line).unwrap();
+            }
+        }
+        assert_eq!((solving.give_up(&mut solvers, SLOT), blinding.give_up(&mut blinders, SLOT)), (Ok(()), Ok(())));
+        assert_eq!(blinding.give_up(&mut blinders, SLOT), Err(Refusal::Turn));
+        assert!(blinding.to_bytes()[32..].iter().all(|byte| *byte == 0));
+        check_spent(&blinders, terms.shape);
+        check_spent(&solvers, terms.shape);
+    }
+}
+
+#[test]
 fn a_session_tells_its_terms() {
     let (terms, [_, mut solvers]) = known_system();
     let (session, _) = Session::solver(&mut solvers, SLOT, terms, &[2], &[3]).unwrap();
@@ -144,6 +241,12 @@ fn bytes_that_are_no_session_are_refused() {
         assert_eq!(Session::from_bytes(wrong), Err(Refusal::Size));
     }
     assert_eq!(Session::from_bytes(&[bytes, vec![0]].concat()), Err(Refusal::Size));
+
+    // a determinant's scratch is shorter
+    let (terms, [mut blinders, _]) = known_determinant();
+    let (session, _) = Session::blinder(&mut blinders, SLOT, terms, &[1], &[], &[2, 1], b"1,9,4,5,1,1,1,3\n").unwrap();
+    assert_eq!((session.to_bytes().len(), session.terms()), (1120 + 8, terms));
+    assert_eq!(Session::from_bytes(&[session.to_bytes(), vec![0; 4]].concat()), Err(Refusal::Size));
 }
 
 #[test]
@@ -186,12 +289,14 @@ fn a_half_is_spent_without_a_message() {
     check_spent(&left, product);
     check_spent(&right, product);
 
-    let system = Shape::System { q: 101, n: 2 };
-    let [mut first, mut second] = pools(system);
-    let (mut session, _) = blinder(&mut first, SLOT, terms(system), &[1, 0, 0, 1], &[0, 0], &made_up(system, 6));
-    session.give_up(&mut first, SLOT).unwrap();
-    let (mut session, _) = Session::solver(&mut second, SLOT, terms(system), &[1, 0, 0, 1], &[0, 0]).unwrap();
-    session.give_up(&mut second, SLOT).unwrap();
-    check_spent(&first, system);
-    check_spent(&second, system);
+    for (shape, vector) in [(Shape::System { q: 101, n: 2 }, &[0, 0][..]), (Shape::Determinant { q: 101, n: 2 }, &[])] {
+        let [mut first, mut second] = pools(shape);
+        let line = made_up(shape, 4 + vector.len());
+        let (mut session, _) = blinder(&mut first, SLOT, terms(shape), &[1, 0, 0, 1], vector, &line);
+        session.give_up(&mut first, SLOT).unwrap();
+        let (mut session, _) = Session::solver(&mut second, SLOT, terms(shape), &[1, 0, 0, 1], vector).unwrap();
+        session.give_up(&mut second, SLOT).unwrap();
+        check_spent(&first, shape);
+        check_spent(&second, shape);
+    }
 }

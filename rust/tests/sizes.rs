@@ -25,7 +25,7 @@ fn check_product(q: u32, m: u32, k: u32, p: u32) {
     assert_eq!((shape.result_words(End::Left), shape.result_words(End::Right)), (of(m * p), of(m * p)));
     let line = |count: u32| if fits { longest_line(q, [m, k, p], count as usize) } else { 0 };
     assert_eq!((shape.line_bytes(1), shape.line_bytes(2)), (line(k * p), line(m * k + m * p)));
-    assert_eq!([0, 3, 4, 5, 6].map(|kind| shape.line_bytes(kind)), [0; 5]);
+    assert_eq!([0, 3, 4, 5, 6, 7].map(|kind| shape.line_bytes(kind)), [0; 6]);
     assert_eq!([End::Left, End::Right].map(|end| shape.scratch_words(end)), [0; 2]);
     check_none_of(shape, [End::Blinder, End::Solver]);
 }
@@ -65,10 +65,30 @@ fn systems_have_the_sizes_of_the_rules() {
         assert_eq!(shape.deal_count(), of(6 * n * n + 2 * n));
         assert_eq!([End::Blinder, End::Solver].map(|end| shape.input_words(end)), [of(n * n + n); 2]);
         assert_eq!((shape.result_words(End::Blinder), shape.result_words(End::Solver)), (of(n), 0));
-        assert_eq!([3, 4, 5].map(|kind| shape.line_bytes(kind)), [line(n * n), line(n * n + n), line(n)]);
+        assert_eq!([3, 4, 5, 6, 7].map(|kind| shape.line_bytes(kind)), [line(n * n), line(n * n + n), line(n), 0, 0]);
         check_none_of(shape, [End::Left, End::Right]);
     }
     assert_eq!(Shape::System { q: 5, n: u32::MAX }.slot_words(), 0);
+}
+
+#[test]
+fn determinants_have_the_sizes_of_the_rules() {
+    for n in 0..=20u32 {
+        let q = 1_000_003;
+        let shape = Shape::Determinant { q, n };
+        let of = |size: u32| if (1..=16).contains(&n) { size as usize } else { 0 };
+        let line = |count: u32| if of(1) > 0 { longest_line(q, [n, n, n], count as usize) } else { 0 };
+        assert_eq!([End::Blinder, End::Solver].map(|end| shape.tape_words(end)), [of(7 + 4 * n * n); 2]);
+        assert_eq!(shape.slot_words(), of(7 + 4 * n * n));
+        assert_eq!((shape.scratch_words(End::Blinder), shape.scratch_words(End::Solver)), (of(2 * n * n), 0));
+        assert_eq!((shape.coin_count(End::Blinder), shape.coin_count(End::Solver)), (of(2 * n * n), 0));
+        assert_eq!(shape.deal_count(), of(6 * n * n));
+        assert_eq!([End::Blinder, End::Solver].map(|end| shape.input_words(end)), [of(n * n); 2]);
+        assert_eq!((shape.result_words(End::Blinder), shape.result_words(End::Solver)), (of(1), 0));
+        assert_eq!([3, 4, 5, 6, 7].map(|kind| shape.line_bytes(kind)), [line(n * n), line(n * n), 0, line(1), 0]);
+        check_none_of(shape, [End::Left, End::Right]);
+    }
+    assert_eq!(Shape::Determinant { q: 5, n: u32::MAX }.slot_words(), 0);
 }
 
 #[test]
@@ -77,6 +97,7 @@ fn a_modulus_out_of_range_has_no_line() {
         assert_eq!(Shape::Product { q, m: 1, k: 1, p: 1 }.line_bytes(1), 0);
     }
     assert_eq!(Shape::System { q: 6, n: 1 }.line_bytes(3), 0);
+    assert_eq!(Shape::Determinant { q: 6, n: 1 }.line_bytes(6), 0);
 }
 
 #[test]

@@ -89,6 +89,11 @@ static void product_sizes(uint32_t m, uint32_t k, uint32_t p) {
     }
 }
 
+// The bytes of the longest line of so many residues, in a system or a determinant.
+static size_t longest_line(uint32_t n, uint32_t columns, size_t residues) {
+    return YUTHSAOK_LINE_BYTES(residues) - 2 * (n < 10) - (columns < 10) - 2;
+}
+
 static void system_sizes(uint32_t n) {
     size_t fits = n - 1 < UNKNOWNS, residues[] = {YUTHSAOK_F_RESIDUES(n), YUTHSAOK_W_C_RESIDUES(n), YUTHSAOK_T_RESIDUES(n)};
     HOLDS(yuthsaok_tape_words(YUTHSAOK_BLINDER, n, n, n + 1) == fits * YUTHSAOK_BLINDER_WORDS(n));
@@ -100,9 +105,23 @@ static void system_sizes(uint32_t n) {
     HOLDS(yuthsaok_tape_words(YUTHSAOK_SOLVER, n, n, n + 2) == 0 && yuthsaok_tape_words(YUTHSAOK_SOLVER, n, n + 1, n + 1) == 0);
     HOLDS(!fits || (YUTHSAOK_SCRATCH_WORDS(n) <= YUTHSAOK_MOST_SCRATCH_WORDS && YUTHSAOK_SYSTEM_DRAWS(n) <= YUTHSAOK_MOST_DRAWS));
     for (uint32_t kind = YUTHSAOK_KIND_F; kind <= YUTHSAOK_KIND_T; kind++)
-        HOLDS(yuthsaok_line_bytes(kind, Q, n, n, n + 1) ==
-              fits * (YUTHSAOK_LINE_BYTES(residues[kind - 3]) - (n < 10) - (n + 1 < 10) - (n < 10) - 2));
-    HOLDS(yuthsaok_line_bytes(6, Q, n, n, n + 1) == 0 && yuthsaok_line_bytes(0, Q, n, n, n + 1) == 0);
+        HOLDS(yuthsaok_line_bytes(kind, Q, n, n, n + 1) == fits * longest_line(n, n + 1, residues[kind - YUTHSAOK_KIND_F]));
+    HOLDS(yuthsaok_line_bytes(YUTHSAOK_KIND_D, Q, n, n, n + 1) == 0 && yuthsaok_line_bytes(0, Q, n, n, n + 1) == 0);
+}
+
+static void determinant_sizes(uint32_t n) {
+    size_t fits = n - 1 < UNKNOWNS, words = fits * YUTHSAOK_DETERMINANT_WORDS(n);
+    HOLDS(yuthsaok_tape_words(YUTHSAOK_BLINDER, n, n, n) == words && yuthsaok_tape_words(YUTHSAOK_SOLVER, n, n, n) == words);
+    HOLDS(YUTHSAOK_DETERMINANT_SLOT_WORDS(n) == YUTHSAOK_DETERMINANT_WORDS(n));
+    HOLDS(yuthsaok_scratch_words(YUTHSAOK_BLINDER, n, n, n) == fits * YUTHSAOK_DETERMINANT_SCRATCH_WORDS(n));
+    HOLDS(yuthsaok_scratch_words(YUTHSAOK_SOLVER, n, n, n) == 0 && yuthsaok_coin_count(YUTHSAOK_SOLVER, n, n, n) == 0);
+    HOLDS(yuthsaok_coin_count(YUTHSAOK_BLINDER, n, n, n) == fits * YUTHSAOK_DETERMINANT_COINS(n));
+    HOLDS(yuthsaok_deal_count(YUTHSAOK_SYSTEM, n, n, n) == fits * YUTHSAOK_DETERMINANT_DRAWS(n));
+    HOLDS(yuthsaok_line_bytes(YUTHSAOK_KIND_F, Q, n, n, n) == fits * longest_line(n, n, YUTHSAOK_F_RESIDUES(n)));
+    HOLDS(yuthsaok_line_bytes(YUTHSAOK_KIND_W_C, Q, n, n, n) == fits * longest_line(n, n, YUTHSAOK_W_RESIDUES(n)));
+    HOLDS(yuthsaok_line_bytes(YUTHSAOK_KIND_T, Q, n, n, n) == 0 && yuthsaok_line_bytes(YUTHSAOK_KIND_D + 1, Q, n, n, n) == 0);
+    HOLDS(yuthsaok_line_bytes(YUTHSAOK_KIND_D, Q, n, n, n) == fits * longest_line(n, n, YUTHSAOK_D_RESIDUES));
+    HOLDS(yuthsaok_line_bytes(YUTHSAOK_KIND_D, 6, n, n, n) == 0);
 }
 
 static void sizes(void) {
@@ -110,7 +129,7 @@ static void sizes(void) {
         for (uint32_t p = 0; p <= YUTHSAOK_MOST_P + 1; p++)
             for (uint32_t k = 0; k <= K + 1; k += k < 70 || k >= K - 1 ? 1 : 19) product_sizes(m, k, p);
     product_sizes(1, K, 1), product_sizes(32, 64, 32), product_sizes(32, 65, 1), product_sizes(3, 683, 1), product_sizes(1, 683, 3);
-    for (uint32_t n = 0; n <= UNKNOWNS + 1; n++) system_sizes(n);
+    for (uint32_t n = 0; n <= UNKNOWNS + 1; n++) system_sizes(n), determinant_sizes(n);
     HOLDS(YUTHSAOK_PRODUCT_SLOT_WORDS(32, 64, 32) == YUTHSAOK_MOST_SLOT_WORDS && YUTHSAOK_SCRATCH_WORDS(16) == YUTHSAOK_MOST_SCRATCH_WORDS);
     HOLDS(YUTHSAOK_PRODUCT_DRAWS(32, 64, 32) == YUTHSAOK_MOST_DRAWS && YUTHSAOK_SHARE_WORDS(32, 32) == YUTHSAOK_MOST_RESULT_WORDS);
     HOLDS(YUTHSAOK_X1_R1_RESIDUES(32, 64, 32) == YUTHSAOK_MOST_MESSAGE);
@@ -135,15 +154,23 @@ static void draw(size_t count) {
 }
 
 // 0 is left or blinder, 1 right or solver.
-static size_t input_words(int i) { return sort ? (size_t)m * m + m : i ? (size_t)k * p : (size_t)m * k; }
+static size_t input_words(int i) { return sort ? (size_t)m * p : i ? (size_t)k * p : (size_t)m * k; }
 static uint32_t end_of(int i) { return sort ? (i ? YUTHSAOK_SOLVER : YUTHSAOK_BLINDER) : (i ? YUTHSAOK_RIGHT : YUTHSAOK_LEFT); }
-static size_t result_words(int i) { return sort ? (i ? 0 : m) : YUTHSAOK_SHARE_WORDS(m, p); }
+static size_t result_words(int i) { return sort ? (i ? 0 : p == m ? 1 : m) : YUTHSAOK_SHARE_WORDS(m, p); }
+
+static size_t draws_of(void) {
+    return sort ? (p == m ? YUTHSAOK_DETERMINANT_DRAWS(m) : YUTHSAOK_SYSTEM_DRAWS(m)) : YUTHSAOK_PRODUCT_DRAWS(m, k, p);
+}
+
+static size_t slot_words(void) {
+    return sort ? (p == m ? YUTHSAOK_DETERMINANT_SLOT_WORDS(m) : YUTHSAOK_SYSTEM_SLOT_WORDS(m)) : YUTHSAOK_PRODUCT_SLOT_WORDS(m, k, p);
+}
 
 static void begin_session(uint32_t which, uint32_t modulus, uint32_t a, uint32_t b, uint32_t c) {
-    size_t draws = which ? YUTHSAOK_SYSTEM_DRAWS(a) : YUTHSAOK_PRODUCT_DRAWS(a, b, c), bytes = 4 * YUTHSAOK_RAW_WORDS(draws);
-    yuthsaok_report r;
     sort = which, q = modulus, m = a, k = b, p = c;
-    slot = sort ? YUTHSAOK_SYSTEM_SLOT_WORDS(m) : YUTHSAOK_PRODUCT_SLOT_WORDS(m, k, p);
+    size_t draws = draws_of(), bytes = 4 * YUTHSAOK_RAW_WORDS(draws);
+    yuthsaok_report r;
+    slot = slot_words();
     memset(record, 0, sizeof record), memset(pool, 0, sizeof pool);
     put(pool[0], YUTHSAOK_TAPE_STATUS, YUTHSAOK_EMPTY), put(pool[1], YUTHSAOK_TAPE_STATUS, YUTHSAOK_EMPTY);
     do {
@@ -177,13 +204,15 @@ static yuthsaok_report first_with(int i, size_t words_of_result) {
 
 static yuthsaok_report first(int i) { return first_with(i, result_words(i)); }
 
-static yuthsaok_report next(int i) {
+static yuthsaok_report next_with(int i, size_t words_of_result) {
     size_t room = 4 * yuthsaok_scratch_words(end_of(i), m, k, p);
     yuthsaok_report r = yuthsaok_next(record[i], YUTHSAOK_RECORD_BYTES, pool[i], 4 * slot, slot, 0, room ? scratch : NULL, room, line[1 - i],
-                                      sent[1 - i], line[i], sizeof line[i], result[i], 4 * result_words(i));
+                                      sent[1 - i], line[i], sizeof line[i], result[i], 4 * words_of_result);
     sent[i] = r.bytes;
     return r;
 }
+
+static yuthsaok_report next(int i) { return next_with(i, result_words(i)); }
 
 static void sends(yuthsaok_report r, int i, uint32_t kind) {
     HOLDS(r.number == 0 && (kind ? line[i][0] == '0' + kind && line[i][r.bytes - 1] == '\n' : r.bytes == 0));
@@ -212,18 +241,18 @@ static int regular(const uint8_t *table) { return yuthsaok_has_inverse(q, m, tab
 
 static uint32_t sum_at(size_t j) { return (uint32_t)((get(input[0], j) + (uint64_t)get(input[1], j)) % q); }
 
-// Tables that have an inverse, each and together.
-static void draw_tables(void) {
+// Tables that have an inverse, each and, where it is asked for, together.
+static void draw_tables(int together) {
     uint8_t sum[4 * UNKNOWNS * UNKNOWNS];
     do {
         for (size_t j = 0; j < input_words(0); j++) put(input[0], j, any() % q), put(input[1], j, any() % q);
         for (size_t j = 0; j < (size_t)m * m; j++) put(sum, j, sum_at(j));
-    } while (!regular(input[0]) || !regular(input[1]) || !regular(sum));
+    } while (!regular(input[0]) || !regular(input[1]) || (together && !regular(sum)));
 }
 
 static void system_of(uint32_t modulus, uint32_t n) {
     begin_session(YUTHSAOK_SYSTEM, modulus, n, n, n + 1);
-    draw_tables();
+    draw_tables(1);
     sends(first(1), 1, YUTHSAOK_KIND_Y1);
     while (first(0).number == YUTHSAOK_SINGULAR) continue;
     sends(next(1), 1, YUTHSAOK_KIND_F);
@@ -235,6 +264,65 @@ static void system_of(uint32_t modulus, uint32_t n) {
         for (uint32_t j = 0; j < n; j++) sum = (sum + (uint64_t)sum_at(i * n + j) * get(result[0], j)) % q;
         HOLDS(sum == sum_at(n * n + i));
     }
+}
+
+// The determinant of the sum: rows are added to each other and exchanged until zeros stand below the diagonal.
+static uint32_t determinant(void) {
+    static uint64_t a[UNKNOWNS][UNKNOWNS];
+    uint64_t product = 1;
+    for (uint32_t i = 0; i < m * m; i++) a[i / m][i % m] = sum_at(i);
+    for (uint32_t c = 0; c < m; c++)
+        for (uint32_t i = c + 1; i < m; i++)
+            while (a[i][c]) { // Euclid's steps between two rows: no inverse is needed
+                uint64_t times = a[c][c] / a[i][c];
+                for (uint32_t j = 0; j < m; j++) {
+                    uint64_t rest = (a[c][j] + (q - times % q) * a[i][j]) % q;
+                    a[c][j] = a[i][j], a[i][j] = rest;
+                }
+                product = (q - product) % q;
+            }
+    for (uint32_t c = 0; c < m; c++) product = product * a[c][c] % q;
+    return (uint32_t)product;
+}
+
+// Up to the blinder's last step, in which 6 is due.
+static void play_determinant(void) {
+    sends(first(1), 1, YUTHSAOK_KIND_Y1);
+    while (first(0).number == YUTHSAOK_SINGULAR) continue;
+    sends(next(1), 1, YUTHSAOK_KIND_F);
+    sends(next(0), 0, YUTHSAOK_KIND_W_C);
+    HOLDS(get(record[0], YUTHSAOK_RECORD_DUE) == YUTHSAOK_KIND_D);
+    sends(next(1), 1, YUTHSAOK_KIND_D);
+    HOLDS(get(pool[1], 0) == YUTHSAOK_SPENT && get(record[1], YUTHSAOK_RECORD_DUE) == 0);
+}
+
+static void determinant_of(uint32_t modulus, uint32_t n) {
+    begin_session(YUTHSAOK_SYSTEM, modulus, n, n, n);
+    draw_tables(0);
+    play_determinant();
+    HOLDS(next_with(0, 0).number == YUTHSAOK_SIZE);
+    put(result[0], 1, 77);
+    sends(next_with(0, 2), 0, 0);
+    HOLDS(get(result[0], 0) == determinant() && get(result[0], 1) == 77);
+    HOLDS(get(pool[0], 0) == YUTHSAOK_SPENT);
+    for (size_t i = 0; i < YUTHSAOK_DETERMINANT_SCRATCH_WORDS(n); i++) HOLDS(get(scratch, i) == 0);
+}
+
+// M is -L: the sum is zeros, which is no refusal. Before, a P that a host has altered: refused, and nothing changes.
+static void zero_determinant(uint32_t modulus, uint32_t n) {
+    static uint8_t kept[sizeof scratch], half[sizeof pool[0]], open[sizeof record[0]];
+    begin_session(YUTHSAOK_SYSTEM, modulus, n, n, n);
+    draw_tables(0);
+    for (size_t j = 0; j < input_words(0); j++) put(input[0], j, (q - get(input[1], j)) % q);
+    play_determinant();
+    memcpy(kept, scratch, sizeof kept), memcpy(half, pool[0], sizeof half), memcpy(open, record[0], sizeof open);
+    for (uint32_t j = 0; j < n; j++) put(scratch, j, 0);
+    HOLDS(next(0).number == YUTHSAOK_SINGULAR);
+    HOLDS(memcmp(half, pool[0], sizeof half) == 0 && memcmp(open, record[0], sizeof open) == 0);
+    memcpy(scratch, kept, sizeof kept);
+    put(result[0], 0, 77);
+    sends(next(0), 0, 0);
+    HOLDS(get(result[0], 0) == 0);
 }
 
 // ---- refusals, the drop, small entries; slices of no bytes
@@ -375,6 +463,8 @@ int main(void) {
     number = YUTHSAOK_MOST_NUMBER;
     product(7, 1, 2, 1), product(367, 1, 366, 1), product(Q, 2, 3, 4), product(Q, 32, 64, 32), product(Q, 1, K, 1), product(6, 3, 5, 2);
     system_of(5, 1), system_of(101, 3), system_of(Q, UNKNOWNS);
+    determinant_of(2, 1), determinant_of(5, 1), determinant_of(2, 4), determinant_of(101, 3), determinant_of(Q, UNKNOWNS);
+    zero_determinant(2, 1), zero_determinant(257, 2), zero_determinant(Q, UNKNOWNS);
     windows();
     printf("C: %lu checks hold, version %s\n", checks, YUTHSAOK_VERSION_TEXT);
     return 0;

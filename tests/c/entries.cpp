@@ -1,4 +1,5 @@
-// Every entry of yuthsaok.h called from C++: README's product, a system of one unknown, the small entries, and windows of days.
+// Every entry of yuthsaok.h called from C++: README's product, a system of one unknown, a determinant of two rows, the small entries, and
+// windows of days.
 #include "yuthsaok.h"
 #include <cstdio>
 #include <cstdlib>
@@ -87,6 +88,23 @@ void system_of_one() {
     holds(blinder.result[0] == 3, "z");
 }
 
+// L + M is 4, 2 and 5, 2; modulo 7 its determinant is 5.
+void determinant_of_two() {
+    End blinder, solver;
+    blinder.lay(YUTHSAOK_DETERMINANT_SLOT_WORDS(2)), solver.lay(blinder.slot);
+    blinder.scratch.assign(4 * YUTHSAOK_DETERMINANT_SCRATCH_WORDS(2), 0);
+    Bytes raw = bytes({1, 2, 3, 4, 5, 6, 7, 8, 9, 10, 11, 12, 13, 14, 15, 16, 17, 18, 19, 20, 21, 22, 23, 24});
+    auto dealt = yuthsaok_deal(YUTHSAOK_SYSTEM, blinder.pool.data(), blinder.pool.size(), solver.pool.data(), solver.pool.size(), blinder.slot, 0,
+                               4, 7, 2, 2, 2, raw.data(), raw.size());
+    holds(dealt.number == 0 && dealt.read == YUTHSAOK_DETERMINANT_DRAWS(2), "a determinant's tape is dealt");
+    solver.first(YUTHSAOK_SOLVER, 7, 2, 2, 2, bytes({1, 2, 0, 1}), {}, "");
+    blinder.first(YUTHSAOK_BLINDER, 7, 2, 2, 2, bytes({3, 0, 5, 1}), bytes({1, 2, 3, 5, 6, 1, 2, 3}), solver.line);
+    solver.next(blinder.line), blinder.next(solver.line), solver.next(blinder.line);
+    holds(solver.line == "6,9,4,7,2,2,2,3\n", "the determinant of W + V");
+    blinder.next(solver.line);
+    holds(blinder.result[0] == 5 && blinder.result[4] == 0, "the determinant of L + M");
+}
+
 void small() {
     std::uint8_t word[YUTHSAOK_REFUSAL_WORD_BYTES];
     Bytes one = bytes({1});
@@ -114,6 +132,6 @@ void windows() {
 } // namespace
 
 int main() {
-    product(), system_of_one(), small(), windows();
+    product(), system_of_one(), determinant_of_two(), small(), windows();
     std::printf("C++: sessions, small entries and windows as they should be\n");
 }

@@ -46,6 +46,11 @@ pub fn known_system() -> (Terms, [Pool; 2]) {
     known(Shape::System { q: 5, n: 1 }, &[1, 4, 2, 0, 3, 3, 2, 1])
 }
 
+/// A determinant whose L 2 and M 1 or 3 answer 3 or 0.
+pub fn known_determinant() -> (Terms, [Pool; 2]) {
+    known(Shape::Determinant { q: 5, n: 1 }, &[1, 4, 0, 3, 2, 1])
+}
+
 fn known(shape: Shape, words: &[u32]) -> (Terms, [Pool; 2]) {
     let mut first = Pool::new(shape.slot_words(), 2);
     let mut second = Pool::new(shape.slot_words(), 2);
@@ -61,6 +66,17 @@ pub fn blinder(pool: &mut Pool, slot: Slot, terms: Terms, m: &[u32], y: &[u32], 
             Err(Refusal::Singular) => continue,
             done => return done.unwrap(),
         }
+    }
+}
+
+/// The determinant by minors of the first row, for few rows.
+pub fn determinant(a: &[u32], n: usize, q: u32) -> u32 {
+    let minor = |j: usize| (n..n * n).filter(|at| at % n != j).map(|at| a[at]).collect::<Vec<_>>();
+    let wide = u64::from(q);
+    let term = |j: usize| u64::from(a[j]) * u64::from(determinant(&minor(j), n - 1, q)) % wide;
+    match n {
+        0 => 1 % q,
+        _ => ((0..n).fold(0, |sum, j| sum + if j % 2 == 0 { term(j) } else { wide - term(j) }) % wide) as u32,
     }
 }
 

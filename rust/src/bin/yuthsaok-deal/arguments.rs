@@ -13,12 +13,14 @@ yuthsaok-deal makes tapes for two parties, as two files of which each party gets
 
   yuthsaok-deal product --q Q --sides M,K,P --count N (--numbers FILE | --from T) LEFT RIGHT
   yuthsaok-deal system --q Q --unknowns U --count N (--numbers FILE | --from T) BLINDER SOLVER
+  yuthsaok-deal determinant --q Q --rows R --count N (--numbers FILE | --from T) BLINDER SOLVER
   yuthsaok-deal show [--slot-words S] FILE..
   yuthsaok-deal --help | --version
 
-  --q Q           the modulus: 2 to 2147483647, and prime for a system
+  --q Q           the modulus: 2 to 2147483647, and prime for a system or a determinant
   --sides M,K,P   X is M by K and Y is K by P: M and P up to 32, K up to 2048, M*K and K*P up to 2048
   --unknowns U    the unknowns of the system, up to 16
+  --rows R        the rows, and columns, of the determinant, up to 16
   --count N       how many tapes are made; a file has at most 1 GiB
   --numbers FILE  holds the next unused tape number, and is moved on before a tape is made; made with 1 where it is missing
   --from T        the first tape number, where you keep account yourself: a number must never be used twice
@@ -72,14 +74,15 @@ pub fn parse(arguments: impl Iterator<Item = OsString>) -> Result<Command, Failu
         return Ok(Command::Help);
     }
     let Some((verb, rest)) = arguments.split_first() else {
-        return usage("say product, system or show");
+        return usage("say product, system, determinant or show");
     };
     match verb.to_str() {
         Some("--version") if rest.is_empty() => Ok(Command::Version),
         Some("product") => product(Given::sort(rest, &["--q", "--sides", "--count", "--numbers", "--from"])?),
         Some("system") => system(Given::sort(rest, &["--q", "--unknowns", "--count", "--numbers", "--from"])?),
+        Some("determinant") => determinant(Given::sort(rest, &["--q", "--rows", "--count", "--numbers", "--from"])?),
         Some("show") => show(Given::sort(rest, &["--slot-words"])?),
-        _ => usage(format!("{} is none of product, system and show", verb.display())),
+        _ => usage(format!("{} is none of product, system, determinant and show", verb.display())),
     }
 }
 
@@ -99,6 +102,11 @@ fn product(given: Given) -> Result<Command, Failure> {
 
 fn system(given: Given) -> Result<Command, Failure> {
     let shape = Shape::System { q: given.number("--q")?, n: given.number("--unknowns")? };
+    order(given, shape)
+}
+
+fn determinant(given: Given) -> Result<Command, Failure> {
+    let shape = Shape::Determinant { q: given.number("--q")?, n: given.number("--rows")? };
     order(given, shape)
 }
 
@@ -122,7 +130,9 @@ fn check_shape(shape: Shape) -> Result<(), Failure> {
     }
     match shape {
         Shape::System { .. } if !is_prime(q) => usage(format!("--q of a system is prime, and {q} is not")),
+        Shape::Determinant { .. } if !is_prime(q) => usage(format!("--q of a determinant is prime, and {q} is not")),
         Shape::System { n, .. } if shape.slot_words() == 0 => usage(format!("--unknowns is 1 to 16, and not {n}")),
+        Shape::Determinant { n, .. } if shape.slot_words() == 0 => usage(format!("--rows is 1 to 16, and not {n}")),
         Shape::Product { m, k, p, .. } if shape.slot_words() == 0 => {
             usage(format!("--sides {m},{k},{p} is out of bounds: M and P are 1 to 32, K, M*K and K*P are 1 to 2048"))
         }

@@ -28,6 +28,7 @@ fn row(tape: Tape) -> Row {
         Shape::Product { m, k, p, .. } => ("product", format!("{m} by {k} by {p}")),
         Shape::System { n: 1, .. } => ("system", "1 unknown".into()),
         Shape::System { n, .. } => ("system", format!("{n} unknowns")),
+        Shape::Determinant { n, .. } => ("determinant", format!("{n} by {n}")),
     };
     [slot, tape.number.to_string(), sort.into(), tape.q.to_string(), sides, status]
 }
