@@ -2,7 +2,7 @@
 -- TrialDivision  what trial division shows of a prime
 -- Wheel          trial division by the numbers that 2, 3 and 5 do not divide
 -- Divisors       divisors in the form that a machine's remainder has
--- Reduction      Montgomery reduction, and what a product that it gathers keeps
+-- Reduction      what a product that Montgomery reduction gathers keeps
 -- PrimeTable     a table of products has every prime up to the root
 -- Gathered       the table's entries, multiplied up
 pub mod Chain
