@@ -4,8 +4,10 @@
 -- Loading   words to the array and back
 -- Shapes    the triangle that forward elimination leads to, and the identity that back substitution does
 -- Solutions row operations keep the solutions of a system
--- Determinants  the loop that finds a determinant, turn by turn
+-- Determinants  the array's determinant: where elimination begins, and a turn of it
 -- Expansions  determinants of few rows, written out
+-- Crossings  elimination without inverses, column by column
+-- Fractions  the determinant as the fraction that it leads to
 pub mod Agree
 pub mod Turns
 pub mod Loading
@@ -13,3 +15,5 @@ pub mod Shapes
 pub mod Solutions
 pub mod Determinants
 pub mod Expansions
+pub mod Crossings
+pub mod Fractions
