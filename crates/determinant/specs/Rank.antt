@@ -4,7 +4,7 @@
 --   hasRank q n a r            whether there are such S and T
 --   rank q n a                 the largest such r
 --   kernel q n a               how many columns x have A × x = 0
--- The laws are in proofs/Rank: every matrix has a rank, and only one; proofs/Kernel: the kernel is q ^ (n − rank). `hasRank` counts over all
+-- The laws are in proofs/Rank: every matrix has a rank, and only one, and the kernel is q ^ (n − rank). `hasRank` counts over all
 -- pairs of matrices and is never run.
 use mathlib.Core.Bool.{Bool, cond}
 use mathlib.Core.List.{List, [], _∷_}
