@@ -1,6 +1,7 @@
 // What bench/matrix.c times: the inner product, the product, and a product with two matrices taken away. Each answers 0 or does nothing
 // where its arguments don't fit.
 // No function here is for hosts.
+#![tactic(auto)]
 ghost use Rattle.bench_matrix.specs.Fits.{Fits};
 
 use field::Field;

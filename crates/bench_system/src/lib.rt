@@ -1,6 +1,7 @@
 // What bench/system.c times: the six steps of a system of n unknowns, or of a determinant where p is n, on the first slot of each pool. Each answers
 // whether it is accepted. C keeps what a session keeps: s of the solver, M and y of the blinder.
 // No function here is for hosts.
+#![tactic(auto)]
 ghost use Rattle.std.specs.Prelude.{◌≤◌, length};
 
 use blinder::{blinder_determinant, blinder_first, blinder_last, blinder_second, opened};

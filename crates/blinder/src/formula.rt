@@ -10,7 +10,7 @@ use matrix::{Sides, write_deal, write_product, write_share};
 use vectors::{write_cols, write_sum};
 
 // A system modulo q of n unknowns, with rhs columns of right-hand sides.
-#[derive(Drop)]
+#[derive(Clone, Copy)]
 pub struct Unknowns {
     pub q: u32,
     pub n: usize,

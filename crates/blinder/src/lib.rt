@@ -10,6 +10,7 @@
 //   scratch_size, scratch_fits   how many residues P and U0 have, and room for them
 //   drawn_p, drawn_u0     P and U0, which stand in the scratch
 // For hosts: blinder_first, blinder_second, blinder_last, blinder_determinant, blinder_drop.
+#![tactic(auto)]
 mod det;
 mod drop;
 pub mod first;
@@ -38,7 +39,7 @@ pub use second::blinder_second;
 use vectors::{times, write_copy, write_zeros};
 
 // The session is as handed over where the step is refused; `head` is that of the message it sends.
-#[derive(Drop)]
+#[derive(Clone, Copy)]
 pub struct BlinderAnswer {
     pub answer: Answer,
     pub session: BlinderSession,

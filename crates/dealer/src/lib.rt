@@ -6,6 +6,7 @@
 //   check         the dealer's tests
 //   halves        its writers
 // For hosts: deal_product, deal_system.
+#![tactic(auto)]
 mod check;
 mod halves;
 pub mod sort;

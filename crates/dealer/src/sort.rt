@@ -12,7 +12,7 @@ use protocol::Terms;
 use tape::End;
 use vectors::times;
 
-#[derive(Drop)]
+#[derive(Clone, Copy)]
 pub enum Sort {
     Product,
     System,

@@ -5,6 +5,7 @@
 //   load_behind  the same without the first numbers
 //   put_numbers  a run of numbers as bytes, in one pass over the numbers
 //   line_length  how many bytes a run of numbers takes; digit_count: the digits of one
+#![tactic(auto)]
 ghost use Rattle.std.specs.Prelude.{◌≡◌, [], ◌∷◌, ◌++◌, ◌+◌, ◌*◌, ◌-◌, ◌^◌, ◌≤◌, ◌<◌, length, set, drop};
 ghost use Rattle.std.proofs.lemmas.List.Edits.{sets};
 ghost use Rattle.protocol.specs.declared.Numeral.TheVariants.{Empty, Value};
@@ -18,28 +19,28 @@ use protocol::Refusal;
 // ---- reading
 
 // The digits read so far as a number, and the position of the next byte.
-#[derive(Drop)]
+#[derive(Clone, Copy)]
 pub struct Run {
     pub value: u64,
     pub next: usize,
 }
 
 // What stands at a position of a line: a number with the position behind the byte that ends it, or nothing that belongs there.
-#[derive(Drop)]
+#[derive(Clone, Copy)]
 pub enum Found {
     Number(u32, usize),
     Wrong,
 }
 
 // How many numbers a line has.
-#[derive(Drop)]
+#[derive(Clone, Copy)]
 pub enum Tally {
     Numbers(usize),
     Wrong,
 }
 
 // How many words the reading of a line stored, or why none.
-#[derive(Drop)]
+#[derive(Clone, Copy)]
 pub enum Count {
     Words(usize),
     Refused(Refusal),

@@ -5,6 +5,7 @@
 // Mostly no word is thrown away. All three first look whether so, where it is to be expected, and take several words at a time then, since none
 // decides.
 // No function here is for hosts.
+#![tactic(auto)]
 ghost use Rattle.std.specs.Prelude.{◌≡◌, true, ◌*◌, ◌/◌, ◌%◌, ◌<◌, ◌≤◌, ltb, length};
 ghost use Rattle.protocol.specs.Drawing.{residues_of, drawn, words_read};
 ghost use Rattle.algebra.specs.Count.{bit};
@@ -42,7 +43,7 @@ fn all_kept(q: u32, n: usize, words: &[u32]) -> bool
 }
 
 // How many words are read up to and with the last one kept, or too few are kept.
-#[derive(Drop)]
+#[derive(Clone, Copy)]
 pub enum Reading {
     Enough(usize),
     Dry,
@@ -143,7 +144,7 @@ pub fn draw(q: u32, n: usize, words: &[u32], out: &mut [u32]) -> usize
 }
 
 // How many words were kept, and how many were read up to and with the last one kept; all of them, where too few are kept.
-#[derive(Drop)]
+#[derive(Clone, Copy)]
 pub struct Sifted {
     pub kept: usize,
     pub read: usize,

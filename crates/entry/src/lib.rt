@@ -1,4 +1,5 @@
 // The types and numbers of the entries on bytes. Their meaning stands in specs/; there is no code here.
+#![tactic(auto)]
 
 // The ends' numbers.
 pub const LEFT: u32 = 1;
@@ -10,7 +11,7 @@ pub const BLINDER: u32 = 3;
 pub const SOLVER: u32 = 4;
 
 // One session of any end (RULES 11.1): the end's number, its terms, the kind of message that is due, and what it keeps.
-#[derive(Drop)]
+#[derive(Clone, Copy)]
 pub struct Session {
     pub end: u32,
     pub terms: Terms,
@@ -20,7 +21,7 @@ pub struct Session {
 
 // What an entry answers: 0 or the number of its refusal, the raw words read, and the bytes of the line written.
 #[repr(C)]
-#[derive(Drop)]
+#[derive(Clone, Copy)]
 pub struct Report {
     pub number: u32,
     pub read: usize,

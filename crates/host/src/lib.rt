@@ -4,6 +4,7 @@
 //   yuthsaok_first, yuthsaok_next, yuthsaok_drop  a session: the first step of an end, the step that is due, the drop
 //   yuthsaok_version .. yuthsaok_refusal_word     sizes, and small tests and conversions
 //   yuthsaok_window_share .. yuthsaok_flags_fit   windows of days
+#![tactic(auto)]
 ghost use Rattle.std.specs.Prelude.{◌≡◌, [], ℕ, ℤ, pos};
 ghost use Rattle.algebra.specs.Count.{bit};
 ghost use Rattle.algebra.specs.Prime.{is_prime};

@@ -16,7 +16,7 @@ use tape::Place;
 use tape::half::half_size;
 
 // The same in both pools.
-#[derive(Drop)]
+#[derive(Clone, Copy)]
 pub struct Part {
     pub from: usize,
     pub size: usize,

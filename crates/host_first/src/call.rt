@@ -26,7 +26,7 @@ use protocol::{Head, Refusal, Terms};
 use tape::Place;
 
 // An end's number, its terms and its slot.
-#[derive(Drop)]
+#[derive(Clone, Copy)]
 pub struct Opening {
     pub end: u32,
     pub terms: Terms,

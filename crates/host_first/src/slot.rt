@@ -28,7 +28,7 @@ use tape::Place;
 use words::{bytes_known, get_words};
 
 // The end and its terms, the verdict on the entry's own tests, the raw words read, and the message's head.
-#[derive(Drop)]
+#[derive(Clone, Copy)]
 pub struct Asked {
     pub end: u32,
     pub terms: Terms,

@@ -4,6 +4,7 @@
 //   slot    a call on the bytes of its slot
 //   calls   next, drop
 // No function here is for hosts: the crate `host` has the entries.
+#![tactic(auto)]
 mod calls;
 mod slot;
 mod step;

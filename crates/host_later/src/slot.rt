@@ -24,7 +24,7 @@ use tape::Place;
 use words::bytes_known;
 
 // Whether it is the drop, the verdict on the entry's own tests, and the message's head.
-#[derive(Drop)]
+#[derive(Clone, Copy)]
 pub struct Asked {
     pub drops: bool,
     pub own: Check,

@@ -6,6 +6,7 @@
 //   store      what a step left, put back
 //   settle     the same, or the entry's own refusal
 // No function here is for hosts.
+#![tactic(auto)]
 pub mod own;
 pub mod record;
 pub mod seen;

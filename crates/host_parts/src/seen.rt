@@ -47,7 +47,7 @@ pub fn is_system(end: u32) -> bool
     end == SOLVER
 }
 
-#[derive(Drop)]
+#[derive(Clone, Copy)]
 pub struct Half {
     pub end: End,
     pub terms: Terms,
@@ -137,7 +137,7 @@ fn half_words(end: End, t: Terms) -> usize
 }
 
 // Where the words that are looked at begin, in bytes, and how many they are.
-#[derive(Drop)]
+#[derive(Clone, Copy)]
 pub struct Seen {
     pub from: usize,
     pub words: usize,

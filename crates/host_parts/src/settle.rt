@@ -13,7 +13,7 @@ use judging::Check;
 use protocol::{Answer, Head};
 
 // What decides, beside a step's answer, what it leaves.
-#[derive(Drop)]
+#[derive(Clone, Copy)]
 pub struct Settled {
     pub own: Check,
     pub sums: bool,

@@ -48,7 +48,7 @@ pub fn seen_count(count: usize) -> usize
 // ---- for a first step
 
 // The message that a first step is handed: its head, and how many of the residues.
-#[derive(Drop)]
+#[derive(Clone, Copy)]
 pub struct Opened {
     pub head: Head,
     pub count: usize,

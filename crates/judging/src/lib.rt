@@ -8,6 +8,7 @@
 //   received           what every step checks that takes a message
 //   step               what steps and drops check, whatever their end
 // No function here is for hosts.
+#![tactic(auto)]
 pub mod held;
 pub mod message;
 pub mod numbers;
@@ -23,7 +24,7 @@ use protocol::{Answer, Refusal};
 pub use step::check_input;
 
 // What a group of tests answers.
-#[derive(Drop)]
+#[derive(Clone, Copy)]
 pub enum Check {
     Passed,
     Refused(Refusal),

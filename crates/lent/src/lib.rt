@@ -7,6 +7,7 @@
 // A call is lent its record, its pool with the slot's place, and the scratch; last come the slices for the message that is sent and for the share
 // or z. What its end has no use of is not looked at. A refused call leaves the record as it was; a singular sum closes it.
 // The borrow checker covers no struct that is lent: tools/lent writes the proofs of `first`, `next` and `drop`, which look at no field.
+#![tactic(auto)]
 ghost use Rattle.std.specs.Prelude.{◌≡◌, [], length};
 ghost use Rattle.protocol.specs.Message.{message_with};
 ghost use Rattle.tape.specs.Placed.{slot_in};
@@ -18,7 +19,7 @@ use protocol::{Answer, Head, Terms};
 use session::{Done, drop_step, first_over, next_step};
 use tape::Place;
 
-#[derive(Drop)]
+#[derive(Clone, Copy)]
 pub struct Sent {
     pub answer: Answer,
     pub head: Head,

@@ -3,6 +3,7 @@
 //   parse  a line's form alone: 1; where the residues have no room, the lowest of 1 to 4 that applies to the message by itself
 //   read   all that a message shows by itself: 1, 2, 3, 4 and 8, the lowest that applies
 //   write  a message's line, judged as it is when read
+#![tactic(auto)]
 ghost use Rattle.std.specs.Prelude.{◌≡◌, List, ℕ, ◌+◌, ◌≤◌, length, take, drop};
 ghost use Rattle.algebra.specs.Words.{over};
 ghost use Rattle.protocol.specs.Judge.{reply_of};
@@ -21,21 +22,21 @@ use protocol::{Head, Refusal, SessionId, TapeId, Terms};
 use vectors::all_below;
 
 // What a line is read as: a message's head and how many residues were stored, or why none.
-#[derive(Drop)]
+#[derive(Clone, Copy)]
 pub enum Received {
     Message(Head, usize),
     Refused(Refusal),
 }
 
 // A line that was loaded: a message's head and how many residues follow; wrong where it has a fault or fewer than seven numbers.
-#[derive(Drop)]
+#[derive(Clone, Copy)]
 pub enum Loaded {
     Message(Head, usize),
     Wrong,
 }
 
 // How many bytes a message's line has, or why none was written.
-#[derive(Drop)]
+#[derive(Clone, Copy)]
 pub enum Written {
     Bytes(usize),
     Refused(Refusal),

@@ -6,6 +6,7 @@
 //   product  the product of an m by k and a k by p matrix, row by row (the crate `rows`) or from its columns
 //   formula  a product with other matrices added and taken away: what the sessions write
 // No function here is for hosts.
+#![tactic(auto)]
 mod formula;
 mod inner;
 mod product;

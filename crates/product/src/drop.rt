@@ -12,7 +12,7 @@ use tape::change::spend_at;
 use tape::{End, Place};
 
 // What a drop answers, and the session as it then is.
-#[derive(Drop)]
+#[derive(Clone, Copy)]
 pub struct RightDropped {
     pub answer: Answer,
     pub session: RightSession,

@@ -6,6 +6,7 @@
 // residues; and last the slices that it writes.
 // A step judges everything (`check`), computes what it sends and gives from what it was lent (`compute`), and changes its tape.
 // For hosts: right_first, left_step, right_last, right_drop.
+#![tactic(auto)]
 mod drop;
 pub mod first;
 mod last;
@@ -26,7 +27,7 @@ pub use left::left_step;
 use protocol::{Answer, Head, RightSession};
 
 // What a step of the right end answers: besides the answer its session, and the head of the message that it sends.
-#[derive(Drop)]
+#[derive(Clone, Copy)]
 pub struct RightAnswer {
     pub answer: Answer,
     pub session: RightSession,
@@ -34,7 +35,7 @@ pub struct RightAnswer {
 }
 
 // What left's step answers. Left keeps no session.
-#[derive(Drop)]
+#[derive(Clone, Copy)]
 pub struct LeftAnswer {
     pub answer: Answer,
     pub head: Head,

@@ -1,5 +1,6 @@
 // The rehearsal program: five lines from standard input, and what `rehearse` makes of them to standard output.
 // Five lines that can be read have at most 327,680 bytes, so of a longer input no more is read: one of its lines is too long or not ended.
+#![tactic(auto)]
 ghost use Rattle.std.specs.Prelude.{◌+◌, ◌≤◌, length};
 
 use libc::{STDIN_FILENO, STDOUT_FILENO};

@@ -3,6 +3,7 @@
 //   check     what the run's calls need of what the lines say
 //   perform   the run: dealing, and the three steps
 // For hosts: rehearse.
+#![tactic(auto)]
 mod check;
 mod perform;
 

@@ -21,7 +21,7 @@ use tape::{End, Place};
 use vectors::times;
 
 // The heads of the two messages.
-#[derive(Drop)]
+#[derive(Clone, Copy)]
 pub struct Heads {
     pub one: Head,
     pub two: Head,

@@ -10,7 +10,7 @@ use decimal::Tally;
 use protocol::{SessionId, TapeId, Terms};
 
 // What was read of two lines.
-#[derive(Drop)]
+#[derive(Clone, Copy)]
 struct Two {
     one: Tally,
     two: Tally,

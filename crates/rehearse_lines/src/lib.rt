@@ -2,11 +2,12 @@
 //   input  the five lines that it reads
 //   print  the lines that it prints
 // No function here is for hosts.
+#![tactic(auto)]
 pub mod input;
 pub mod print;
 
 // How many numbers the last four lines have.
-#[derive(Drop)]
+#[derive(Clone, Copy)]
 pub struct Counts {
     pub x: usize,
     pub y: usize,
@@ -15,7 +16,7 @@ pub struct Counts {
 }
 
 // All five lines can be read, and the first has six numbers, or not.
-#[derive(Drop)]
+#[derive(Clone, Copy)]
 pub enum Lines {
     Read(Counts),
     Wrong,

@@ -7,6 +7,7 @@
 // A call is given its pool and the place of its slot; the scratch; its terms or its record; the inputs; the message that it takes; and
 // last the slices that it writes. What its end has no use of is not looked at.
 // No function here is for hosts: `lent` has the calls over a record that is lent, and the crate `host` those on bytes.
+#![tactic(auto)]
 mod drop;
 mod first;
 mod next;
@@ -26,7 +27,7 @@ pub use next::next_step;
 pub use open::first_over;
 use protocol::{Answer, Head};
 
-#[derive(Drop)]
+#[derive(Clone, Copy)]
 pub struct Done {
     pub answer: Answer,
     pub session: Session,

@@ -1,11 +1,12 @@
 // The bounds on the sides, residues and unknowns of matrices.
 //   Matrix   the bounds; sides_fit, system_sides_fit: of a product, and of a system or its determinant; unknowns_fit
 // No function here is for hosts.
+#![tactic(auto)]
 ghost use Rattle.std.specs.Prelude.{◌≡◌};
 ghost use Rattle.protocol.specs.Bounds.{within, most_unknowns, sides_fit, product, system};
 
 // What the bounds on matrices belong to.
-#[derive(Drop)]
+#[derive(Clone, Copy)]
 pub struct Matrix {}
 
 impl Matrix {

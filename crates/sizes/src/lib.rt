@@ -4,6 +4,7 @@
 //   line     the longest line of a kind
 //   inverse  a square matrix, judged
 //   text     a word over a slice
+#![tactic(auto)]
 mod counts;
 mod inverse;
 mod line;
@@ -124,14 +125,14 @@ pub fn host_has_inverse(q: u32, n: u32, matrix: &[u8]) -> u32
 // ---- scores
 
 #[repr(C)]
-#[derive(Drop)]
+#[derive(Clone, Copy)]
 pub struct Residue {
     pub number: u32,
     pub residue: u32,
 }
 
 #[repr(C)]
-#[derive(Drop)]
+#[derive(Clone, Copy)]
 pub struct Score {
     pub number: u32,
     pub score: i32,

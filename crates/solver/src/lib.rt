@@ -10,6 +10,7 @@
 // A step is given its pool and the place of its slot; its terms or its session; its inputs; the message that it takes, a head and
 // residues; and last the slice that it writes.
 // For hosts: solver_first, solver_second, solver_last, solver_determinant, solver_drop.
+#![tactic(auto)]
 mod det;
 mod drop;
 pub mod first;
@@ -35,7 +36,7 @@ use protocol::{Answer, Head, SolverSession, Terms};
 pub use second::solver_second;
 
 // What a step of the solver answers: besides the answer its session, and the head of the message that it sends.
-#[derive(Drop)]
+#[derive(Clone, Copy)]
 pub struct SolverAnswer {
     pub answer: Answer,
     pub session: SolverSession,
@@ -43,7 +44,7 @@ pub struct SolverAnswer {
 }
 
 // What its drop answers, and the session as it then is.
-#[derive(Drop)]
+#[derive(Clone, Copy)]
 pub struct SolverDropped {
     pub answer: Answer,
     pub session: SolverSession,

@@ -6,6 +6,7 @@
 //   half                     the sizes and places of a half's matrices, and its tests
 //   change                   the changes of a status
 // No function here is for hosts.
+#![tactic(auto)]
 pub mod change;
 pub mod half;
 pub mod header;
@@ -15,7 +16,7 @@ ghost use Rattle.protocol.specs.Tape.{is_slot, slot_words};
 ghost use Rattle.tape.specs.Placed.{slot_in};
 
 // The four ends.
-#[derive(Drop)]
+#[derive(Clone, Copy)]
 pub enum End {
     Left,
     Right,
@@ -24,7 +25,7 @@ pub enum End {
 }
 
 // Where a slot lies in its pool, which is cut into slots of one size.
-#[derive(Drop)]
+#[derive(Clone, Copy)]
 pub struct Place {
     pub size: usize,
     pub index: usize,

@@ -5,6 +5,7 @@
 // line. Slices are printed whole, with what keeps its value: 77 in words, dots in bytes.
 //   put ..    what is printed
 //   show ..   an entry's answer, a case, all cases
+#![tactic(auto)]
 ghost use Rattle.std.specs.Prelude.{◌≤◌, length};
 
 use decimal::Count;

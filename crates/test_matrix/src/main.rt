@@ -1,5 +1,6 @@
 // Prints products, sums and differences at the edges. A line has a name, the first and the last word written, the word after it, and a
 // digest of the whole slice, whose words past the count keep their value. The expected lines were worked out by another program.
+#![tactic(auto)]
 ghost use Rattle.std.specs.Prelude.{◌*◌, ◌<◌, ◌≤◌, length};
 ghost use Rattle.rows.specs.Shape.{Shape};
 

@@ -1,5 +1,6 @@
 // Runs `rehearse` on each of the files in data/ and prints the file's name and what the rehearsal prints.
 // The file stdout has what the second implementation printed.
+#![tactic(auto)]
 use libc::STDOUT_FILENO;
 
 fn run(name: &[u8]) {

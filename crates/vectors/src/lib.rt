@@ -5,6 +5,7 @@
 //   entries  sum, difference, negative, copy and zeros, entry by entry, of any words
 //   columns  the words of a matrix, its columns, and two matrices side by side
 // No function here is for hosts.
+#![tactic(auto)]
 mod columns;
 mod entries;
 mod residues;

@@ -22,7 +22,7 @@ use words::{get_words, word_at};
 
 // The number of an answer, and the share: 0 at a refusal.
 #[repr(C)]
-#[derive(Drop)]
+#[derive(Clone, Copy)]
 pub struct Share {
     pub number: u32,
     pub share: u32,

@@ -3,6 +3,7 @@
 //   fits    which moduli, windows and runs fit
 //   days    the days that a call uses: residues, their sum, and a move
 //   bytes   the entries on bytes
+#![tactic(auto)]
 mod bytes;
 mod days;
 mod fits;
