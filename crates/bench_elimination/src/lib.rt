@@ -1,6 +1,7 @@
 // What bench/elimination.c times: whether a matrix has an inverse, its determinant, and the solution of a system. C hands over what is asked here.
 // No function here is for hosts.
 #![tactic(auto)]
+
 ghost use Rattle.std.specs.Prelude.{◌≡◌, true, ◌*◌, ◌≤◌, ◌<◌, length};
 ghost use Rattle.algebra.specs.Matrix.{Residues};
 ghost use Rattle.algebra.specs.Prime.{is_prime};

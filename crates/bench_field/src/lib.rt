@@ -1,6 +1,7 @@
 // What bench/field.c times: the prime test, and a run of inverses.
 // No function here is for hosts.
 #![tactic(auto)]
+
 ghost use Rattle.std.specs.Prelude.{◌≡◌};
 ghost use Rattle.algebra.specs.Prime.{is_prime};
 

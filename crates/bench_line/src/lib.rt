@@ -1,6 +1,7 @@
 // What bench/line.c times: a message line read and written, with all checks.
 // No function here is for hosts.
 #![tactic(auto)]
+
 use line::{Received, Written};
 use protocol::{Head, SessionId, TapeId, Terms};
 

@@ -2,6 +2,7 @@
 // where its arguments don't fit.
 // No function here is for hosts.
 #![tactic(auto)]
+
 ghost use Rattle.bench_matrix.specs.Fits.{Fits};
 
 use field::Field;

@@ -1,6 +1,7 @@
 // What bench/product.c times: the steps of a product session with the number 9 on the tape 4 in the first slot of its pool, and message lines.
 // No function here is for hosts.
 #![tactic(auto)]
+
 use field::Field;
 use line::{Received, Written};
 use product::{left_step, right_first, right_last};

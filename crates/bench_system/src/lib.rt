@@ -2,6 +2,7 @@
 // whether it is accepted. C keeps what a session keeps: s of the solver, M and y of the blinder.
 // No function here is for hosts.
 #![tactic(auto)]
+
 ghost use Rattle.std.specs.Prelude.{◌≤◌, length};
 
 use blinder::{blinder_determinant, blinder_first, blinder_last, blinder_second, opened};

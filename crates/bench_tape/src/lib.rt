@@ -1,6 +1,7 @@
 // What bench/tape.c times: dealing. Each answers the words read, or 0 where the dealing is refused.
 // No function here is for hosts.
 #![tactic(auto)]
+
 use protocol::{Answer, TapeId};
 use tape::Place;
 

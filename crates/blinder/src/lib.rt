@@ -11,6 +11,7 @@
 //   drawn_p, drawn_u0     P and U0, which stand in the scratch
 // For hosts: blinder_first, blinder_second, blinder_last, blinder_determinant, blinder_drop.
 #![tactic(auto)]
+
 mod det;
 mod drop;
 pub mod first;

@@ -7,6 +7,7 @@
 //   halves        its writers
 // For hosts: deal_product, deal_system.
 #![tactic(auto)]
+
 mod check;
 mod halves;
 pub mod sort;

@@ -6,6 +6,7 @@
 //   put_numbers  a run of numbers as bytes, in one pass over the numbers
 //   line_length  how many bytes a run of numbers takes; digit_count: the digits of one
 #![tactic(auto)]
+
 ghost use Rattle.std.specs.Prelude.{◌≡◌, [], ◌∷◌, ◌++◌, ◌+◌, ◌*◌, ◌-◌, ◌^◌, ◌≤◌, ◌<◌, length, set, drop};
 ghost use Rattle.std.proofs.lemmas.List.Edits.{sets};
 ghost use Rattle.protocol.specs.declared.Numeral.TheVariants.{Empty, Value};

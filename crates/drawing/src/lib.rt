@@ -6,6 +6,7 @@
 // decides.
 // No function here is for hosts.
 #![tactic(auto)]
+
 ghost use Rattle.std.specs.Prelude.{◌≡◌, true, ◌*◌, ◌/◌, ◌%◌, ◌<◌, ◌≤◌, ltb, length};
 ghost use Rattle.protocol.specs.Drawing.{residues_of, drawn, words_read};
 ghost use Rattle.algebra.specs.Count.{bit};

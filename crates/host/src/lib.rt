@@ -5,6 +5,7 @@
 //   yuthsaok_version .. yuthsaok_refusal_word     sizes, and small tests and conversions
 //   yuthsaok_window_share .. yuthsaok_flags_fit   windows of days
 #![tactic(auto)]
+
 ghost use Rattle.std.specs.Prelude.{◌≡◌, [], ℕ, ℤ, pos};
 ghost use Rattle.algebra.specs.Count.{bit};
 ghost use Rattle.algebra.specs.Prime.{is_prime};

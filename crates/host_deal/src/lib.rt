@@ -7,6 +7,7 @@
 // Everything is done on copies, in arrays of a fixed length: a dealing that is refused changes nothing. Whatever 4 refuses is dealt into no words
 // at all, so that the dealer refuses it, by 4 or what is lower, and no test of the modulus is made twice.
 #![tactic(auto)]
+
 mod copies;
 mod part;
 

@@ -5,6 +5,7 @@
 // No function here is for hosts: the crate `host` has the entries. Later calls have a crate of their own, host_later, and a walk of their
 // own there: on one stack frame the sessions that they carry would take first steps above 64 KiB.
 #![tactic(auto)]
+
 mod call;
 mod slot;
 

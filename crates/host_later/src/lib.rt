@@ -5,6 +5,7 @@
 //   calls   next, drop
 // No function here is for hosts: the crate `host` has the entries.
 #![tactic(auto)]
+
 mod calls;
 mod slot;
 mod step;

@@ -7,6 +7,7 @@
 //   settle     the same, or the entry's own refusal
 // No function here is for hosts.
 #![tactic(auto)]
+
 pub mod own;
 pub mod record;
 pub mod seen;

@@ -9,6 +9,7 @@
 //   step               what steps and drops check, whatever their end
 // No function here is for hosts.
 #![tactic(auto)]
+
 pub mod held;
 pub mod message;
 pub mod numbers;

@@ -8,6 +8,7 @@
 // or z. What its end has no use of is not looked at. A refused call leaves the record as it was; a singular sum closes it.
 // The borrow checker covers no struct that is lent: tools/lent writes the proofs of `first`, `next` and `drop`, which look at no field.
 #![tactic(auto)]
+
 ghost use Rattle.std.specs.Prelude.{◌≡◌, [], length};
 ghost use Rattle.protocol.specs.Message.{message_with};
 ghost use Rattle.tape.specs.Placed.{slot_in};

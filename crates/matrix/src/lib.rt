@@ -7,6 +7,7 @@
 //   formula  a product with other matrices added and taken away: what the sessions write
 // No function here is for hosts.
 #![tactic(auto)]
+
 mod formula;
 mod inner;
 mod product;

@@ -7,6 +7,7 @@
 // A step judges everything (`check`), computes what it sends and gives from what it was lent (`compute`), and changes its tape.
 // For hosts: right_first, left_step, right_last, right_drop.
 #![tactic(auto)]
+
 mod drop;
 pub mod first;
 mod last;

@@ -4,6 +4,7 @@
 //   perform   the run: dealing, and the three steps
 // For hosts: rehearse.
 #![tactic(auto)]
+
 mod check;
 mod perform;
 

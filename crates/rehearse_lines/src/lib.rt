@@ -3,6 +3,7 @@
 //   print  the lines that it prints
 // No function here is for hosts.
 #![tactic(auto)]
+
 pub mod input;
 pub mod print;
 

@@ -8,6 +8,7 @@
 // last the slices that it writes. What its end has no use of is not looked at.
 // No function here is for hosts: `lent` has the calls over a record that is lent, and the crate `host` those on bytes.
 #![tactic(auto)]
+
 mod drop;
 mod first;
 mod next;

@@ -2,6 +2,7 @@
 //   Matrix   the bounds; sides_fit, system_sides_fit: of a product, and of a system or its determinant; unknowns_fit
 // No function here is for hosts.
 #![tactic(auto)]
+
 ghost use Rattle.std.specs.Prelude.{◌≡◌};
 ghost use Rattle.protocol.specs.Bounds.{within, most_unknowns, sides_fit, product, system};
 

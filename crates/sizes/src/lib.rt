@@ -5,6 +5,7 @@
 //   inverse  a square matrix, judged
 //   text     a word over a slice
 #![tactic(auto)]
+
 mod counts;
 mod inverse;
 mod line;

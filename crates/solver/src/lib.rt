@@ -11,6 +11,7 @@
 // residues; and last the slice that it writes.
 // For hosts: solver_first, solver_second, solver_last, solver_determinant, solver_drop.
 #![tactic(auto)]
+
 mod det;
 mod drop;
 pub mod first;

@@ -7,6 +7,7 @@
 //   change                   the changes of a status
 // No function here is for hosts.
 #![tactic(auto)]
+
 pub mod change;
 pub mod half;
 pub mod header;

@@ -6,6 +6,7 @@
 //   columns  the words of a matrix, its columns, and two matrices side by side
 // No function here is for hosts.
 #![tactic(auto)]
+
 mod columns;
 mod entries;
 mod residues;

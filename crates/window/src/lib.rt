@@ -4,6 +4,7 @@
 //   days    the days that a call uses: residues, their sum, and a move
 //   bytes   the entries on bytes
 #![tactic(auto)]
+
 mod bytes;
 mod days;
 mod fits;

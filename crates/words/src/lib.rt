@@ -3,6 +3,7 @@
 //   get_words, put_words  the first n words of bytes, and the bytes of n words
 //   bytes_known           for proofs alone: bytes are below 256
 #![tactic(auto)]
+
 ghost use Rattle.std.specs.Prelude.{◌≡◌, ℕ, ◌+◌, ◌*◌, ◌≤◌, ◌<◌, length, get_or, take};
 ghost use Rattle.algebra.specs.Words.{over};
 ghost use Rattle.entry.specs.Bytes.{word_of, word_at, words_of, word_bytes, bytes_of};

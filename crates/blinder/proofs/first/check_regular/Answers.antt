@@ -1,0 +1,70 @@
+-- `blinder::first::check_regular` meets its contract. Assumes nothing.
+use mathlib.Core.Path.{sym, ap, ◌∙◌}
+use Prim.Native.Nat.{ℕ, ◌*◌, ◌≤◌}
+use native.Mathlib.Omega.{arith}
+use lib.ListN.{length, length-replicate}
+use Rattle.judging.proofs.Join.{also}
+use mathlib.Core.List.{[], ◌∷◌}
+use Rattle.blinder.specs.First.{first_regular}
+use Rattle.protocol.specs.System.{regular_tests}
+use Rattle.tape.proofs.Sides.{unknowns}
+use Rattle.blinder.proofs.Known.{p-drawn, p-residues}
+use Rattle.protocol.specs.Drawing.{residues_of}
+use Rattle.drawing.proofs.Then.{drawn-count, coins-part}
+use Rattle.blinder.proofs.Kept.{square-bound, scratch-sum}
+use Rattle.blinder.proofs.first.check_regular.Goals as goal
+
+abbrev start : goal.After-times-size → goal.Start
+start c = c.before.before.before.before
+
+-- the words suffice for P
+enough : (c : goal.After-times-size) → c.times-size.result ≤ length (residues_of (start c).args.t.q (start c).args.words.now)
+enough c = omega (arith, c.times-size.ensures, scratch-sum (start c).args.t, (start c).pre.1)
+
+pub draw-requires : goal.draw-requires
+draw-requires c =
+    let told = start (goal.at.draw-requires c).After-times-size in (
+      (told.pre.0.some-q, told.pre.0.small-q),
+      enough (goal.at.draw-requires c).After-times-size,
+      omega (arith, c.times-size.ensures, square-bound told.args.t told.pre.0.sides, length-replicate {A = ℕ} 256 0),
+    )
+
+pub has_inverse-requires : goal.has_inverse-requires
+has_inverse-requires c =
+    let a = (start (goal.at.has_inverse-requires c).After-times-size).args in
+    let h = (start (goal.at.has_inverse-requires c).After-times-size).pre.0 in
+    (h.prime, h.small-q, (unknowns a.t.m a.t.k a.t.p h.sides).few, h.residues)
+
+pub slice_bounds-pm-end : goal.slice_bounds-pm-end
+slice_bounds-pm-end c =
+    let told = start (goal.at.slice_bounds-pm-end c).After-times-size in
+    omega (arith, c.times-size.ensures, square-bound told.args.t told.pre.0.sides)
+
+pub slice_bounds-has_inverse-end : goal.slice_bounds-has_inverse-end
+slice_bounds-has_inverse-end c =
+    let few = enough (goal.at.slice_bounds-has_inverse-end c).After-times-size in
+    sym (ap length (coins-part _ _ (start (goal.at.slice_bounds-has_inverse-end c).After-times-size).args.words.now _ _ few
+    c.draw.ensures.1) ∙ drawn-count _ _ _ few)
+
+pub has_inverse-requires-2 : goal.has_inverse-requires-2
+has_inverse-requires-2 c =
+    let told = c in
+    let a = told.args in
+    let h = told.requires.0 in
+    let u = coins-part _ _ a.words.now _ _ (enough (goal.at.has_inverse-requires-2 c).After-times-size) c.draw.ensures.1 in (
+      h.prime,
+      h.small-q,
+      (unknowns a.t.m a.t.k a.t.p h.sides).few,
+      rw (u, told.times-size.ensures)
+          (p-residues a.t.q (a.t.m * a.t.m) a.words.now h.some-q (omega (arith, scratch-sum a.t, told.requires.1))),
+    )
+
+pub returns : goal.returns
+unfolding first_regular regular_tests
+returns c =
+    let told = c in
+    let a = told.args in
+    let u = coins-part _ _ a.words.now _ _ (enough (goal.at.returns c).After-times-size) c.draw.ensures.1 in
+    also (_ ∷ []) _ c.worst.ensures
+    (rw c.has_inverse.ensures at c.need-own.ensures)
+    (rw (c.has_inverse-2.ensures, u, told.times-size.ensures, p-drawn a.t a.words.now) at c.need-drawn.ensures)

@@ -1,0 +1,58 @@
+-- `blinder::first::compute` meets its contract. Assumes nothing.
+use native.Mathlib.Omega.{arith}
+use lib.ListN.{length}
+use Rattle.protocol.specs.Tape.{slot_at, blinder}
+use Rattle.protocol.proofs.StepTests.{BlinderFirstFits}
+use Rattle.judging.specs.Leaves.{taken}
+use Rattle.judging.proofs.Fits.{first-placed}
+use Rattle.blinder.proofs.Kept.{square-bound, side-bound}
+use Rattle.blinder.proofs.Known.{first-known, masking-known, first-computed}
+use Rattle.blinder.proofs.first.compute.Goals as goal
+
+abbrev start : goal.After-draw-count → goal.Start
+start c = c.before.before.before.before.before.before.before.before.before.before
+
+known : (c : goal.Start) → BlinderFirstFits c.args.t (slot_at c.args.pool.now c.args.at.size c.args.at.index) (length c.args.scratch.now)
+    c.args.mm.now c.args.y.now c.args.words.now (taken 1 c.args.t c.args.residues.now) (length c.args.out.now)
+known c =
+    first-known c.args.t (slot_at c.args.pool.now c.args.at.size c.args.at.index) (length c.args.scratch.now) c.args.mm.now
+    c.args.y.now (taken 1 c.args.t c.args.residues.now) (length c.args.out.now) c.args.words.now c.requires
+
+pub scratch_size-requires : goal.scratch_size-requires
+scratch_size-requires c = (known (goal.at.scratch_size-requires c).Start).first.terms.sides
+
+pub draw-count-requires : goal.draw-count-requires
+draw-count-requires c =
+    let f = known (goal.at.draw-count-requires c).Start in
+    let size = c.scratch_size.ensures in
+    ((omega (arith, f.first.terms.big), omega (arith, f.first.terms.small)), omega (arith, size, f.enough), omega (arith, size, f.scratch-room))
+
+pub matrix-x0-requires : goal.matrix-x0-requires
+matrix-x0-requires c = (first-placed blinder _ _ (known (start (goal.at.matrix-x0-requires c).After-draw-count)).first, omega arith)
+
+pub matrix-a0-requires : goal.matrix-a0-requires
+matrix-a0-requires c = (first-placed blinder _ _ (known (start (goal.at.matrix-a0-requires c).After-draw-count)).first, omega arith)
+
+pub send-requires : goal.send-requires
+send-requires c =
+    let told = c in
+    let a = (start (goal.at.send-requires c).After-draw-arg-1).args in
+    masking-known a.t _ a.scratch.now a.mm.now a.y.now a.words.now _ _ (known (start (goal.at.send-requires c).After-draw-arg-1))
+    c.matrix-x0.ensures c.matrix-a0.ensures told.scratch_size.ensures told.draw-count.ensures.1
+
+pub opened-requires : goal.opened-requires
+opened-requires c =
+    let told = c in
+    let f = known (start (goal.at.opened-requires c).After-draw-arg-1) in
+    let fits = f.first.terms.sides in
+    let t = (start (goal.at.opened-requires c).After-draw-arg-1).args.t in
+    (omega (arith, f.m-fits.size, square-bound t fits), omega (arith, f.y-fits.size, side-bound t fits))
+
+pub returns : goal.returns
+returns c =
+    let told = c in
+    let a = (start (goal.at.returns c).After-draw-arg-1).args in
+    first-computed a.t (slot_at a.pool.now a.at.size a.at.index) a.scratch.now a.mm.now a.y.now a.words.now
+    (taken 1 a.t a.residues.now) _ (known (start (goal.at.returns c).After-draw-arg-1)) c.matrix-x0.ensures
+    c.matrix-a0.ensures told.scratch_size.ensures told.draw-count.ensures.1
+    a.out.now told.draw-count.ensures.0 c.opened.ensures c.send.ensures

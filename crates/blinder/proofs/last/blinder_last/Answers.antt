@@ -1,0 +1,63 @@
+-- `blinder::last::blinder_last` meets its contract. Assumes nothing.
+use mathlib.Core.Path.{◌≡◌, sym, ap, ◌∙◌}
+use mathlib.Core.List.{[]}
+use lib.ListN.{length}
+use Rattle.protocol.specs.Tape.{slot_at, blinder}
+use Rattle.protocol.specs.Message.{Message, message_with, message_parts}
+use Rattle.protocol.specs.System.{blinder_last_effect, blinder_last_tests, blinder_last}
+use Rattle.judging.specs.InOrder.{checked, judged}
+use Rattle.judging.proofs.Fits.{open-placed}
+use Rattle.judging.proofs.Leaving.{refused-leaves, step-leaves, as-taken}
+use Rattle.blinder.proofs.Known.{last-known}
+use Rattle.blinder.proofs.Order.{last-tests}
+use Rattle.blinder.proofs.last.blinder_last.Goals as goal
+
+-- all tests passed, or the first that did not
+tests : (c : goal.After-check-checked) →
+    let a = c.args in
+    checked c.check-checked.result ≡ judged (blinder_last_tests a.s (slot_at a.pool.now a.at.size a.at.index) a.scratch.now
+    (message_with a.a a.residues.now) (length a.out.now))
+tests c =
+    let a = c.args in
+    (rw c.side_size.ensures at c.check-checked.ensures) ∙ ap judged
+    (last-tests a.s (slot_at a.pool.now a.at.size a.at.index) a.scratch.now (message_with a.a a.residues.now) (length a.out.now))
+
+pub returns-in_default : goal.returns-in_default
+unfolding blinder_last
+returns-in_default c =
+    let told = c in
+    let a = told.args in
+    let s = slot_at a.pool.now a.at.size a.at.index in
+    let m = message_with a.a a.residues.now in
+    let e = c.in_default.is in
+    rw (c.refused.ensures, e)
+    (sym (refused-leaves a.s s a.scratch.now [] a.out.now _ (blinder_last_effect a.s s a.scratch.now m) (sym (tests (goal.at.returns-in_default c).After-check-checked) ∙ ap checked e)))
+
+pub compute-done-requires : goal.compute-done-requires
+compute-done-requires c =
+    let told = c in
+    let a = told.args in
+    let s = slot_at a.pool.now a.at.size a.at.index in
+    let passed = sym (tests (goal.at.compute-done-requires c).After-side_size) ∙ ap checked told.in-Passed.is in
+    let f = last-known a.s s (message_with a.a a.residues.now) a.scratch.now (length a.out.now) passed in
+    as-taken (λ (m : Message). blinder_last_tests a.s s a.scratch.now m (length a.out.now)) f.message passed
+
+pub spend_at-requires : goal.spend_at-requires
+spend_at-requires c =
+    let told = c in
+    let a = told.args in
+    let s = slot_at a.pool.now a.at.size a.at.index in
+    let passed = sym (tests (goal.at.spend_at-requires c).After-check-checked) ∙ ap checked told.in-Passed.is in
+    open-placed blinder a.s.terms s
+    (last-known a.s s (message_with a.a a.residues.now) a.scratch.now (length a.out.now) passed).later.session-open
+
+pub returns : goal.returns
+unfolding blinder_last blinder_last_effect message_parts
+returns c =
+    let told = c in
+    let a = told.args in
+    let s = slot_at a.pool.now a.at.size a.at.index in
+    let m = message_with a.a a.residues.now in
+    step-leaves a.s s a.scratch.now [] a.out.now _ (blinder_last_effect a.s s a.scratch.now m)
+    (sym (tests (goal.at.returns c).After-check-checked) ∙ ap checked told.in-Passed.is)
+    c.compute-done.ensures c.spend_at.ensures

@@ -1,0 +1,17 @@
+-- `dealer::check::check_mask` meets its contract. Assumes nothing.
+use Rattle.dealer.specs.Groups.{mask_tests}
+use Rattle.dealer.proofs.Known.{no-mask}
+use Rattle.dealer.proofs.check.check_mask.Goals as goal
+
+pub returns-in_default : goal.returns-in_default
+returns-in_default c =
+    let a = c.args in
+    no-mask a.t a.words.now c.in_default.is
+
+pub mask_fits-requires : goal.mask_fits-requires
+mask_fits-requires c = rw c.in-System.is at c.requires
+
+pub returns : goal.returns
+unfolding mask_tests
+returns c =
+    rw c.in-System.is (rw c.mask_fits.ensures at c.need.ensures)

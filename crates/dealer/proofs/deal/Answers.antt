@@ -1,0 +1,104 @@
+-- `dealer::deal` meets its contract. Assumes nothing.
+use mathlib.Core.Path.{◌≡◌, sym, ap, ◌∙◌}
+use native.Mathlib.Omega.{arith}
+use borrow.Author.Rules.{rules}
+use lib.ListN.{length}
+use Rattle.judging.specs.InOrder.{checked}
+use Rattle.protocol.specs.Deal.{draw_size}
+use Rattle.tape.proofs.Slots.{slot-part-length}
+use Rattle.dealer.specs.Sorts.{sort, draw_count, request}
+use Rattle.dealer.proofs.Known.{deal-known}
+use Rattle.dealer.proofs.Leaving.{deal-refused, half_back, deal-done}
+use Rattle.dealer.proofs.deal.Goals as goal
+
+pub enum_told-1 : goal.enum_told-1
+enum_told-1 c = search rules
+
+pub returns-in_default : goal.returns-in_default
+returns-in_default c =
+    let a = c.args in
+    let enum-told2 = c.enum_told-in_default-1 in
+    let check = c.check-checked in
+    let r = request (sort a.s) a.t a.words.now in
+    rw (c.answer_of.ensures, enum-told2.given.1)
+    (deal-refused a.first.now a.second.now a.at.size a.at.index r (sym check.ensures ∙ ap checked enum-told2.given.1))
+
+pub overflow_mul-from : goal.overflow_mul-from
+overflow_mul-from c =
+    let a = c.args in
+    let k = deal-known _ a.t _ _ _ _ _ c.check-checked.ensures c.in-Passed.is in
+    let i = k.first-inside in
+    let j = k.second-inside in
+    search rules
+
+pub overflow_add-stop : goal.overflow_add-stop
+overflow_add-stop c =
+    let a = c.args in
+    let k = deal-known _ a.t _ _ _ _ _ c.check-checked.ensures c.in-Passed.is in
+    let i = k.first-inside in
+    let j = k.second-inside in
+    search rules
+
+pub offset_bounds-first-from : goal.offset_bounds-first-from
+offset_bounds-first-from c =
+    let a = c.args in
+    let k = deal-known _ a.t _ _ _ _ _ c.check-checked.ensures c.in-Passed.is in
+    let i = k.first-inside in
+    let j = k.second-inside in
+    search rules
+
+pub slice_bounds-write_halves-end : goal.slice_bounds-write_halves-end
+slice_bounds-write_halves-end c =
+    let a = c.args in
+    let k = deal-known _ a.t _ _ _ _ _ c.check-checked.ensures c.in-Passed.is in
+    let i = k.first-inside in
+    let j = k.second-inside in
+    search rules
+
+pub offset_bounds-second-from : goal.offset_bounds-second-from
+offset_bounds-second-from c =
+    let a = c.args in
+    let k = deal-known _ a.t _ _ _ _ _ c.check-checked.ensures c.in-Passed.is in
+    let i = k.first-inside in
+    let j = k.second-inside in
+    search rules
+
+pub slice_bounds-write_halves-end-2 : goal.slice_bounds-write_halves-end-2
+slice_bounds-write_halves-end-2 c =
+    let a = c.args in
+    let k = deal-known _ a.t _ _ _ _ _ c.check-checked.ensures c.in-Passed.is in
+    let i = k.first-inside in
+    let j = k.second-inside in
+    search rules
+
+pub write_halves-read-requires : goal.write_halves-read-requires
+write_halves-read-requires c =
+    let a = c.args in
+    let k = deal-known _ a.t _ _ _ _ _ c.check-checked.ensures c.in-Passed.is in
+    let first = slot-part-length a.first.now a.at.size a.at.index k.first-inside in
+    let second = slot-part-length a.second.now a.at.size a.at.index k.second-inside in
+    let r = k.room in
+    record {
+      fits = r.fits;
+      enough = r.enough;
+      first-room = omega (arith, r.first-room, first, second);
+      second-room = omega (arith, r.second-room, first, second);
+    }
+
+pub returns : goal.returns
+unfolding draw_size draw_count
+returns c =
+    let far = c in
+    let a = far.args in
+    let check = far.check-checked in
+    let enum_told-1 = c.enum_told-1 in
+    let write-halves = c.write_halves-read in
+    let k = deal-known _ a.t _ _ _ _ _ check.ensures enum_told-1.given.1 in
+    let e = write-halves.ensures in
+    let first = slot-part-length a.first.now a.at.size a.at.index k.first-inside in
+    let second = slot-part-length a.second.now a.at.size a.at.index k.second-inside in
+    let one : length write-halves.new.1.1.1.0 ≡ a.at.size = omega (arith, first) in
+    let two : length write-halves.new.1.1.1.1.0 ≡ a.at.size = omega (arith, second) in
+    deal-done a.first.now a.second.now a.at.size a.at.index (request (sort a.s) a.t a.words.now)
+    (sym check.ensures ∙ ap checked enum_told-1.given.1) e.0
+    (half_back a.first.now _ _ a.at.size a.at.index one e.1.0) (half_back a.second.now _ _ a.at.size a.at.index two e.1.1)

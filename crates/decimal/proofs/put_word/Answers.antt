@@ -1,0 +1,7 @@
+-- `decimal::put_word` meets its contract: a store past the end changes nothing. Assumes nothing.
+use mathlib.Core.Path.{sym}
+use lib.Seq.{set_out}
+use Rattle.decimal.proofs.put_word.Goals as goal
+
+pub returns-else-at-out : goal.returns-else-at-out
+returns-else-at-out c = sym (set_out _ _ _ c.if-at-out.false)

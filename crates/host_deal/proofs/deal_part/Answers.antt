@@ -1,0 +1,21 @@
+-- `host_deal::deal_part` meets its contract. Assumes nothing.
+use native.Mathlib.Omega.{arith}
+use lib.ListN.{length-take}
+use Rattle.entry.specs.Bytes.{words_of}
+use Rattle.dealer.specs.Sorts.{sort}
+use Rattle.host_deal.proofs.Leaving.{all_told}
+use Rattle.host_deal.proofs.deal_part.Goals as goal
+
+pub slice_bounds-deal_bytes-end : goal.slice_bounds-deal_bytes-end
+slice_bounds-deal_bytes-end c =
+    let few = c.sift_for-sifted.ensures.few in
+    simp length-take (omega (arith, few, c.raw-2-1.given))
+
+pub returns : goal.returns
+returns c =
+    let dealt = c in
+    let sifted = (goal.at.returns c).After-deal_bytes-answer in
+    let a = sifted.args in
+    rw c.report_of.ensures
+    (all_told a.at (sort a.s) a.t a.first.now a.second.now (words_of a.words.now) _ _ _ dealt.deal_bytes-answer.result _
+    sifted.sift_for-sifted.ensures.kept sifted.sift_for-sifted.ensures.read dealt.deal_bytes-answer.ensures)

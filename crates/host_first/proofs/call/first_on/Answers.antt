@@ -1,0 +1,59 @@
+-- `host_first::call::first_on` meets its contract. Assumes nothing.
+use mathlib.Core.Path.{sym}
+use lib.ListN.{length}
+use lib.Seq.{length-take-le}
+use Rattle.entry.specs.Entry.{Lent}
+use Rattle.host_first.proofs.Opened.{record-long, first-opened}
+use borrow.Author.Rules.{rules}
+use Rattle.host_first.proofs.call.first_on.Goals as goal
+
+pub slice_bounds-with_room-end : goal.slice_bounds-with_room-end
+slice_bounds-with_room-end c = search rules
+
+pub slice_bounds-with_room-end-2 : goal.slice_bounds-with_room-end-2
+slice_bounds-with_room-end-2 c = sym (length-take-le _ _ (slice_bounds-with_room-end (goal.at.slice_bounds-with_room-end-2 c).After-slice_known-9-1))
+
+pub slice_bounds-with_room-end-3 : goal.slice_bounds-with_room-end-3
+slice_bounds-with_room-end-3 c = search rules
+
+pub slice_bounds-with_room-end-4 : goal.slice_bounds-with_room-end-4
+slice_bounds-with_room-end-4 c = sym (length-take-le _ _ (slice_bounds-with_room-end-3 (goal.at.slice_bounds-with_room-end-4 c).After-slice_known-9-1))
+
+pub with_room-requires : goal.with_room-requires
+with_room-requires c =
+    let at16 = c in
+    let at17 = (goal.at.with_room-requires c).After-check_first-free in
+    let at18 = (goal.at.with_room-requires c).After-due_in in
+    let at20 = (goal.at.with_room-requires c).After-check_session-lengths in
+    let at31 = (goal.at.with_room-requires c).After-slice_known-6-1 in
+    let a = at31.args in
+    let l : Lent = record {
+      host = a.session.now;
+      pool = a.pool.now;
+      scratch = a.scratch.now;
+      line = a.line.now;
+      result = a.result.now;
+    } in
+    record-long l (length a.input.now) (length a.raw.now) at18.due_in.ensures at16.worst-own.ensures at20.check_session-lengths.ensures at17.check_first-free.ensures
+
+pub returns : goal.returns
+returns c =
+    let at10 = c in
+    let at20 = (goal.at.returns c).After-with_room in
+    let at25 = (goal.at.returns c).After-sift_coins-arg-1 in
+    let at27 = (goal.at.returns c).After-get_input-arg-1 in
+    let at28 = (goal.at.returns c).After-check_first-free in
+    let at29 = (goal.at.returns c).After-due_in in
+    let at31 = (goal.at.returns c).After-check_session-lengths in
+    let at42 = (goal.at.returns c).After-slice_known-6-1 in
+    let a = at42.args in
+    let l : Lent = record {
+      host = a.session.now;
+      pool = a.pool.now;
+      scratch = a.scratch.now;
+      line = a.line.now;
+      result = a.result.now;
+    } in
+    let sifted = at20.sift_coins-sifted in
+    first-opened l (length a.input.now) (length a.raw.now) at29.due_in.ensures at27.worst-own.ensures at31.check_session-lengths.ensures at28.check_first-free.ensures
+    _ _ _ _ _ _ _ _ _ _ at10.with_room.ensures sifted.ensures.0 at25.get_input-n.ensures.1 sifted.ensures.2

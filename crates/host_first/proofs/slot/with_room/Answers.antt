@@ -1,0 +1,51 @@
+-- `host_first::slot::with_room` meets its contract. Assumes nothing.
+use mathlib.Core.Path.{◌∙◌, sym}
+use Prim.Native.Nat.{ℕ, ◌*◌, ◌/◌}
+use native.Mathlib.Omega.{arith}
+use lib.ListN.{length, replicate, length-replicate}
+use lib.Seq.{length-take-le}
+use Rattle.protocol.specs.Tape.{slot_at}
+use Rattle.protocol.specs.Message.{message_with}
+use Rattle.judging.specs.InOrder.{checked}
+use Rattle.entry.specs.Bytes.{words_of}
+use Rattle.entry.specs.Entry.{Lent}
+use Rattle.host_first.proofs.Opened.{system-rooms, product-rooms, in-room}
+use Rattle.host_first.proofs.slot.with_room.Goals as goal
+
+pub returns-then-is_system : goal.returns-then-is_system
+returns-then-is_system c =
+    let at14 = c in
+    let at24 = (goal.at.returns-then-is_system c).After-on_call in
+    let at25 = (goal.at.returns-then-is_system c).Then-is_system in
+    let at40 = (goal.at.returns-then-is_system c).After-is_system in
+    let a = at40.args in
+    let l : Lent = record {
+      host = a.session.now;
+      pool = a.pool.now;
+      scratch = a.scratch.now;
+      line = a.line.now;
+      result = a.result.now;
+    } in
+    let rooms = system-rooms a.q.end (sym at25.is_system.ensures ∙ at24.if-is_system.true) in
+    in-room l (a.at.index * a.at.size) (checked a.q.own) a.q.end a.q.terms a.q.read (slot_at (words_of a.pool.now) a.at.size a.at.index)
+    (words_of a.scratch.now) a.input.now a.raw.now (message_with a.q.head a.residues.now) (length a.result.now / 4)
+    (length-take-le {A = ℕ} 528 (replicate 1024 0) (omega (arith, length-replicate {A = ℕ} 1024 0)) ∙ rooms.0) (length-replicate {A = ℕ} 3072 0) (length-replicate {A = ℕ} 0 0 ∙ rooms.1) at14.on_call.ensures
+
+pub returns : goal.returns
+returns c =
+    let at14 = c in
+    let at24 = (goal.at.returns c).After-on_call-2 in
+    let at25 = (goal.at.returns c).Else-is_system in
+    let at40 = (goal.at.returns c).After-is_system in
+    let a = at40.args in
+    let l : Lent = record {
+      host = a.session.now;
+      pool = a.pool.now;
+      scratch = a.scratch.now;
+      line = a.line.now;
+      result = a.result.now;
+    } in
+    let rooms = product-rooms a.q.end (sym at25.is_system.ensures ∙ at24.if-is_system.false) in
+    in-room l (a.at.index * a.at.size) (checked a.q.own) a.q.end a.q.terms a.q.read (slot_at (words_of a.pool.now) a.at.size a.at.index)
+    (words_of a.scratch.now) a.input.now a.raw.now (message_with a.q.head a.residues.now) (length a.result.now / 4)
+    (length-replicate {A = ℕ} 0 0 ∙ rooms.0) (length-replicate {A = ℕ} 3072 0) (length-replicate {A = ℕ} 1024 0 ∙ rooms.1) at14.on_call-2.ensures

@@ -1,0 +1,92 @@
+-- `host_later::slot::on_call` meets its contract. Assumes nothing.
+use mathlib.Core.Path.{sym, ap₂, ◌∙◌}
+use Prim.Native.Nat.{ℕ, ◌*◌, ◌/◌}
+use native.Mathlib.Omega.{arith}
+use lib.ListN.{length, take}
+use lib.Seq.{length-take-le}
+use Rattle.protocol.specs.Tape.{slot_at}
+use Rattle.protocol.specs.Message.{message_with}
+use Rattle.tape.specs.Ends.{role}
+use Rattle.judging.specs.InOrder.{checked}
+use Rattle.entry.specs.Bytes.{words_of}
+use Rattle.entry.specs.Entry.{Lent, session_in}
+use Rattle.local.specs.Seen.{least, seen, behind, session_role, session_terms, on_done, entering}
+use Rattle.local.specs.Entered.{entered_by, later_step, seen_later}
+use Rattle.local.proofs.Told.{later-behaves}
+use Rattle.local.proofs.Within.{words-room, bytes-room, few_words, call-cut}
+use borrow.Author.Rules.{rules}
+use Rattle.host_later.proofs.slot.on_call.Goals as goal
+
+pub slice_bounds-on_slot-end-2 : goal.slice_bounds-on_slot-end-2
+slice_bounds-on_slot-end-2 c = search rules
+
+pub slice_bounds-on_slot-end-3 : goal.slice_bounds-on_slot-end-3
+slice_bounds-on_slot-end-3 c = sym (length-take-le _ _ (slice_bounds-on_slot-end-2 (goal.at.slice_bounds-on_slot-end-3 c).After-on_slot-arg-5-1))
+
+pub slice_bounds-on_slot-end-4 : goal.slice_bounds-on_slot-end-4
+slice_bounds-on_slot-end-4 c =
+    let cut = c in
+    let start = (goal.at.slice_bounds-on_slot-end-4 c).After-smaller-k in
+    few_words _ (length start.args.scratch.now) start.args.lent.now cut.smaller-k.ensures
+
+pub slice_bounds-on_slot-end-5 : goal.slice_bounds-on_slot-end-5
+slice_bounds-on_slot-end-5 c = sym (length-take-le _ _ (slice_bounds-on_slot-end-4 (goal.at.slice_bounds-on_slot-end-5 c).After-on_slot-arg-6-1))
+
+pub slice_bounds-on_slot-end-6 : goal.slice_bounds-on_slot-end-6
+slice_bounds-on_slot-end-6 c =
+    let cut = c in
+    let start = (goal.at.slice_bounds-on_slot-end-6 c).After-smaller-j in
+    few_words _ (length start.args.res.now) start.args.share.now cut.smaller-j.ensures
+
+pub slice_bounds-on_slot-end-7 : goal.slice_bounds-on_slot-end-7
+slice_bounds-on_slot-end-7 c = sym (length-take-le _ _ (slice_bounds-on_slot-end-6 (goal.at.slice_bounds-on_slot-end-7 c).After-on_slot-arg-8-1))
+
+pub on_slot-requires : goal.on_slot-requires
+on_slot-requires c =
+    let cut = c in
+    let placed = (goal.at.on_slot-requires c).After-smaller-j in
+    let start = (goal.at.on_slot-requires c).After-seen_in-seen in
+    let a = start.args in
+    let h = start.requires in
+    let place = placed.seen_in-seen in (
+      h.0,
+      words-room place.result.words place.result.from a.words.now a.pool.now place.ensures.2,
+      bytes-room _ (length a.lent.now) a.lent.now a.scratch.now cut.smaller-k.ensures,
+      bytes-room _ (length a.share.now) a.share.now a.result.now cut.smaller-j.ensures,
+      h.5,
+      h.6,
+    )
+
+pub returns : goal.returns
+unfolding seen_later
+returns c =
+    let at18 = c in
+    let called = (goal.at.returns c).After-on_slot in
+    let cut = (goal.at.returns c).After-on_slot in
+    let lent = cut.smaller-k in
+    let share = cut.smaller-j in
+    let placed = (goal.at.returns c).After-smaller-j in
+    let place = placed.seen_in-seen in
+    let half = placed.half_in-half in
+    let start = (goal.at.returns c).After-seen_in-seen in
+    let a = start.args in
+    let h = start.requires in
+    let l : Lent = record {
+      host = a.session.now;
+      pool = a.pool.now;
+      scratch = a.scratch.now;
+      line = a.line.now;
+      result = a.result.now;
+    } in
+    let x = session_in a.session.now in
+    let s = slot_at (words_of a.pool.now) a.at.size a.at.index in
+    let m = message_with a.q.head a.residues.now in
+    let room = length a.out.now in
+    call-cut (session_role x) (session_terms x) (λ s ls j. later_step a.q.drops x s ls m room j)
+    (λ s ls j. (later-behaves a.q.drops x s ls m room j).proper) 0 (checked a.q.own) l a.at.size a.at.index h.4
+    (role half.result.end) half.result.terms place.result.words place.result.from lent.result share.result
+    a.words.now a.lent.now a.share.now half.ensures.0 half.ensures.1 place.ensures.0 place.ensures.1 place.ensures.2
+    (omega (arith, place.ensures.3, h.1)) lent.ensures share.ensures called.on_slot.ensures
+    ∙ ap₂ (λ (i j : ℕ). entered_by l (a.at.index * a.at.size) (checked a.q.own) (on_done (entering 0 (behind (session_role x) (session_terms x) s))
+    (later_step a.q.drops x (seen (session_role x) (session_terms x) s) (take i (words_of a.scratch.now)) m room (least (length a.result.now / 4) j))))
+    h.2 h.3

@@ -1,0 +1,63 @@
+-- `host_later::slot::on_slot` meets its contract. Assumes nothing.
+use mathlib.Core.Path.{ap, ◌∙◌}
+use mathlib.Core.List.{[]}
+use Prim.Native.Nat.{◌≤◌}
+use native.Mathlib.Omega.{arith}
+use lib.ListN.{length, take}
+use lib.Seq.{length-take-le}
+use Rattle.protocol.specs.Tape.{slot_at}
+use Rattle.protocol.specs.Message.{message_with}
+use Rattle.protocol.specs.Step.{Outcome}
+use Rattle.judging.specs.InOrder.{checked}
+use Rattle.entry.specs.declared.Session.{Session}
+use Rattle.entry.specs.Bytes.{words_of}
+use Rattle.entry.specs.Entry.{Lent}
+use Rattle.entry.proofs.Bytes.{words-length}
+use Rattle.local.specs.Seen.{on_done, entering}
+use Rattle.local.specs.Entered.{entered_by, later_step}
+use Rattle.local.proofs.Finish.{settled-left}
+use Rattle.local.proofs.Told.{solves, later-behaves}
+use Rattle.host_later.proofs.slot.on_slot.Goals as goal
+
+pub settle-requires : goal.settle-requires
+settle-requires c =
+    let at12 = c in
+    let back = (goal.at.settle-requires c).After-lent-1 in
+    let start = (goal.at.settle-requires c).After-lent-1 in
+    let p = start.requires in (
+      p.0,
+      omega (arith, p.1, back.words-1.given),
+      omega (arith, p.2, back.lent-1.given),
+      omega (arith, p.3, back.share-1.given),
+    )
+
+pub returns : goal.returns
+returns c =
+    let at10 = c in
+    let put = (goal.at.returns c).After-settle in
+    let ran = (goal.at.returns c).After-settle in
+    let read = (goal.at.returns c).After-run-arg-2-1 in
+    let start = (goal.at.returns c).After-slice_known-4-1 in
+    let a = start.args in
+    let p = start.requires in
+    let x = read.session_in-x.result in
+    let l : Lent = record {
+      host = a.session.now;
+      pool = a.slot.now;
+      scratch = a.scratch.now;
+      line = a.line.now;
+      result = a.result.now;
+    } in
+    let n = length a.words.now in
+    let k = length a.lent.now in
+    let j = length a.share.now in
+    let few : n ≤ length (words_of a.slot.now) = omega (arith, p.1, words-length a.slot.now) in
+    let s = slot_at (take n (words_of a.slot.now)) n 0 in
+    let lent = take k (words_of a.scratch.now) in
+    let m = message_with a.q.head a.residues.now in
+    let room = length a.out.now in
+    let step : Session → Outcome Session = λ y. later_step a.q.drops y s lent m room j in
+    put.settle.ensures
+    ∙ (settled-left l p.4 p.5 n k j (omega (arith, p.2)) (omega (arith, p.3)) a.out.now (length-take-le n (words_of a.slot.now) few)
+    (solves x) 0 x a.q.own (step x) (later-behaves a.q.drops x s lent m room j) ran.run-d.result.answer ran.run-d.ensures
+    ∙ ap (λ (y : Session). entered_by l 0 (checked a.q.own) (on_done (entering 0 []) (step y))) read.session_in-x.ensures)

@@ -1,0 +1,28 @@
+-- `host_parts::store::put_line` meets its contract. Assumes nothing.
+use mathlib.Core.Path.{ap, ◌∙◌}
+use mathlib.Core.List.{List}
+use Prim.Native.Nat.{ℕ}
+use native.Mathlib.Omega.{arith}
+use lib.ListN.{length}
+use Rattle.algebra.specs.Words.{over}
+use Rattle.host_parts.proofs.PutBack.{few-sent-words, line_kept, line-some}
+use Rattle.host_parts.proofs.store.put_line.Goals as goal
+
+pub returns-then-h-eq0 : goal.returns-then-h-eq0
+returns-then-h-eq0 c = let a = c.args in line_kept a.h a.sent.now a.line.now c.if-h-eq0.true
+
+pub slice_bounds-put_message-end : goal.slice_bounds-put_message-end
+slice_bounds-put_message-end c = (few-sent-words _ c.args.sent.now c.sent_count.ensures.1 c.smaller-n.ensures).0
+
+pub put_message-requires : goal.put_message-requires
+put_message-requires c =
+    let a = c.args in
+    let same = line-some a.h a.sent.now c.if-h-eq0.false c.sent_count.ensures.0 c.smaller-n.ensures in
+    let few = few-sent-words _ a.sent.now c.sent_count.ensures.1 c.smaller-n.ensures in
+    (few.1, omega (arith, ap length same, c.requires))
+
+pub returns : goal.returns
+returns c =
+    let a = c.args in
+    let same = line-some a.h a.sent.now c.if-h-eq0.false c.sent_count.ensures.0 c.smaller-n.ensures in
+    c.put_message.ensures.1 ∙ ap (λ (l : List ℕ). over l a.line.now) same

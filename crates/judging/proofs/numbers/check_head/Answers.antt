@@ -1,0 +1,40 @@
+-- `session::numbers::check_head` meets its contract. Assumes nothing.
+use mathlib.Core.Path.{◌≡◌, refl, sym, ap, ◌∙◌}
+use mathlib.Core.List.{[], ◌∷◌}
+use Rattle.protocol.specs.declared.Refusal.TheVariants.{Size}
+use Rattle.protocol.specs.Judge as tests
+use Rattle.protocol.specs.Message.{kind_sort, last_fits}
+use Rattle.judging.specs.Groups.{number_tests, head_tests, id_tests, count_tests}
+use Rattle.judging.specs.InOrder.{checked, judged}
+use Rattle.judging.proofs.Phases.{head-phases, head-sides}
+use Rattle.judging.proofs.Join.{also, hands_on, goes-past}
+use Rattle.judging.proofs.KindLaws.{few}
+use Rattle.judging.proofs.numbers.check_head.Goals as goal
+
+-- the head without the count of residues
+judged-head : (c : goal.After-worst-head) → checked c.worst-head.result ≡ judged (head_tests c.args.a)
+unfolding head_tests number_tests id_tests
+judged-head c =
+    let a = c.args.a in
+    also (tests.needs Size (last_fits a.kind a.terms.m a.terms.p) ∷ []) (number_tests (kind_sort a.kind) a.terms) c.worst-head.ensures
+    (c.need-last.ensures ∙ rw c.last_fits.ensures)
+    (rw c.kind_sides_fit.ensures at c.check_ids-numbers.ensures)
+
+pub returns-in_default : goal.returns-in_default
+returns-in_default c =
+    let a = c.args in
+    hands_on c.worst-head.result _ (judged-head (goal.at.returns-in_default c).After-worst-head) c.in_default.is ∙ sym (head-phases a.a a.count)
+
+pub message_size-requires : goal.message_size-requires
+message_size-requires c =
+    let a = c.args.a in
+    let t = a.terms in
+    few (kind_sort a.kind) t.m t.k t.p (head-sides a (sym (judged-head (goal.at.message_size-requires c).After-worst-head) ∙ ap checked c.in-Passed.is))
+
+pub returns : goal.returns
+unfolding count_tests
+returns c =
+    let before = c in
+    let a = before.args in
+    simp (c.need.ensures, c.message_size.ensures) refl ∙ sym
+    (head-phases a.a a.count ∙ goes-past before.worst-head.result (judged-head (goal.at.returns c).After-worst-head) c.in-Passed.is)

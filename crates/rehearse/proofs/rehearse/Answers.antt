@@ -1,0 +1,38 @@
+-- `rehearse::rehearse` meets its contract. Assumes nothing.
+use native.Mathlib.Omega.{arith}
+use borrow.Author.Rules.{rules}
+use Rattle.rehearse.proofs.Judged.{said-wrong, said_read, wrong-printed}
+use Rattle.rehearse.proofs.rehearse.Goals as goal
+
+pub returns-in_default : goal.returns-in_default
+returns-in_default c =
+    let read = c in
+    let a = read.args in
+    let wrong = said-wrong a.bytes.now _ _ _ _ _ read.read-lines.result read.read-lines.ensures.0 c.in_default.is in
+    let z = wrong-printed a.bytes.now _ _ _ wrong
+    c.refusal.ensures.0 c.refusal.ensures.1.0 c.refusal.ensures.1.1 in
+    (z.place, (z.few, z.contents))
+
+pub said-requires : goal.said-requires
+said-requires c =
+    let lines = c.lines-1 in
+    let read = c in
+    let a = read.args in
+    let s = said_read a.bytes.now _ _ _ _ _ read.read-lines.result lines.given.0.0 read.read-lines.ensures.0 lines.given.1 in
+    let coins = c in (
+      search rules,
+      search rules,
+      search rules,
+      omega (arith, s.in-dealer.few, coins.dealer-2-1.given),
+      omega (arith, s.in_left.few, coins.coins-2-1.given),
+      search rules,
+    )
+
+pub returns : goal.returns
+returns c =
+    let told = c in
+    let read = (goal.at.returns c).In-Read-2 in
+    let a = read.args in
+    let s = said_read a.bytes.now _ _ _ _ _ read.read-lines.result told.in-Read.c read.read-lines.ensures.0 told.in-Read.is in
+    let z = c.said.ensures a.bytes.now s in
+    (z.place, (z.few, z.contents))

@@ -1,0 +1,18 @@
+-- `rehearse_lines::print::result` meets its contract. Assumes nothing.
+use Prim.Native.Nat.{◌≤◌}
+use native.Mathlib.Omega.{arith}
+use Rattle.rehearse_lines.specs.Prints.{MOST}
+use Rattle.rehearse_lines.proofs.Stores.{result-stored}
+use Rattle.rehearse_lines.proofs.print.result.Goals as goal
+
+pub returns : goal.returns
+returns c =
+    let shares = c.put_shares in
+    let messages = c.put_messages-behind in
+    let whole = c in
+    let a = whole.args in
+    let p = whole.requires in
+    let few : shares.result ≤ MOST = omega (arith, p.1, p.2, p.3, p.4, messages.ensures.1.0, shares.ensures.1.0) in
+    let z = result-stored a.one a.y1.now a.two a.x1r1.now a.left.now a.right.now a.out.now messages.result shares.result _ _
+    messages.ensures.0 shares.ensures.0 (omega (arith, p.0, few)) messages.ensures.1.1 shares.ensures.1.1 in
+    (z.0, (few, z.1))

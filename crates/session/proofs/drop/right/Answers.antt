@@ -1,0 +1,19 @@
+-- `session::drop::right` meets its contract. Assumes nothing.
+use mathlib.Core.List.{[]}
+use Rattle.protocol.specs.Tape.{slot_at}
+use Rattle.entry.specs.Record.{right_of, of_right}
+use Rattle.local.proofs.Recorded.{recorded-leaves}
+use Rattle.local.proofs.Ends.{drop-right-told}
+use Rattle.session.proofs.drop.right.Goals as goal
+
+pub returns : goal.returns
+returns c =
+    let at7 = c in
+    let at8 = (goal.at.returns c).After-right_drop-dropped in
+    let at11 = (goal.at.returns c).After-right_of in
+    let a = at11.args in
+    let s = slot_at a.pool.now a.at.size a.at.index in
+    let told = drop-right-told (right_of a.x) s in
+    let e = rw at8.right_of.ensures at at7.right_drop-dropped.ensures in
+    rw (c.with_record.ensures, c.is_accepted.ensures, c.of_right.ensures, c.no_head.ensures)
+    (recorded-leaves of_right a.x (right_of a.x) s [] [] [] told at7.right_drop-dropped.result.answer e)

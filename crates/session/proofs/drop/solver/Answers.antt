@@ -1,0 +1,19 @@
+-- `session::drop::solver` meets its contract. Assumes nothing.
+use mathlib.Core.List.{[]}
+use Rattle.protocol.specs.Tape.{slot_at}
+use Rattle.entry.specs.Record.{solver_of, of_solver}
+use Rattle.local.proofs.Recorded.{recorded-leaves}
+use Rattle.local.proofs.Ends.{drop-solver-told}
+use Rattle.session.proofs.drop.solver.Goals as goal
+
+pub returns : goal.returns
+returns c =
+    let at7 = c in
+    let at8 = (goal.at.returns c).After-solver_drop-dropped in
+    let at11 = (goal.at.returns c).After-solver_of in
+    let a = at11.args in
+    let s = slot_at a.pool.now a.at.size a.at.index in
+    let told = drop-solver-told (solver_of a.x) s in
+    let e = rw at8.solver_of.ensures at at7.solver_drop-dropped.ensures in
+    rw (c.with_record.ensures, c.is_settled.ensures, c.of_solver.ensures, c.no_head.ensures)
+    (recorded-leaves of_solver a.x (solver_of a.x) s [] [] [] told at7.solver_drop-dropped.result.answer e)

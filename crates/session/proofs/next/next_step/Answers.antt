@@ -1,0 +1,55 @@
+-- `session::next::next_step` meets its contract. Assumes nothing.
+use mathlib.Core.List.{[]}
+use lib.ListN.{length}
+use Rattle.protocol.specs.Tape.{slot_at}
+use Rattle.protocol.specs.Message.{message_with}
+use Rattle.entry.specs.Record.{right_of, solver_of, of_right, of_solver}
+use Rattle.local.proofs.Recorded.{any-scratch, any-sent, any-result}
+use Rattle.local.proofs.Ends.{solver-next-no-scratch, solver-next-no-result, right-last-no-scratch, right-last-no-sent}
+use Rattle.session.proofs.Chosen.{next-solver, next-blinder, next-right}
+use Rattle.session.proofs.next.next_step.Goals as goal
+
+pub returns-then-x-eq-SOLVER : goal.returns-then-x-eq-SOLVER
+returns-then-x-eq-SOLVER c =
+    let at4 = c in
+    let at7 = (goal.at.returns-then-x-eq-SOLVER c).After-solver in
+    let at14 = (goal.at.returns-then-x-eq-SOLVER c).Then-x-eq-SOLVER in
+    let a = at14.args in
+    let s = slot_at a.pool.now a.at.size a.at.index in
+    let m = message_with a.a a.residues.now in
+    let room = length a.out.now in
+    let which = next-solver a.x s a.scratch.now m room (length a.result.now) at7.if-x-eq-SOLVER.true in
+    let no-scratch = solver-next-no-scratch (solver_of a.x) s m room a.x.due of_solver in
+    let no_result = solver-next-no-result (solver_of a.x) s m room a.x.due of_solver in
+    rw which
+    (any-scratch a.x s a.out.now a.result.now a.scratch.now no-scratch
+    (any-result a.x s [] a.out.now a.result.now no_result at4.solver.ensures))
+
+pub returns-then-x-eq-BLINDER : goal.returns-then-x-eq-BLINDER
+returns-then-x-eq-BLINDER c =
+    let at8 = c in
+    let at13 = (goal.at.returns-then-x-eq-BLINDER c).After-blinder in
+    let at15 = (goal.at.returns-then-x-eq-BLINDER c).Then-x-eq-BLINDER in
+    let at22 = (goal.at.returns-then-x-eq-BLINDER c).Else-x-eq-SOLVER in
+    let a = at22.args in
+    let s = slot_at a.pool.now a.at.size a.at.index in
+    let m = message_with a.a a.residues.now in
+    let which = next-blinder a.x s a.scratch.now m (length a.out.now) (length a.result.now) at15.if-x-eq-SOLVER.false at13.if-x-eq-BLINDER.true in
+    rw which at8.blinder.ensures
+
+pub returns : goal.returns
+returns c =
+    let at4 = c in
+    let at7 = (goal.at.returns c).After-right in
+    let at9 = (goal.at.returns c).Else-x-eq-BLINDER in
+    let at16 = (goal.at.returns c).Else-x-eq-SOLVER in
+    let a = at16.args in
+    let s = slot_at a.pool.now a.at.size a.at.index in
+    let m = message_with a.a a.residues.now in
+    let share = length a.result.now in
+    let which = next-right a.x s a.scratch.now m (length a.out.now) share at9.if-x-eq-SOLVER.false at7.if-x-eq-BLINDER.false in
+    let no-scratch = right-last-no-scratch (right_of a.x) s m share of_right in
+    let no-sent = right-last-no-sent (right_of a.x) s m share of_right in
+    rw which
+    (any-scratch a.x s a.out.now a.result.now a.scratch.now no-scratch
+    (any-sent a.x s [] a.result.now a.out.now no-sent at4.right.ensures))

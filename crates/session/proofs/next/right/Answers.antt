@@ -1,0 +1,21 @@
+-- `session::next::right` meets its contract. Assumes nothing.
+use mathlib.Core.List.{[]}
+use lib.ListN.{length}
+use Rattle.protocol.specs.Tape.{slot_at}
+use Rattle.protocol.specs.Message.{message_with}
+use Rattle.entry.specs.Record.{right_of, of_right}
+use Rattle.local.proofs.Recorded.{recorded-leaves}
+use Rattle.local.proofs.Ends.{right-last-told}
+use Rattle.session.proofs.next.right.Goals as goal
+
+pub returns : goal.returns
+returns c =
+    let at5 = c in
+    let at7 = (goal.at.returns c).After-right_last-done in
+    let at12 = (goal.at.returns c).After-right_of in
+    let a = at12.args in
+    let s = slot_at a.pool.now a.at.size a.at.index in
+    let m = message_with a.a a.residues.now in
+    let told = right-last-told (right_of a.x) s m (length a.result.now) in
+    let e = rw at7.right_of.ensures at at5.right_last-done.ensures in
+    rw c.right_done.ensures (recorded-leaves of_right a.x (right_of a.x) s [] [] a.result.now told at5.right_last-done.result.answer e)

@@ -1,0 +1,37 @@
+-- `session::next::solver` meets its contract. Assumes nothing.
+use mathlib.Core.List.{[]}
+use lib.ListN.{length}
+use borrow.Author.Tests.{eq-eqb, ne_eqb}
+use Rattle.protocol.specs.Tape.{slot_at}
+use Rattle.protocol.specs.Message.{message_with}
+use Rattle.entry.specs.Record.{solver_of, of_solver}
+use Rattle.local.proofs.Recorded.{recorded-leaves}
+use Rattle.local.proofs.Ends.{solver-second-told, solver-ending-told}
+use Rattle.session.proofs.next.solver.Goals as goal
+
+pub returns-then-x-eq2 : goal.returns-then-x-eq2
+returns-then-x-eq2 c =
+    let at5 = c in
+    let at7 = (goal.at.returns-then-x-eq2 c).After-solver_of in
+    let at12 = (goal.at.returns-then-x-eq2 c).After-struct_known-1 in
+    let a = at12.args in
+    let s = slot_at a.pool.now a.at.size a.at.index in
+    let m = message_with a.a a.residues.now in
+    let told = solver-second-told (solver_of a.x) s m (length a.out.now) in
+    let e = rw at5.solver_of.ensures at c.solver_second-second.ensures in
+    rw (c.solver_done.ensures, eq-eqb a.x.due 2 at7.if-x-eq2.true)
+    (recorded-leaves of_solver a.x (solver_of a.x) s [] a.out.now [] told c.solver_second-second.result.answer e)
+
+pub returns : goal.returns
+returns c =
+    let at5 = c in
+    let at7 = (goal.at.returns c).After-solver_ending-last in
+    let at9 = (goal.at.returns c).After-solver_of-2 in
+    let at14 = (goal.at.returns c).Else-x-eq2 in
+    let a = at14.args in
+    let s = slot_at a.pool.now a.at.size a.at.index in
+    let m = message_with a.a a.residues.now in
+    let told = solver-ending-told (solver_of a.x) s m (length a.out.now) in
+    let e = rw at7.solver_of-2.ensures at at5.solver_ending-last.ensures in
+    rw (c.solver_done-2.ensures, ne_eqb a.x.due 2 at9.if-x-eq2.false)
+    (recorded-leaves of_solver a.x (solver_of a.x) s [] a.out.now [] told at5.solver_ending-last.result.answer e)

@@ -1,0 +1,52 @@
+-- `session::open::first_over` meets its contract. Assumes nothing.
+use mathlib.Core.Path.{refl, sym, ap₂, ◌∙◌}
+use lib.ListN.{length}
+use Rattle.protocol.specs.declared.Refusal.TheVariants.{Turn}
+use Rattle.protocol.specs.Tape.{slot_at}
+use Rattle.protocol.specs.Message.{message_with}
+use Rattle.judging.specs.Lowest.{lower}
+use Rattle.judging.proofs.Join.{judged-false}
+use Rattle.entry.specs.Steps.{first_step}
+use Rattle.local.specs.Settled.{unopened}
+use Rattle.local.proofs.Recorded.{over-record}
+use Rattle.local.proofs.Told.{first-told}
+use Rattle.session.proofs.Opened.{over-free, over-open, open-leaves}
+use Rattle.session.proofs.open.first_over.Goals as goal
+
+pub returns-then-x-eq0 : goal.returns-then-x-eq0
+returns-then-x-eq0 c =
+    let at12 = c in
+    let at17 = (goal.at.returns-then-x-eq0 c).After-first_step-d in
+    let at26 = (goal.at.returns-then-x-eq0 c).Then-x-eq0 in
+    let a = at26.args in
+    let s = slot_at a.pool.now a.at.size a.at.index in
+    let m = message_with a.a a.residues.now in
+    let l = a.input.now in
+    let room = length a.out.now in
+    let share = length a.result.now in
+    let told = first-told a.end a.t s a.scratch.now l a.words.now m room share in
+    rw (
+      over-free a.x a.end a.t s a.scratch.now l a.words.now m room share at17.if-x-eq0.true,
+      c.with_record.ensures,
+      c.is_accepted.ensures,
+    )
+    (over-record a.x (unopened a.end a.t) s a.scratch.now a.out.now a.result.now told at12.first_step-d.result.answer
+    at12.first_step-d.ensures)
+
+pub returns : goal.returns
+returns c =
+    let at4 = c in
+    let at7 = (goal.at.returns c).After-check_first-checked in
+    let at16 = (goal.at.returns c).After-slice_known-4-1 in
+    let a = at16.args in
+    let s = slot_at a.pool.now a.at.size a.at.index in
+    let m = message_with a.a a.residues.now in
+    let l = a.input.now in
+    let room = length a.out.now in
+    let share = length a.result.now in
+    let step = first_step a.end a.t s a.scratch.now l a.words.now m room share in
+    let turn = c.need-open.ensures ∙ sym (judged-false Turn refl) in
+    let told = c.worst.ensures ∙ ap₂ lower turn at4.check_first-checked.ensures in
+    let which = over-open a.x a.end a.t s a.scratch.now l a.words.now m room share at7.if-x-eq0.false in
+    rw (c.refused.ensures, c.answer_of.ensures, which)
+    (open-leaves a.x s a.scratch.now a.out.now a.result.now Turn step c.worst.result told)

@@ -1,0 +1,75 @@
+-- `solver::last::compute` meets its contract. Assumes nothing.
+use mathlib.Core.Path.{◌≡◌, refl, sym}
+use Prim.Native.Nat.{◌≤◌}
+use native.Mathlib.Omega.{arith}
+use lib.ListN.{length, take}
+use lib.Seq.{length-take-le}
+use Rattle.protocol.specs.Bounds.{field_fits}
+use Rattle.protocol.specs.Tape.{Slot, slot_at}
+use Rattle.protocol.specs.Message.{Message, message_size}
+use Rattle.protocol.proofs.StepTests.{SolverLastFits}
+use Rattle.judging.specs.Leaves.{taken}
+use Rattle.solver.specs.Formulas.{sum_of}
+use Rattle.protocol.specs.System.{side_size}
+use Rattle.judging.proofs.KindLaws.{size-5}
+use Rattle.solver.proofs.Known.{one_side, last-known, last-terms, last-count, kept-length}
+use Rattle.solver.proofs.Formulas.{joint-asked, sum-residues, sum-found, last-left}
+use Rattle.solver.proofs.last.compute.Goals as goal
+
+module _ (c : goal.Start) where
+  abbrev slot : Slot
+  slot = slot_at c.args.pool.now c.args.at.size c.args.at.index
+
+  abbrev message : Message
+  message = taken 4 c.args.s.terms c.args.residues.now
+
+  known : SolverLastFits 5 c.args.s slot message (message_size 5 c.args.s.terms) (length c.args.out.now)
+  known = last-known c.args.s slot message (length c.args.out.now) c.requires
+
+abbrev start : goal.After-write_joint → goal.Start
+start c = c.before.before.before.before.before.before.before
+
+-- W + V, as the array holds it
+found : (c : goal.After-write_joint) →
+    let words = c.write_joint.new.1.1.1.1.0 in
+    let n = c.times-n.result in
+    (n ≤ length words) × (take n words ≡ sum_of (start c).args.s.terms (slot (start c)) (start c).args.residues.now)
+found c =
+    let b = start c in
+    sum-found b.args.s (slot b) (message b) (known b) c.times-n.result _ c.times-n.ensures refl c.write_joint.ensures
+
+pub write_joint-requires : goal.write_joint-requires
+write_joint-requires c = let b = c in joint-asked b.args.s (slot (goal.at.write_joint-requires c).Start) (message (goal.at.write_joint-requires c).Start) (known (goal.at.write_joint-requires c).Start)
+
+pub slice_bounds-sum-end : goal.slice_bounds-sum-end
+slice_bounds-sum-end c = (found (goal.at.slice_bounds-sum-end c).After-write_joint).0
+
+pub slice_bounds-find_t-end : goal.slice_bounds-find_t-end
+slice_bounds-find_t-end c = sym (length-take-le _ _ (found (goal.at.slice_bounds-find_t-end c).After-write_joint).0)
+
+pub find_t-found-requires : goal.find_t-found-requires
+unfolding field_fits side_size
+find_t-found-requires c =
+    let at = c in
+    let b = start (goal.at.find_t-found-requires c).After-write_joint in
+    let t = b.args.s.terms in
+    let k = known b in
+    let o = last-terms k in (
+      o.field,
+      o.big,
+      omega (arith, o.small),
+      o.sides,
+      k.sort-is,
+      rw (found (goal.at.find_t-found-requires c).After-write_joint).1 (sum-residues t (slot b) b.args.residues.now (omega (arith, o.big))),
+      last-count k,
+      kept-length b.args.s.s b.good.1.1.0.1.1.1.1.0.1.0.1,
+      omega (arith, k.fits.message-room, size-5 t, one_side t o.sides k.sort-is),
+    )
+
+pub returns : goal.returns
+returns c =
+    let at = c in
+    let b = start (goal.at.returns c).After-write_joint in
+    let t = c.find_t-found in
+    rw c.answer.ensures
+    (last-left b.args.s (slot b) (message b) b.args.out.now t.result (rw (found (goal.at.returns c).After-write_joint).1 (goal.at.returns c).After-write_joint t.ensures.0) (rw (found (goal.at.returns c).After-write_joint).1 (goal.at.returns c).After-write_joint t.ensures.1))
