@@ -14,7 +14,7 @@ slice_bounds-deal_bytes-end c =
 pub returns : goal.returns
 returns c =
     let dealt = c in
-    let sifted = (goal.at.returns c).After-deal_bytes-answer in
+    let sifted = c.before.before.before.before.before in
     let a = sifted.args in
     rw c.report_of.ensures
     (all_told a.at (sort a.s) a.t a.first.now a.second.now (words_of a.words.now) _ _ _ dealt.deal_bytes-answer.result _

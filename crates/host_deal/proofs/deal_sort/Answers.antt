@@ -22,7 +22,7 @@ deal_part-requires c =
 pub returns : goal.returns
 returns c =
     let part = c in
-    let start = (goal.at.returns c).After-part_of-part in
+    let start = c.before.before.before.before.before.before.before in
     let a = start.args in
     rw part.part_of-part.ensures at c.deal_part.ensures
     ∙ deal-told (sort a.s) a.t a.first.now a.second.now a.words.now a.at.size a.at.index start.requires

@@ -8,9 +8,18 @@ use Rattle.judging.specs.InOrder.{checked}
 use Rattle.line.proofs.Judged.{holds, no-message, read-wrong, read-room, read-few, read-judged, refuses, takes}
 use Rattle.line.proofs.Words.{all-residues}
 use borrow.Author.Rules.{rules}
+use Rattle.line.proofs.read.Lts
+use Rattle.line.proofs.read.Tie
+use Rattle.line.proofs.read.Reads
 use Rattle.line.proofs.read.Goals as goal
 
-abbrev start : goal.After-words-2-1 → goal.Start
+abbrev After-words-2-1 : Type 0
+After-words-2-1 = Lts.After-words2 Tie.the-claims Reads.Pre Reads.Post
+
+abbrev Start : Type 0
+Start = Lts.Start Tie.the-claims Reads.Pre Reads.Post
+
+abbrev start : After-words-2-1 → Start
 start c = c.before.before.before.before.before
 
 pub returns-in_default : goal.returns-in_default
@@ -39,7 +48,7 @@ returns c =
     let l = holds _ _ load c.in-Message.is in
     let check = c.check_read-check in
     let told = c.in-Passed.is in
-    let out = (start (goal.at.returns c).After-words-2-1).args.out.now in
+    let out = (start c.before.before.before.before.before.before.before.before.before.before.before.before).args.out.now in
     let few = read-few l _ (sym (check.ensures _ l) ∙ ap checked told) in
     takes l _ (read-judged l _) _ check.result (check.ensures _ l) told
     (c.put_residues.ensures ∙ ap (λ (r : List ℕ). over r out) (all-residues l (search rules)))

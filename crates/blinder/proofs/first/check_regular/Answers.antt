@@ -12,38 +12,47 @@ use Rattle.blinder.proofs.Known.{p-drawn, p-residues}
 use Rattle.protocol.specs.Drawing.{residues_of}
 use Rattle.drawing.proofs.Then.{drawn-count, coins-part}
 use Rattle.blinder.proofs.Kept.{square-bound, scratch-sum}
+use Rattle.blinder.proofs.first.check_regular.Lts
+use Rattle.blinder.proofs.first.check_regular.Tie
+use Rattle.blinder.proofs.first.check_regular.Reads
 use Rattle.blinder.proofs.first.check_regular.Goals as goal
 
-abbrev start : goal.After-times-size → goal.Start
+abbrev After-times-size : Type 0
+After-times-size = Lts.After-times Tie.the-claims Reads.Pre Reads.Post
+
+abbrev Start : Type 0
+Start = Lts.Start Tie.the-claims Reads.Pre Reads.Post
+
+abbrev start : After-times-size → Start
 start c = c.before.before.before.before
 
 -- the words suffice for P
-enough : (c : goal.After-times-size) → c.times-size.result ≤ length (residues_of (start c).args.t.q (start c).args.words.now)
+enough : (c : After-times-size) → c.times-size.result ≤ length (residues_of (start c).args.t.q (start c).args.words.now)
 enough c = omega (arith, c.times-size.ensures, scratch-sum (start c).args.t, (start c).pre.1)
 
 pub draw-requires : goal.draw-requires
 draw-requires c =
-    let told = start (goal.at.draw-requires c).After-times-size in (
+    let told = start c.before in (
       (told.pre.0.some-q, told.pre.0.small-q),
-      enough (goal.at.draw-requires c).After-times-size,
+      enough c.before,
       omega (arith, c.times-size.ensures, square-bound told.args.t told.pre.0.sides, length-replicate {A = ℕ} 256 0),
     )
 
 pub has_inverse-requires : goal.has_inverse-requires
 has_inverse-requires c =
-    let a = (start (goal.at.has_inverse-requires c).After-times-size).args in
-    let h = (start (goal.at.has_inverse-requires c).After-times-size).pre.0 in
+    let a = (start c.before.before.before).args in
+    let h = (start c.before.before.before).pre.0 in
     (h.prime, h.small-q, (unknowns a.t.m a.t.k a.t.p h.sides).few, h.residues)
 
 pub slice_bounds-pm-end : goal.slice_bounds-pm-end
 slice_bounds-pm-end c =
-    let told = start (goal.at.slice_bounds-pm-end c).After-times-size in
+    let told = start c.before.before.before.before.before in
     omega (arith, c.times-size.ensures, square-bound told.args.t told.pre.0.sides)
 
 pub slice_bounds-has_inverse-end : goal.slice_bounds-has_inverse-end
 slice_bounds-has_inverse-end c =
-    let few = enough (goal.at.slice_bounds-has_inverse-end c).After-times-size in
-    sym (ap length (coins-part _ _ (start (goal.at.slice_bounds-has_inverse-end c).After-times-size).args.words.now _ _ few
+    let few = enough c.before.before.before.before.before.before in
+    sym (ap length (coins-part _ _ (start c.before.before.before.before.before.before).args.words.now _ _ few
     c.draw.ensures.1) ∙ drawn-count _ _ _ few)
 
 pub has_inverse-requires-2 : goal.has_inverse-requires-2
@@ -51,7 +60,7 @@ has_inverse-requires-2 c =
     let told = c in
     let a = told.args in
     let h = told.requires.0 in
-    let u = coins-part _ _ a.words.now _ _ (enough (goal.at.has_inverse-requires-2 c).After-times-size) c.draw.ensures.1 in (
+    let u = coins-part _ _ a.words.now _ _ (enough c.before.before.before.before.before.before) c.draw.ensures.1 in (
       h.prime,
       h.small-q,
       (unknowns a.t.m a.t.k a.t.p h.sides).few,
@@ -64,7 +73,7 @@ unfolding first_regular regular_tests
 returns c =
     let told = c in
     let a = told.args in
-    let u = coins-part _ _ a.words.now _ _ (enough (goal.at.returns c).After-times-size) c.draw.ensures.1 in
+    let u = coins-part _ _ a.words.now _ _ (enough c.before.before.before.before.before.before.before.before.before) c.draw.ensures.1 in
     also (_ ∷ []) _ c.worst.ensures
     (rw c.has_inverse.ensures at c.need-own.ensures)
     (rw (c.has_inverse-2.ensures, u, told.times-size.ensures, p-drawn a.t a.words.now) at c.need-drawn.ensures)

@@ -14,14 +14,14 @@ use Rattle.blinder.proofs.first.send.Goals as goal
 pub write_sum-requires : goal.write_sum-requires
 write_sum-requires c =
     let told = c in
-    let start = (goal.at.write_sum-requires c).After-times-square in
+    let start = c.before.before.before in
     let p = p-length start.args.t start.args.scratch.now start.requires.lent c.drawn_p-pm.ensures in
     search rules
 
 pub write_reply-requires : goal.write_reply-requires
 write_reply-requires c =
     let told = c in
-    let start = (goal.at.write_reply-requires c).After-drawn_u0-u0 in
+    let start = c.before.before.before.before.before.before in
     let t = start.args.t in
     let p = p-length t start.args.scratch.now start.requires.lent told.drawn_p-pm.ensures in
     let u0 = u0-length t start.args.scratch.now start.requires.lent told.drawn_u0-u0.ensures in
@@ -33,7 +33,7 @@ pub returns : goal.returns
 unfolding first_sent send_x send_r
 returns c =
     let told = c in
-    let start = (goal.at.returns c).After-write_sum in
+    let start = c.before.before.before.before.before.before.before in
     let a = start.args in
     let square = told.times-square.ensures in
     let size = (add-residues start.requires.some-q (a.t.m * a.t.m) _ _).size in

@@ -14,26 +14,32 @@ use Rattle.judging.proofs.Fits.{open-placed}
 use Rattle.blinder.proofs.Kept.{side-is, side-bound, square-is, wide_enough}
 use Rattle.blinder.proofs.Known.{last-known}
 use Rattle.blinder.proofs.Sent.{found-size, found_part}
+use Rattle.blinder.proofs.last.compute.Lts
+use Rattle.blinder.proofs.last.compute.Tie
+use Rattle.blinder.proofs.last.compute.Reads
 use Rattle.blinder.proofs.last.compute.Goals as goal
 
-abbrev start : goal.After-struct_known-2-1 → goal.Start
+abbrev Start : Type 0
+Start = Lts.Start Tie.the-claims Reads.Pre Reads.Post
+
+abbrev start : goal.After-struct_known-2-1 → Start
 start c = c.before.before.before.before.before.before.before
 
-known : (c : goal.Start) → BlinderFits 5 c.args.s (slot_at c.args.pool.now c.args.at.size c.args.at.index) c.args.scratch.now
+known : (c : Start) → BlinderFits 5 c.args.s (slot_at c.args.pool.now c.args.at.size c.args.at.index) c.args.scratch.now
     (taken 5 c.args.s.terms c.args.residues.now) (side_size c.args.s.terms) (length c.args.out.now)
 known c =
     last-known c.args.s (slot_at c.args.pool.now c.args.at.size c.args.at.index) (taken 5 c.args.s.terms c.args.residues.now)
     c.args.scratch.now (length c.args.out.now) c.requires
 
 pub overflow_sub-rhs : goal.overflow_sub-rhs
-overflow_sub-rhs c = let told = c in wide_enough told.args.s.terms (known (goal.at.overflow_sub-rhs c).Start).later.session-open.terms.sides
+overflow_sub-rhs c = let told = c in wide_enough told.args.s.terms (known c.before.before.before.before.before.before.before).later.session-open.terms.sides
 
 pub matrix-qm-requires : goal.matrix-qm-requires
 matrix-qm-requires c = (open-placed blinder _ _ (known (start c)).later.session-open, omega arith)
 
 pub write_product-requires : goal.write_product-requires
 write_product-requires c =
-    let told = start (goal.at.write_product-requires c).After-struct_known-2-1 in
+    let told = start c.before.before in
     let t = told.args.s.terms in
     let f = known told in
     let o = f.later.session-open.terms in
@@ -51,14 +57,14 @@ write_product-requires c =
 
 pub forget-requires : goal.forget-requires
 forget-requires c =
-    let f = known (start (goal.at.forget-requires c).After-struct_known-2-1) in
+    let f = known (start c.before.before.before.before.before.before) in
     (f.later.session-open.terms.sides, f.scratch-room)
 
 pub returns : goal.returns
 unfolding blinder_last_effect columns over
 returns c =
     let told = c in
-    let a = (start (goal.at.returns c).After-struct_known-2-1).args in
+    let a = (start c.before.before.before.before.before.before.before.before.before.before).args in
     let m = taken 5 a.s.terms a.residues.now in
     let t = a.s.terms in
     rw (
@@ -67,4 +73,4 @@ returns c =
       c.no_head.ensures,
       told.write_product.ensures,
       told.matrix-qm.ensures,
-    ) (simp (found_part t m (found-size t m (known (start (goal.at.returns c).After-struct_known-2-1)).message)))
+    ) (simp (found_part t m (found-size t m (known (start c.before.before.before.before.before.before.before.before.before.before)).message)))

@@ -9,13 +9,22 @@ use lib.ListN.{length}
 use Rattle.blinder.specs.Later.{later_open}
 use Rattle.blinder.proofs.Known.{kept-known}
 use Rattle.blinder.proofs.Order.{later-phases}
+use Rattle.blinder.proofs.later.check.Lts
+use Rattle.blinder.proofs.later.check.Tie
+use Rattle.blinder.proofs.later.check.Reads
 use Rattle.blinder.proofs.later.check.Goals as goal
 
-abbrev start : goal.After-worst-numbers → goal.Start
+abbrev After-worst-numbers : Type 0
+After-worst-numbers = Lts.After-worst2 Tie.the-claims Reads.Pre Reads.Post
+
+abbrev Start : Type 0
+Start = Lts.Start Tie.the-claims Reads.Pre Reads.Post
+
+abbrev start : After-worst-numbers → Start
 start c = c.before.before.before.before.before.before.before.before.before.before
 
 -- what was told of the first phase
-told : (c : goal.After-worst-numbers) → let a = (start c).args in checked c.worst-numbers.result
+told : (c : After-worst-numbers) → let a = (start c).args in checked c.worst-numbers.result
     ≡ judged (later_open a.step a.fits a.s (slot_at a.pool.now a.at.size a.at.index) (length a.scratch.now) (message_with a.a a.residues.now))
 unfolding later_open room_tests
 told c =
@@ -24,19 +33,19 @@ told c =
 
 pub returns-in_default : goal.returns-in_default
 returns-in_default c =
-    let a = (start (goal.at.returns-in_default c).After-worst-numbers).args in
-    hands_on c.worst-numbers.result _ (told (goal.at.returns-in_default c).After-worst-numbers) c.in_default.is ∙ sym
+    let a = (start c.before.before).args in
+    hands_on c.worst-numbers.result _ (told c.before.before) c.in_default.is ∙ sym
     (later-phases a.s (slot_at a.pool.now a.at.size a.at.index) a.scratch.now (message_with a.a a.residues.now) a.step a.fits)
 
 pub check_kept-requires : goal.check_kept-requires
 check_kept-requires c =
-    let a = (start (goal.at.check_kept-requires c).After-worst-numbers).args in
-    let f = kept-known a.s _ _ a.step a.fits _ (sym (told (goal.at.check_kept-requires c).After-worst-numbers) ∙ ap checked c.in-Passed.is) in
+    let a = (start c.before.before).args in
+    let f = kept-known a.s _ _ a.step a.fits _ (sym (told c.before.before) ∙ ap checked c.in-Passed.is) in
     (f.0.session-open.terms.sides, f.1)
 
 pub returns : goal.returns
 returns c =
-    let a = (start (goal.at.returns c).After-worst-numbers).args in
+    let a = (start c.before.before.before).args in
     c.check_kept.ensures
     ∙ sym (later-phases a.s (slot_at a.pool.now a.at.size a.at.index) a.scratch.now (message_with a.a a.residues.now) a.step a.fits
-    ∙ goes-past c.worst-numbers.result (told (goal.at.returns c).After-worst-numbers) c.in-Passed.is)
+    ∙ goes-past c.worst-numbers.result (told c.before.before.before) c.in-Passed.is)

@@ -10,10 +10,16 @@ use Rattle.judging.specs.InOrder.{checked, judged}
 use Rattle.judging.proofs.Leaving.{refused-leaves, step-leaves, as-taken}
 use Rattle.blinder.proofs.Known.{second-known}
 use Rattle.blinder.proofs.Order.{second-tests}
+use Rattle.blinder.proofs.second.blinder_second.Lts
+use Rattle.blinder.proofs.second.blinder_second.Tie
+use Rattle.blinder.proofs.second.blinder_second.Reads
 use Rattle.blinder.proofs.second.blinder_second.Goals as goal
 
+abbrev After-check-checked : Type 0
+After-check-checked = Lts.After-check Tie.the-claims Reads.Pre Reads.Post
+
 -- all tests passed, or the first that did not
-tests : (c : goal.After-check-checked) →
+tests : (c : After-check-checked) →
     let a = c.args in
     checked c.check-checked.result ≡ judged (blinder_second_tests a.s (slot_at a.pool.now a.at.size a.at.index) a.scratch.now
     (message_with a.a a.residues.now) (length a.out.now))
@@ -31,14 +37,14 @@ returns-in_default c =
     let m = message_with a.a a.residues.now in
     let e = c.in_default.is in
     rw (c.refused.ensures, e)
-    (sym (refused-leaves a.s s a.scratch.now a.out.now [] _ (blinder_second_effect a.s s a.scratch.now m) (sym (tests (goal.at.returns-in_default c).After-check-checked) ∙ ap checked e)))
+    (sym (refused-leaves a.s s a.scratch.now a.out.now [] _ (blinder_second_effect a.s s a.scratch.now m) (sym (tests c.before.before.before) ∙ ap checked e)))
 
 pub compute-requires : goal.compute-requires
 compute-requires c =
     let told = c in
     let a = told.args in
     let s = slot_at a.pool.now a.at.size a.at.index in
-    let passed = sym (tests (goal.at.compute-requires c).After-check-checked) ∙ ap checked c.in-Passed.is in
+    let passed = sym (tests c.before.before.before) ∙ ap checked c.in-Passed.is in
     let f = second-known a.s s (message_with a.a a.residues.now) a.scratch.now (length a.out.now) passed in
     as-taken (λ (m : Message). blinder_second_tests a.s s a.scratch.now m (length a.out.now)) f.message passed
 
@@ -49,7 +55,7 @@ returns c =
     let a = told.args in
     let s = slot_at a.pool.now a.at.size a.at.index in
     let m = message_with a.a a.residues.now in
-    let passed = sym (tests (goal.at.returns c).After-check-checked) ∙ ap checked c.in-Passed.is in
+    let passed = sym (tests c.before.before.before.before.before.before) ∙ ap checked c.in-Passed.is in
     let f = second-known a.s s m a.scratch.now (length a.out.now) passed in
     step-leaves a.s s a.scratch.now a.out.now [] _ (blinder_second_effect a.s s a.scratch.now m) passed c.compute.ensures
     (sym (same-pool s f.later.session-open.half.inside))

@@ -11,12 +11,18 @@ use Rattle.judging.specs.Leaves.{taken}
 use Rattle.judging.proofs.Fits.{open-placed}
 use Rattle.blinder.proofs.Kept.{side-bound, square-bound}
 use Rattle.blinder.proofs.Known.{second-known, sending-known, second-computed}
+use Rattle.blinder.proofs.second.compute.Lts
+use Rattle.blinder.proofs.second.compute.Tie
+use Rattle.blinder.proofs.second.compute.Reads
 use Rattle.blinder.proofs.second.compute.Goals as goal
 
-abbrev start : goal.After-side_size-side → goal.Start
+abbrev Start : Type 0
+Start = Lts.Start Tie.the-claims Reads.Pre Reads.Post
+
+abbrev start : goal.After-side_size-side → Start
 start c = c.before.before.before.before.before.before.before.before.before
 
-known : (c : goal.Start) → BlinderFits 3 c.args.s (slot_at c.args.pool.now c.args.at.size c.args.at.index) c.args.scratch.now
+known : (c : Start) → BlinderFits 3 c.args.s (slot_at c.args.pool.now c.args.at.size c.args.at.index) c.args.scratch.now
     (taken 3 c.args.s.terms c.args.residues.now) (message_size 4 c.args.s.terms) (length c.args.out.now)
 known c =
     second-known c.args.s (slot_at c.args.pool.now c.args.at.size c.args.at.index) (taken 3 c.args.s.terms c.args.residues.now)
@@ -38,32 +44,32 @@ pub matrix-qm-requires : goal.matrix-qm-requires
 matrix-qm-requires c = (open-placed blinder _ _ (known (start c)).later.session-open, omega arith)
 
 pub matrix-g-requires : goal.matrix-g-requires
-matrix-g-requires c = (open-placed blinder _ _ (known (start (goal.at.matrix-g-requires c).After-side_size-side)).later.session-open, omega arith)
+matrix-g-requires c = (open-placed blinder _ _ (known (start c.before)).later.session-open, omega arith)
 
 pub slice_bounds-mm-end : goal.slice_bounds-mm-end
-slice_bounds-mm-end c = m-fits (goal.at.slice_bounds-mm-end c).After-side_size-side
+slice_bounds-mm-end c = m-fits c.before.before
 
 pub slice_bounds-send-end : goal.slice_bounds-send-end
-slice_bounds-send-end c = sym (length-take-le _ (start (goal.at.slice_bounds-send-end c).After-side_size-side).args.s.mm (m-fits (goal.at.slice_bounds-send-end c).After-side_size-side))
+slice_bounds-send-end c = sym (length-take-le _ (start c.before.before.before).args.s.mm (m-fits c.before.before.before))
 
 pub slice_bounds-y-end : goal.slice_bounds-y-end
-slice_bounds-y-end c = y-fits (goal.at.slice_bounds-y-end c).After-side_size-side
+slice_bounds-y-end c = y-fits c.before.before.before
 
 pub slice_bounds-send-end-2 : goal.slice_bounds-send-end-2
-slice_bounds-send-end-2 c = sym (length-take-le _ (start (goal.at.slice_bounds-send-end-2 c).After-side_size-side).args.s.y (y-fits (goal.at.slice_bounds-send-end-2 c).After-side_size-side))
+slice_bounds-send-end-2 c = sym (length-take-le _ (start c.before.before.before.before).args.s.y (y-fits c.before.before.before.before))
 
 pub send-requires : goal.send-requires
 send-requires c =
     let told = c in
-    let x = (start (goal.at.send-requires c).After-side_size-side).args.s in
-    sending-known x _ _ (known (start (goal.at.send-requires c).After-side_size-side)) c.matrix-qm.ensures c.matrix-g.ensures
-    (length-take-le _ x.mm (m-fits (goal.at.send-requires c).After-side_size-side) ∙ told.times-square.ensures) (length-take-le _ x.y (y-fits (goal.at.send-requires c).After-side_size-side) ∙ told.side_size-side.ensures)
+    let x = (start c.before.before.before.before.before).args.s in
+    sending-known x _ _ (known (start c.before.before.before.before.before)) c.matrix-qm.ensures c.matrix-g.ensures
+    (length-take-le _ x.mm (m-fits c.before.before.before.before.before) ∙ told.times-square.ensures) (length-take-le _ x.y (y-fits c.before.before.before.before.before) ∙ told.side_size-side.ensures)
 
 pub returns : goal.returns
 returns c =
     let told = c in
-    let a = (start (goal.at.returns c).After-side_size-side).args in
-    second-computed a.s (slot_at a.pool.now a.at.size a.at.index) (taken 3 a.s.terms a.residues.now) (known (start (goal.at.returns c).After-side_size-side))
+    let a = (start c.before.before.before.before.before.before.before.before.before).args in
+    second-computed a.s (slot_at a.pool.now a.at.size a.at.index) (taken 3 a.s.terms a.residues.now) (known (start c.before.before.before.before.before.before.before.before.before))
     c.matrix-qm.ensures c.matrix-g.ensures
     a.out.now c.last_kind.ensures told.times-square.ensures told.side_size-side.ensures
     c.send.ensures

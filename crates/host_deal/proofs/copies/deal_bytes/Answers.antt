@@ -6,8 +6,8 @@ use Rattle.host_deal.proofs.copies.deal_bytes.Goals as goal
 pub returns-in_default : goal.returns-in_default
 returns-in_default c =
     let dealt = c in
-    let second = (goal.at.returns-in_default c).After-deal_copies-answer in
-    let first = (goal.at.returns-in_default c).After-take_words-2 in
+    let second = c.before.before.before.before in
+    let first = c.before.before.before.before.before.before.before.before in
     let a = first.args in
     copied-refused a.at (sort a.s) a.t a.first.now a.second.now a.words.now _ _ first.take_words.ensures second.take_words-2.ensures
     _ _ _ dealt.deal_copies-answer.ensures c.in_default.is
@@ -15,10 +15,10 @@ returns-in_default c =
 pub returns : goal.returns
 returns c =
     let put = c in
-    let told = (goal.at.returns c).After-put_back in
-    let dealt = (goal.at.returns c).In-Accepted in
-    let second = (goal.at.returns c).After-deal_copies-answer in
-    let first = (goal.at.returns c).After-take_words-2 in
+    let told = c.before.before.before.before.before.before.before in
+    let dealt = c.before.before.before.before.before.before.before.before.before.before in
+    let second = c.before.before.before.before.before.before.before.before.before.before.before.before.before.before in
+    let first = c.before.before.before.before.before.before.before.before.before.before.before.before.before.before.before.before.before.before in
     let a = first.args in
     copied-done a.at (sort a.s) a.t a.first.now a.second.now a.words.now _ _ first.take_words.ensures second.take_words-2.ensures
     _ _ _ dealt.deal_copies-answer.ensures told.in-Accepted.is put.put_back.ensures c.put_back-2.ensures

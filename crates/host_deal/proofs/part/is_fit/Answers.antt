@@ -12,13 +12,22 @@ use Rattle.dealer.specs.Sorts.{sort}
 use Rattle.dealer.specs.Groups.{size_tests}
 use Rattle.host_deal.specs.Part.{own_tests, part_tests, is_fit}
 use Rattle.host_deal.proofs.Leaving.{fit_refused, fit_passed}
+use Rattle.host_deal.proofs.part.is_fit.Lts
+use Rattle.host_deal.proofs.part.is_fit.Tie
+use Rattle.host_deal.proofs.part.is_fit.Reads
 use Rattle.host_deal.proofs.part.is_fit.Goals as goal
 
-abbrev start : goal.After-worst-2 → goal.Start
+abbrev After-worst-2 : Type 0
+After-worst-2 = Lts.After-worst2 Tie.the-claims Reads.Pre Reads.Post
+
+abbrev Start : Type 0
+Start = Lts.Start Tie.the-claims Reads.Pre Reads.Post
+
+abbrev start : After-worst-2 → Start
 start c = c.before.before.before.before.before.before.before.before.before
 
 -- all three checks
-told : (c : goal.After-worst-2) → let a = (start c).args in checked c.worst-2.result
+told : (c : After-worst-2) → let a = (start c).args in checked c.worst-2.result
     ≡ judged (part_tests (sort a.s) a.t a.first a.second a.words a.at.size a.at.index)
 unfolding part_tests size_tests
 told c =
@@ -37,12 +46,12 @@ returns-then-t-eq0 c = rw (le-ltb 0 c.args.t.q (omega arith)) refl
 
 pub returns-in_default : goal.returns-in_default
 returns-in_default c =
-    let a = (start (goal.at.returns-in_default c).After-worst-2).args in
+    let a = (start c.before.before).args in
     sym (fit_refused (sort a.s) a.t a.first a.second a.words a.at.size a.at.index
-    (sym (told (goal.at.returns-in_default c).After-worst-2) ∙ ap checked c.in_default.is))
+    (sym (told c.before.before) ∙ ap checked c.in_default.is))
 
 pub returns : goal.returns
 returns c =
-    let a = (start (goal.at.returns c).After-worst-2).args in
+    let a = (start c.before.before).args in
     sym (fit_passed (sort a.s) a.t a.first a.second a.words a.at.size a.at.index (omega arith)
-    (sym (told (goal.at.returns c).After-worst-2) ∙ ap checked c.in-Passed.is))
+    (sym (told c.before.before) ∙ ap checked c.in-Passed.is))

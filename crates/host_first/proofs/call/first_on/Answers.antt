@@ -11,21 +11,21 @@ pub slice_bounds-with_room-end : goal.slice_bounds-with_room-end
 slice_bounds-with_room-end c = search rules
 
 pub slice_bounds-with_room-end-2 : goal.slice_bounds-with_room-end-2
-slice_bounds-with_room-end-2 c = sym (length-take-le _ _ (slice_bounds-with_room-end (goal.at.slice_bounds-with_room-end-2 c).After-slice_known-9-1))
+slice_bounds-with_room-end-2 c = sym (length-take-le _ _ (slice_bounds-with_room-end c.before))
 
 pub slice_bounds-with_room-end-3 : goal.slice_bounds-with_room-end-3
 slice_bounds-with_room-end-3 c = search rules
 
 pub slice_bounds-with_room-end-4 : goal.slice_bounds-with_room-end-4
-slice_bounds-with_room-end-4 c = sym (length-take-le _ _ (slice_bounds-with_room-end-3 (goal.at.slice_bounds-with_room-end-4 c).After-slice_known-9-1))
+slice_bounds-with_room-end-4 c = sym (length-take-le _ _ (slice_bounds-with_room-end-3 c.before))
 
 pub with_room-requires : goal.with_room-requires
 with_room-requires c =
     let at16 = c in
-    let at17 = (goal.at.with_room-requires c).After-check_first-free in
-    let at18 = (goal.at.with_room-requires c).After-due_in in
-    let at20 = (goal.at.with_room-requires c).After-check_session-lengths in
-    let at31 = (goal.at.with_room-requires c).After-slice_known-6-1 in
+    let at17 = c.before.before.before.before.before.before.before.before.before.before.before.before.before.before.before.before in
+    let at18 = c.before.before.before.before.before.before.before.before.before.before.before.before.before.before.before.before.before in
+    let at20 = c.before.before.before.before.before.before.before.before.before.before.before.before.before.before.before.before.before.before in
+    let at31 = c.before.before.before.before.before.before.before.before.before.before.before.before.before.before.before.before.before.before.before.before in
     let a = at31.args in
     let l : Lent = record {
       host = a.session.now;
@@ -39,13 +39,13 @@ with_room-requires c =
 pub returns : goal.returns
 returns c =
     let at10 = c in
-    let at20 = (goal.at.returns c).After-with_room in
-    let at25 = (goal.at.returns c).After-sift_coins-arg-1 in
-    let at27 = (goal.at.returns c).After-get_input-arg-1 in
-    let at28 = (goal.at.returns c).After-check_first-free in
-    let at29 = (goal.at.returns c).After-due_in in
-    let at31 = (goal.at.returns c).After-check_session-lengths in
-    let at42 = (goal.at.returns c).After-slice_known-6-1 in
+    let at20 = c.before.before.before.before.before.before.before.before.before.before in
+    let at25 = c.before.before.before.before.before.before.before.before.before.before.before.before.before.before.before.before.before.before.before.before in
+    let at27 = c.before.before.before.before.before.before.before.before.before.before.before.before.before.before.before.before.before.before.before.before.before.before.before.before.before in
+    let at28 = c.before.before.before.before.before.before.before.before.before.before.before.before.before.before.before.before.before.before.before.before.before.before.before.before.before.before.before in
+    let at29 = c.before.before.before.before.before.before.before.before.before.before.before.before.before.before.before.before.before.before.before.before.before.before.before.before.before.before.before.before in
+    let at31 = c.before.before.before.before.before.before.before.before.before.before.before.before.before.before.before.before.before.before.before.before.before.before.before.before.before.before.before.before.before in
+    let at42 = c.before.before.before.before.before.before.before.before.before.before.before.before.before.before.before.before.before.before.before.before.before.before.before.before.before.before.before.before.before.before.before in
     let a = at42.args in
     let l : Lent = record {
       host = a.session.now;

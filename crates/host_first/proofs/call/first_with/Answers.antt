@@ -1,7 +1,6 @@
 -- `host_first::call::first_with` meets its contract. Assumes nothing.
 use mathlib.Core.Path.{sym, ◌∙◌}
 use native.Mathlib.Omega.{arith}
-use borrow.Author.Tests.{not-true, not-false}
 use Rattle.entry.specs.Entry.{Lent}
 use Rattle.host_parts.proofs.TakenLaws.{taken-message, taken-wrong}
 use Rattle.host_first.proofs.Opened.{opened-alone, opened-wrong, opened-sent}
@@ -10,10 +9,10 @@ use Rattle.host_first.proofs.call.first_with.Goals as goal
 pub returns-then-not-takes_message : goal.returns-then-not-takes_message
 returns-then-not-takes_message c =
     let at14 = c in
-    let at23 = (goal.at.returns-then-not-takes_message c).After-first_on in
-    let at24 = (goal.at.returns-then-not-takes_message c).Then-not-takes_message in
-    let at25 = (goal.at.returns-then-not-takes_message c).After-takes_message in
-    let at37 = (goal.at.returns-then-not-takes_message c).After-slice_known-8-1 in
+    let at23 = c.before.before.before.before.before.before.before.before.before.before.before.before.before.before in
+    let at24 = c.before.before.before.before.before.before.before.before.before.before.before.before.before.before.before.before.before.before.before.before.before.before.before in
+    let at25 = c.before.before.before.before.before.before.before.before.before.before.before.before.before.before.before.before.before.before.before.before.before.before.before.before in
+    let at37 = c.before.before.before.before.before.before.before.before.before.before.before.before.before.before.before.before.before.before.before.before.before.before.before.before.before in
     let a = at37.args in
     let l : Lent = record {
       host = a.session.now;
@@ -23,13 +22,13 @@ returns-then-not-takes_message c =
       result = a.result.now;
     } in
     opened-alone l a.f.at.size a.f.at.index a.f.end a.f.terms a.input.now a.raw.now a.message.now
-    (sym at25.takes_message.ensures ∙ not-true _ at24.if-not-takes_message.true) at23.no_head-none.ensures at14.first_on.ensures
+    (sym at25.takes_message.ensures ∙ at24.if-not-takes_message.true) at23.no_head-none.ensures at14.first_on.ensures
 
 pub returns-in_default : goal.returns-in_default
 returns-in_default c =
     let at7 = c in
-    let at8 = (goal.at.returns-in_default c).Else-not-takes_message in
-    let at20 = (goal.at.returns-in_default c).After-takes_message in
+    let at8 = c.before.before.before.before.before.before.before in
+    let at20 = c.before.before.before.before.before.before.before.before in
     let a = at20.args in
     let l : Lent = record {
       host = a.session.now;
@@ -39,12 +38,12 @@ returns-in_default c =
       result = a.result.now;
     } in
     opened-wrong l a.f.at.size a.f.at.index a.f.end a.f.terms a.input.now a.raw.now a.message.now
-    (sym at8.takes_message.ensures ∙ not-false _ at7.if-not-takes_message.false) (taken-wrong _ _ c.take_line-loaded.ensures c.in_default.is) c.refusal.ensures
+    (sym at8.takes_message.ensures ∙ at7.if-not-takes_message.false) (taken-wrong _ _ c.take_line-loaded.ensures c.in_default.is) c.refusal.ensures
 
 pub residues_in-residues-requires : goal.residues_in-residues-requires
 residues_in-residues-requires c =
     let at7 = c in
-    let at22 = (goal.at.residues_in-residues-requires c).After-take_line-arg-1 in
+    let at22 = c.before.before.before.before.before.before.before in
     omega (arith, c.Opening-of.ensures.2, at7.take_line-loaded.auto, at22.requires.0)
 
 pub first_on-requires-2 : goal.first_on-requires-2
@@ -60,13 +59,13 @@ shape_of-numbers c =
 pub returns : goal.returns
 returns c =
     let at14 = c in
-    let at22 = (goal.at.returns c).After-first_on-2 in
-    let at24 = (goal.at.returns c).After-first_on-arg-2-1 in
-    let at26 = (goal.at.returns c).After-opening_of-opened in
-    let at30 = (goal.at.returns c).In-Message-2 in
-    let at32 = (goal.at.returns c).After-take_line-loaded in
-    let at33 = (goal.at.returns c).Else-not-takes_message in
-    let at45 = (goal.at.returns c).After-takes_message in
+    let at22 = c.before.before.before.before.before.before.before.before.before.before.before.before.before.before in
+    let at24 = c.before.before.before.before.before.before.before.before.before.before.before.before.before.before.before.before.before.before.before.before.before.before in
+    let at26 = c.before.before.before.before.before.before.before.before.before.before.before.before.before.before.before.before.before.before.before.before.before.before.before.before in
+    let at30 = c.before.before.before.before.before.before.before.before.before.before.before.before.before.before.before.before.before.before.before.before.before.before.before.before.before.before in
+    let at32 = c.before.before.before.before.before.before.before.before.before.before.before.before.before.before.before.before.before.before.before.before.before.before.before.before.before.before.before.before.before.before in
+    let at33 = c.before.before.before.before.before.before.before.before.before.before.before.before.before.before.before.before.before.before.before.before.before.before.before.before.before.before.before.before.before.before.before.before in
+    let at45 = c.before.before.before.before.before.before.before.before.before.before.before.before.before.before.before.before.before.before.before.before.before.before.before.before.before.before.before.before.before.before.before.before.before in
     let a = at45.args in
     let l : Lent = record {
       host = a.session.now;
@@ -77,5 +76,5 @@ returns c =
     } in
     let opened = at24.Opening-of in
     opened-sent l a.f.at.size a.f.at.index a.f.end a.f.terms a.input.now a.raw.now a.message.now
-    (sym at33.takes_message.ensures ∙ not-false _ at32.if-not-takes_message.false) (taken-message _ _ at30.take_line-loaded.ensures at26.in-Message.is) opened.ensures.0 opened.ensures.1 opened.ensures.3
+    (sym at33.takes_message.ensures ∙ at32.if-not-takes_message.false) (taken-message _ _ at30.take_line-loaded.ensures at26.in-Message.is) opened.ensures.0 opened.ensures.1 opened.ensures.3
     (omega (arith, opened.ensures.2, at30.take_line-loaded.auto, at45.requires.0)) at22.residues_in-residues.ensures at14.first_on-2.ensures

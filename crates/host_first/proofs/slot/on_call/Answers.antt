@@ -19,34 +19,34 @@ pub slice_bounds-on_slot-end-2 : goal.slice_bounds-on_slot-end-2
 slice_bounds-on_slot-end-2 c = search rules
 
 pub slice_bounds-on_slot-end-3 : goal.slice_bounds-on_slot-end-3
-slice_bounds-on_slot-end-3 c = sym (length-take-le _ _ (slice_bounds-on_slot-end-2 (goal.at.slice_bounds-on_slot-end-3 c).After-on_slot-arg-5-1))
+slice_bounds-on_slot-end-3 c = sym (length-take-le _ _ (slice_bounds-on_slot-end-2 c.before))
 
 pub slice_bounds-on_slot-end-4 : goal.slice_bounds-on_slot-end-4
 slice_bounds-on_slot-end-4 c =
     let at7 = c in
-    let at23 = (goal.at.slice_bounds-on_slot-end-4 c).After-smaller-k in
+    let at23 = c.before.before.before.before.before.before.before in
     let a = at23.args in
     few_words _ (length a.scratch.now) a.lent.now at7.smaller-k.ensures
 
 pub slice_bounds-on_slot-end-5 : goal.slice_bounds-on_slot-end-5
-slice_bounds-on_slot-end-5 c = sym (length-take-le _ _ (slice_bounds-on_slot-end-4 (goal.at.slice_bounds-on_slot-end-5 c).After-on_slot-arg-6-1))
+slice_bounds-on_slot-end-5 c = sym (length-take-le _ _ (slice_bounds-on_slot-end-4 c.before))
 
 pub slice_bounds-on_slot-end-6 : goal.slice_bounds-on_slot-end-6
 slice_bounds-on_slot-end-6 c =
     let at8 = c in
-    let at25 = (goal.at.slice_bounds-on_slot-end-6 c).After-smaller-j in
+    let at25 = c.before.before.before.before.before.before.before.before in
     let a = at25.args in
     few_words _ (length a.result.now) a.share.now at8.smaller-j.ensures
 
 pub slice_bounds-on_slot-end-7 : goal.slice_bounds-on_slot-end-7
-slice_bounds-on_slot-end-7 c = sym (length-take-le _ _ (slice_bounds-on_slot-end-6 (goal.at.slice_bounds-on_slot-end-7 c).After-on_slot-arg-8-1))
+slice_bounds-on_slot-end-7 c = sym (length-take-le _ _ (slice_bounds-on_slot-end-6 c.before))
 
 pub on_slot-requires : goal.on_slot-requires
 on_slot-requires c =
     let at9 = c in
-    let at10 = (goal.at.on_slot-requires c).After-smaller-j in
-    let at11 = (goal.at.on_slot-requires c).After-smaller-k in
-    let at26 = (goal.at.on_slot-requires c).After-seen_in-seen in
+    let at10 = c.before.before.before.before.before.before.before.before.before in
+    let at11 = c.before.before.before.before.before.before.before.before.before.before in
+    let at26 = c.before.before.before.before.before.before.before.before.before.before.before in
     let a = at26.args in
     let h = at26.requires in
     let seen = at11.seen_in-seen in (
@@ -62,11 +62,11 @@ pub returns : goal.returns
 unfolding seen_first
 returns c =
     let at18 = c in
-    let at28 = (goal.at.returns c).After-on_slot in
-    let at29 = (goal.at.returns c).After-smaller-j in
-    let at30 = (goal.at.returns c).After-smaller-k in
-    let at31 = (goal.at.returns c).After-seen_in-seen in
-    let at45 = (goal.at.returns c).After-end_of in
+    let at28 = c.before.before.before.before.before.before.before.before.before.before.before.before.before.before.before.before.before.before in
+    let at29 = c.before.before.before.before.before.before.before.before.before.before.before.before.before.before.before.before.before.before.before.before.before.before.before.before.before.before.before.before in
+    let at30 = c.before.before.before.before.before.before.before.before.before.before.before.before.before.before.before.before.before.before.before.before.before.before.before.before.before.before.before.before.before in
+    let at31 = c.before.before.before.before.before.before.before.before.before.before.before.before.before.before.before.before.before.before.before.before.before.before.before.before.before.before.before.before.before.before in
+    let at45 = c.before.before.before.before.before.before.before.before.before.before.before.before.before.before.before.before.before.before.before.before.before.before.before.before.before.before.before.before.before.before.before in
     let a = at45.args in
     let h = at45.requires in
     let end = at31.end_of_lem in

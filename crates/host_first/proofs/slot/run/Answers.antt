@@ -10,23 +10,23 @@ use Rattle.host_first.proofs.slot.run.Goals as goal
 pub shape_of-words : goal.shape_of-words
 shape_of-words c =
     let at7 = c in
-    let at23 = (goal.at.shape_of-words c).After-words-2-1 in
+    let at23 = c.before.before.before.before.before.before.before in
     at7.words-2-1.given ∙ at23.words-1.given
 
 pub shape_of-lent : goal.shape_of-lent
 shape_of-lent c =
     let at5 = c in
-    let at19 = (goal.at.shape_of-lent c).After-lent-2-1 in
+    let at19 = c.before.before.before.before.before in
     at5.lent-2-1.given ∙ at19.lent-1.given
 
 pub returns : goal.returns
 returns c =
     let at8 = c in
-    let at8 = (goal.at.returns c).After-first_step in
-    let at16 = (goal.at.returns c).After-first_step in
-    let at20 = (goal.at.returns c).After-share-1 in
-    let at24 = (goal.at.returns c).After-lent-1 in
-    let at36 = (goal.at.returns c).After-words-1 in
+    let at8 = c.before.before.before.before.before.before.before.before in
+    let at16 = c.before.before.before.before.before.before.before.before in
+    let at20 = c.before.before.before.before.before.before.before.before.before.before.before.before.before.before.before.before in
+    let at24 = c.before.before.before.before.before.before.before.before.before.before.before.before.before.before.before.before.before.before.before.before in
+    let at36 = c.before.before.before.before.before.before.before.before.before.before.before.before.before.before.before.before.before.before.before.before.before.before.before.before in
     let a = at36.args in
     let h = at36.requires in
     let message = message_with a.q.head a.residues.now in

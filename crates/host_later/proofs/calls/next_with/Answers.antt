@@ -8,8 +8,8 @@ use Rattle.host_later.proofs.calls.next_with.Goals as goal
 pub returns-in_default : goal.returns-in_default
 returns-in_default c =
     let told = c in
-    let taken = (goal.at.returns-in_default c).In_default in
-    let start = (goal.at.returns-in_default c).After-take_line-loaded in
+    let taken = c.before in
+    let start = c.before.before.before.before.before in
     let a = start.args in
     let l : Lent = record {
       host = a.session.now;
@@ -23,7 +23,7 @@ returns-in_default c =
 pub with_room-requires : goal.with_room-requires
 with_room-requires c =
     let lengths = c in
-    let start = (goal.at.with_room-requires c).After-slice_known-6-1 in
+    let start = c.before.before.before.before.before.before.before.before.before.before.before.before.before.before.before in
     let a = start.args in
     let l : Lent = record {
       host = a.session.now;
@@ -37,13 +37,13 @@ with_room-requires c =
 pub returns : goal.returns
 returns c =
     let ran = c in
-    let cut = (goal.at.returns c).After-with_room in
-    let counted = (goal.at.returns c).After-residues_in-residues in
-    let known = (goal.at.returns c).In-Message in
-    let kept = (goal.at.returns c).In-Message-1 in
-    let taken = (goal.at.returns c).After-take_line-loaded in
-    let lengths = (goal.at.returns c).After-take_line-arg-1 in
-    let start = (goal.at.returns c).After-slice_known-6-1 in
+    let cut = c.before.before.before.before.before.before.before.before.before.before in
+    let counted = c.before.before.before.before.before.before.before.before.before.before.before.before.before.before.before.before in
+    let known = c.before.before.before.before.before.before.before.before.before.before.before.before.before.before.before.before.before.before in
+    let kept = c.before.before.before.before.before.before.before.before.before.before.before.before.before.before.before.before.before.before.before.before in
+    let taken = c.before.before.before.before.before.before.before.before.before.before.before.before.before.before.before.before.before.before.before.before.before.before.before in
+    let lengths = c.before.before.before.before.before.before.before.before.before.before.before.before.before.before.before.before.before.before.before.before.before.before.before.before in
+    let start = c.before.before.before.before.before.before.before.before.before.before.before.before.before.before.before.before.before.before.before.before.before.before.before.before.before.before in
     let a = start.args in
     let l : Lent = record {
       host = a.session.now;

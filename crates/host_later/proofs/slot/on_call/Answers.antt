@@ -21,31 +21,31 @@ pub slice_bounds-on_slot-end-2 : goal.slice_bounds-on_slot-end-2
 slice_bounds-on_slot-end-2 c = search rules
 
 pub slice_bounds-on_slot-end-3 : goal.slice_bounds-on_slot-end-3
-slice_bounds-on_slot-end-3 c = sym (length-take-le _ _ (slice_bounds-on_slot-end-2 (goal.at.slice_bounds-on_slot-end-3 c).After-on_slot-arg-5-1))
+slice_bounds-on_slot-end-3 c = sym (length-take-le _ _ (slice_bounds-on_slot-end-2 c.before))
 
 pub slice_bounds-on_slot-end-4 : goal.slice_bounds-on_slot-end-4
 slice_bounds-on_slot-end-4 c =
     let cut = c in
-    let start = (goal.at.slice_bounds-on_slot-end-4 c).After-smaller-k in
+    let start = c.before.before.before.before.before.before.before in
     few_words _ (length start.args.scratch.now) start.args.lent.now cut.smaller-k.ensures
 
 pub slice_bounds-on_slot-end-5 : goal.slice_bounds-on_slot-end-5
-slice_bounds-on_slot-end-5 c = sym (length-take-le _ _ (slice_bounds-on_slot-end-4 (goal.at.slice_bounds-on_slot-end-5 c).After-on_slot-arg-6-1))
+slice_bounds-on_slot-end-5 c = sym (length-take-le _ _ (slice_bounds-on_slot-end-4 c.before))
 
 pub slice_bounds-on_slot-end-6 : goal.slice_bounds-on_slot-end-6
 slice_bounds-on_slot-end-6 c =
     let cut = c in
-    let start = (goal.at.slice_bounds-on_slot-end-6 c).After-smaller-j in
+    let start = c.before.before.before.before.before.before.before.before in
     few_words _ (length start.args.res.now) start.args.share.now cut.smaller-j.ensures
 
 pub slice_bounds-on_slot-end-7 : goal.slice_bounds-on_slot-end-7
-slice_bounds-on_slot-end-7 c = sym (length-take-le _ _ (slice_bounds-on_slot-end-6 (goal.at.slice_bounds-on_slot-end-7 c).After-on_slot-arg-8-1))
+slice_bounds-on_slot-end-7 c = sym (length-take-le _ _ (slice_bounds-on_slot-end-6 c.before))
 
 pub on_slot-requires : goal.on_slot-requires
 on_slot-requires c =
     let cut = c in
-    let placed = (goal.at.on_slot-requires c).After-smaller-j in
-    let start = (goal.at.on_slot-requires c).After-seen_in-seen in
+    let placed = c.before.before.before.before.before.before.before.before.before in
+    let start = c.before.before.before.before.before.before.before.before.before.before.before in
     let a = start.args in
     let h = start.requires in
     let place = placed.seen_in-seen in (
@@ -61,14 +61,14 @@ pub returns : goal.returns
 unfolding seen_later
 returns c =
     let at18 = c in
-    let called = (goal.at.returns c).After-on_slot in
-    let cut = (goal.at.returns c).After-on_slot in
+    let called = c.before.before.before.before.before.before.before.before.before.before.before.before.before.before.before.before.before.before in
+    let cut = c.before.before.before.before.before.before.before.before.before.before.before.before.before.before.before.before.before.before in
     let lent = cut.smaller-k in
     let share = cut.smaller-j in
-    let placed = (goal.at.returns c).After-smaller-j in
+    let placed = c.before.before.before.before.before.before.before.before.before.before.before.before.before.before.before.before.before.before.before.before.before.before.before.before.before.before.before.before in
     let place = placed.seen_in-seen in
     let half = placed.half_in-half in
-    let start = (goal.at.returns c).After-seen_in-seen in
+    let start = c.before.before.before.before.before.before.before.before.before.before.before.before.before.before.before.before.before.before.before.before.before.before.before.before.before.before.before.before.before.before in
     let a = start.args in
     let h = start.requires in
     let l : Lent = record {

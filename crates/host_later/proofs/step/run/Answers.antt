@@ -9,16 +9,16 @@ use Rattle.host_later.proofs.step.run.Goals as goal
 pub shape_of-words : goal.shape_of-words
 shape_of-words c =
     let back = c in
-    let brought = (goal.at.shape_of-words c).After-words-2-1 in
+    let brought = c.before.before.before.before.before.before.before in
     back.words-2-1.given ∙ brought.words-1.given
 
 pub returns : goal.returns
 returns c =
     let performed = c in
-    let share = (goal.at.returns c).After-perform in
-    let lent = (goal.at.returns c).After-get_words-3 in
-    let words = (goal.at.returns c).After-get_words-2 in
-    let start = (goal.at.returns c).After-get_words in
+    let share = c.before.before.before.before.before.before.before.before in
+    let lent = c.before.before.before.before.before.before.before.before.before.before.before.before.before.before.before in
+    let words = c.before.before.before.before.before.before.before.before.before.before.before.before.before.before.before.before.before.before.before in
+    let start = c.before.before.before.before.before.before.before.before.before.before.before.before.before.before.before.before.before.before.before.before.before.before.before in
     let a = start.args in
     let h = start.requires in
     run_on (λ s ls j. later_step a.drops a.x s ls (message_with a.a a.residues.now) (length a.out.now) j) a.x a.out.now

@@ -9,10 +9,16 @@ use Rattle.judging.specs.InOrder.{checked, judged}
 use Rattle.judging.proofs.Phases.{head-phases, head-sides}
 use Rattle.judging.proofs.Join.{also, hands_on, goes-past}
 use Rattle.judging.proofs.KindLaws.{few}
+use Rattle.judging.proofs.numbers.check_head.Lts
+use Rattle.judging.proofs.numbers.check_head.Tie
+use Rattle.judging.proofs.numbers.check_head.Reads
 use Rattle.judging.proofs.numbers.check_head.Goals as goal
 
+abbrev After-worst-head : Type 0
+After-worst-head = Lts.After-worst Tie.the-claims Reads.Pre Reads.Post
+
 -- the head without the count of residues
-judged-head : (c : goal.After-worst-head) → checked c.worst-head.result ≡ judged (head_tests c.args.a)
+judged-head : (c : After-worst-head) → checked c.worst-head.result ≡ judged (head_tests c.args.a)
 unfolding head_tests number_tests id_tests
 judged-head c =
     let a = c.args.a in
@@ -23,13 +29,13 @@ judged-head c =
 pub returns-in_default : goal.returns-in_default
 returns-in_default c =
     let a = c.args in
-    hands_on c.worst-head.result _ (judged-head (goal.at.returns-in_default c).After-worst-head) c.in_default.is ∙ sym (head-phases a.a a.count)
+    hands_on c.worst-head.result _ (judged-head c.before.before) c.in_default.is ∙ sym (head-phases a.a a.count)
 
 pub message_size-requires : goal.message_size-requires
 message_size-requires c =
     let a = c.args.a in
     let t = a.terms in
-    few (kind_sort a.kind) t.m t.k t.p (head-sides a (sym (judged-head (goal.at.message_size-requires c).After-worst-head) ∙ ap checked c.in-Passed.is))
+    few (kind_sort a.kind) t.m t.k t.p (head-sides a (sym (judged-head c.before.before) ∙ ap checked c.in-Passed.is))
 
 pub returns : goal.returns
 unfolding count_tests
@@ -37,4 +43,4 @@ returns c =
     let before = c in
     let a = before.args in
     simp (c.need.ensures, c.message_size.ensures) refl ∙ sym
-    (head-phases a.a a.count ∙ goes-past before.worst-head.result (judged-head (goal.at.returns c).After-worst-head) c.in-Passed.is)
+    (head-phases a.a a.count ∙ goes-past before.worst-head.result (judged-head c.before.before.before.before) c.in-Passed.is)

@@ -9,7 +9,7 @@ use Rattle.matrix.proofs.formula.write_reply.Goals as goal
 pub returns : goal.returns
 returns c =
     let first = c in
-    let start = (goal.at.returns c).After-write_negative in
+    let start = c.before.before.before.before.before.before.before.before.before.before in
     let a = start.args in
     let minus : List ℕ = negated a.s.q (a.s.m * a.s.p) a.u.now in
     let n : ℕ = a.s.m * a.s.p in

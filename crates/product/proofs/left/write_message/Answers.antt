@@ -26,7 +26,7 @@ add_residues-requires c =
 pub write_reply-requires : goal.write_reply-requires
 write_reply-requires c =
     let at = c in
-    let start = (goal.at.write_reply-requires c).After-times-mk in
+    let start = c.before.before.before.before.before.before in
     let a = start.args in
     let h = start.requires in
     let n = at.times-mk.ensures in
@@ -50,12 +50,12 @@ pub returns : goal.returns
 unfolding send_x send_r
 returns c =
     let at = c in
-    let start = (goal.at.returns c).After-add_residues in
+    let start = c.before.before.before.before.before.before.before in
     let a = start.args in
     let h = start.requires in
     let n = at.times-mk.ensures in
     let full = (sum-residues h.some-q (a.t.m * a.t.k) a.x.now a.x0.now).size in
-    let first = rw n (goal.at.returns c).After-add_residues at.add_residues.ensures in
+    let first = rw n c.before.before.before.before.before.before.before at.add_residues.ensures in
     rw n
     (part_then _ _ a.out.now _ _ (a.t.m * a.t.k) full (omega (arith, ap length first ∙ over-length _ a.out.now (omega (arith, full, h.room)), h.room))
-    first (rw (n, c.sides_of.ensures) (goal.at.returns c).After-add_residues c.write_reply.ensures))
+    first (rw (n, c.sides_of.ensures) c.before.before.before.before.before.before.before c.write_reply.ensures))

@@ -17,52 +17,52 @@ slot_size-size-requires c =
     (fits a.t a.x.now a.y.now a.dealer.now a.coins.now c.requires.0).terms.sides
 
 pub slice_bounds-deal_product-end : goal.slice_bounds-deal_product-end
-slice_bounds-deal_product-end c = sym (length-take-le _ _ (omega (arith, few (goal.at.slice_bounds-deal_product-end c).After-slot_size-size, length-replicate {A = ℕ} 4096 0)))
+slice_bounds-deal_product-end c = sym (length-take-le _ _ (omega (arith, few c.before, length-replicate {A = ℕ} 4096 0)))
 
 pub slice_bounds-deal_product-end-2 : goal.slice_bounds-deal_product-end-2
-slice_bounds-deal_product-end-2 c = sym (length-take-le _ _ (omega (arith, few (goal.at.slice_bounds-deal_product-end-2 c).After-slot_size-size, length-replicate {A = ℕ} 4096 0)))
+slice_bounds-deal_product-end-2 c = sym (length-take-le _ _ (omega (arith, few c.before.before, length-replicate {A = ℕ} 4096 0)))
 
 pub slice_bounds-first-end-2 : goal.slice_bounds-first-end-2
 slice_bounds-first-end-2 c =
     let sized = c in
-    let e = came-back sized.slot_size-size.result 4096 _ (few (goal.at.slice_bounds-first-end-2 c).After-slot_size-size) c.first-2-1.given in
+    let e = came-back sized.slot_size-size.result 4096 _ (few c.before.before.before.before.before) c.first-2-1.given in
     simp length-append (omega (arith, e))
 
 pub slice_bounds-play-end : goal.slice_bounds-play-end
 slice_bounds-play-end c =
     let sized = c in
-    let e = came-back sized.slot_size-size.result 4096 _ (few (goal.at.slice_bounds-play-end c).After-slot_size-size) c.first-2-1.given in
+    let e = came-back sized.slot_size-size.result 4096 _ (few c.before.before.before.before.before.before) c.first-2-1.given in
     sym (length-take-le _ _ (simp length-append (omega (arith, e))))
 
 pub slice_bounds-second-end-2 : goal.slice_bounds-second-end-2
 slice_bounds-second-end-2 c =
     let sized = c in
-    let e = came-back sized.slot_size-size.result 4096 _ (few (goal.at.slice_bounds-second-end-2 c).After-slot_size-size) c.second-2-1.given in
+    let e = came-back sized.slot_size-size.result 4096 _ (few c.before.before.before.before.before.before) c.second-2-1.given in
     simp length-append (omega (arith, e))
 
 pub slice_bounds-play-end-2 : goal.slice_bounds-play-end-2
 slice_bounds-play-end-2 c =
     let sized = c in
-    let e = came-back sized.slot_size-size.result 4096 _ (few (goal.at.slice_bounds-play-end-2 c).After-slot_size-size) c.second-2-1.given in
+    let e = came-back sized.slot_size-size.result 4096 _ (few c.before.before.before.before.before.before.before) c.second-2-1.given in
     sym (length-take-le _ _ (simp length-append (omega (arith, e))))
 
 pub play-requires : goal.play-requires
 play-requires c =
     let dealt = c in
-    let whole = (goal.at.play-requires c).After-deal_product in
+    let whole = c.before.before.before.before.before in
     let a = whole.args in
     ((fits a.t a.x.now a.y.now a.dealer.now a.coins.now whole.requires.0).terms.sides, whole.requires.1)
 
 pub returns : goal.returns
 returns c =
     let dealt = c in
-    let sized = (goal.at.returns c).After-deal_product in
-    let whole = (goal.at.returns c).After-slot_size-size in
+    let sized = c.before.before.before.before.before.before.before.before.before.before in
+    let whole = c.before.before.before.before.before.before.before.before.before.before.before.before.before in
     let a = whole.args in
     let n = sized.slot_size-size in
-    let empty = pool-taken a.t n.result 4096 (few (goal.at.returns c).After-slot_size-size) n.ensures.0 in
-    let in-first = came-back n.result 4096 _ (few (goal.at.returns c).After-slot_size-size) c.first-2-1.given in
-    let in-second = came-back n.result 4096 _ (few (goal.at.returns c).After-slot_size-size) c.second-2-1.given in
+    let empty = pool-taken a.t n.result 4096 (few c.before.before.before.before.before.before.before.before.before.before.before.before.before) n.ensures.0 in
+    let in-first = came-back n.result 4096 _ (few c.before.before.before.before.before.before.before.before.before.before.before.before.before) c.first-2-1.given in
+    let in-second = came-back n.result 4096 _ (few c.before.before.before.before.before.before.before.before.before.before.before.before.before) c.second-2-1.given in
     let behind : List ℕ = drop n.result (replicate 4096 0) in
     c.play.ensures a.dealer.now
     (dealt-again behind behind in-first in-second

@@ -23,91 +23,91 @@ pub overflow_add-reply : goal.overflow_add-reply
 overflow_add-reply c = omega (arith, (few c).1)
 
 pub slice_bounds-y1-end : goal.slice_bounds-y1-end
-slice_bounds-y1-end c = (few (goal.at.slice_bounds-y1-end c).After-times).0
+slice_bounds-y1-end c = (few c.before.before).0
 
 pub slice_bounds-steps-end : goal.slice_bounds-steps-end
-slice_bounds-steps-end c = sym (length-take-le _ _ (omega (arith, (few (goal.at.slice_bounds-steps-end c).After-times).0, length-replicate {A = ℕ} 2048 0)))
+slice_bounds-steps-end c = sym (length-take-le _ _ (omega (arith, (few c.before.before.before).0, length-replicate {A = ℕ} 2048 0)))
 
 pub slice_bounds-x1r1-end : goal.slice_bounds-x1r1-end
-slice_bounds-x1r1-end c = (few (goal.at.slice_bounds-x1r1-end c).After-times).1
+slice_bounds-x1r1-end c = (few c.before.before.before).1
 
 pub slice_bounds-steps-end-2 : goal.slice_bounds-steps-end-2
-slice_bounds-steps-end-2 c = sym (length-take-le _ _ (omega (arith, (few (goal.at.slice_bounds-steps-end-2 c).After-times).1, length-replicate {A = ℕ} 3072 0)))
+slice_bounds-steps-end-2 c = sym (length-take-le _ _ (omega (arith, (few c.before.before.before.before).1, length-replicate {A = ℕ} 3072 0)))
 
 pub slice_bounds-u-end : goal.slice_bounds-u-end
-slice_bounds-u-end c = (few (goal.at.slice_bounds-u-end c).After-times).2
+slice_bounds-u-end c = (few c.before.before.before.before).2
 
 pub slice_bounds-steps-end-3 : goal.slice_bounds-steps-end-3
-slice_bounds-steps-end-3 c = sym (length-take-le _ _ (omega (arith, (few (goal.at.slice_bounds-steps-end-3 c).After-times).2, length-replicate {A = ℕ} 1024 0)))
+slice_bounds-steps-end-3 c = sym (length-take-le _ _ (omega (arith, (few c.before.before.before.before.before).2, length-replicate {A = ℕ} 1024 0)))
 
 pub slice_bounds-v-end : goal.slice_bounds-v-end
-slice_bounds-v-end c = (few (goal.at.slice_bounds-v-end c).After-times).2
+slice_bounds-v-end c = (few c.before.before.before.before.before).2
 
 pub slice_bounds-steps-end-4 : goal.slice_bounds-steps-end-4
-slice_bounds-steps-end-4 c = sym (length-take-le _ _ (omega (arith, (few (goal.at.slice_bounds-steps-end-4 c).After-times).2, length-replicate {A = ℕ} 1024 0)))
+slice_bounds-steps-end-4 c = sym (length-take-le _ _ (omega (arith, (few c.before.before.before.before.before.before).2, length-replicate {A = ℕ} 1024 0)))
 
 pub slice_bounds-y1-end-2 : goal.slice_bounds-y1-end-2
 slice_bounds-y1-end-2 c =
     let lent = c in
-    let counted = (goal.at.slice_bounds-y1-end-2 c).After-steps-heads in
-    let e = came-back counted.times-kp.result 2048 _ (few (goal.at.slice_bounds-y1-end-2 c).After-times).0 c.y1-2-1.given in
+    let counted = c.before.before.before.before.before.before.before.before.before.before in
+    let e = came-back counted.times-kp.result 2048 _ (few c.before.before.before.before.before.before.before.before.before.before.before.before.before.before.before.before.before).0 c.y1-2-1.given in
     simp length-append (omega (arith, e))
 
 pub slice_bounds-result-end : goal.slice_bounds-result-end
 slice_bounds-result-end c =
     let lent = c in
-    let counted = (goal.at.slice_bounds-result-end c).After-steps-heads in
-    let e = came-back counted.times-kp.result 2048 _ (few (goal.at.slice_bounds-result-end c).After-times).0 c.y1-2-1.given in
+    let counted = c.before.before.before.before.before.before.before.before.before.before.before in
+    let e = came-back counted.times-kp.result 2048 _ (few c.before.before.before.before.before.before.before.before.before.before.before.before.before.before.before.before.before.before).0 c.y1-2-1.given in
     sym (length-take-le _ _ (simp length-append (omega (arith, e))))
 
 pub slice_bounds-x1r1-end-2 : goal.slice_bounds-x1r1-end-2
 slice_bounds-x1r1-end-2 c =
     let lent = c in
-    let counted = (goal.at.slice_bounds-x1r1-end-2 c).After-steps-heads in
-    let e = came-back (counted.times.result + counted.times-mp.result) 3072 _ (few (goal.at.slice_bounds-x1r1-end-2 c).After-times).1 c.x1r1-2-1.given in
+    let counted = c.before.before.before.before.before.before.before.before.before.before.before in
+    let e = came-back (counted.times.result + counted.times-mp.result) 3072 _ (few c.before.before.before.before.before.before.before.before.before.before.before.before.before.before.before.before.before.before).1 c.x1r1-2-1.given in
     simp length-append (omega (arith, e))
 
 pub slice_bounds-result-end-2 : goal.slice_bounds-result-end-2
 slice_bounds-result-end-2 c =
     let lent = c in
-    let counted = (goal.at.slice_bounds-result-end-2 c).After-steps-heads in
-    let e = came-back (counted.times.result + counted.times-mp.result) 3072 _ (few (goal.at.slice_bounds-result-end-2 c).After-times).1 c.x1r1-2-1.given in
+    let counted = c.before.before.before.before.before.before.before.before.before.before.before.before in
+    let e = came-back (counted.times.result + counted.times-mp.result) 3072 _ (few c.before.before.before.before.before.before.before.before.before.before.before.before.before.before.before.before.before.before.before).1 c.x1r1-2-1.given in
     sym (length-take-le _ _ (simp length-append (omega (arith, e))))
 
 pub slice_bounds-u-end-2 : goal.slice_bounds-u-end-2
 slice_bounds-u-end-2 c =
     let lent = c in
-    let counted = (goal.at.slice_bounds-u-end-2 c).After-steps-heads in
-    let e = came-back counted.times-mp.result 1024 _ (few (goal.at.slice_bounds-u-end-2 c).After-times).2 c.u-2-1.given in
+    let counted = c.before.before.before.before.before.before.before.before.before.before.before.before in
+    let e = came-back counted.times-mp.result 1024 _ (few c.before.before.before.before.before.before.before.before.before.before.before.before.before.before.before.before.before.before.before).2 c.u-2-1.given in
     simp length-append (omega (arith, e))
 
 pub slice_bounds-result-end-3 : goal.slice_bounds-result-end-3
 slice_bounds-result-end-3 c =
     let lent = c in
-    let counted = (goal.at.slice_bounds-result-end-3 c).After-steps-heads in
-    let e = came-back counted.times-mp.result 1024 _ (few (goal.at.slice_bounds-result-end-3 c).After-times).2 c.u-2-1.given in
+    let counted = c.before.before.before.before.before.before.before.before.before.before.before.before.before in
+    let e = came-back counted.times-mp.result 1024 _ (few c.before.before.before.before.before.before.before.before.before.before.before.before.before.before.before.before.before.before.before.before).2 c.u-2-1.given in
     sym (length-take-le _ _ (simp length-append (omega (arith, e))))
 
 pub slice_bounds-v-end-2 : goal.slice_bounds-v-end-2
 slice_bounds-v-end-2 c =
     let lent = c in
-    let counted = (goal.at.slice_bounds-v-end-2 c).After-steps-heads in
-    let e = came-back counted.times-mp.result 1024 _ (few (goal.at.slice_bounds-v-end-2 c).After-times).2 c.v-2-1.given in
+    let counted = c.before.before.before.before.before.before.before.before.before.before.before.before.before in
+    let e = came-back counted.times-mp.result 1024 _ (few c.before.before.before.before.before.before.before.before.before.before.before.before.before.before.before.before.before.before.before.before).2 c.v-2-1.given in
     simp length-append (omega (arith, e))
 
 pub slice_bounds-result-end-4 : goal.slice_bounds-result-end-4
 slice_bounds-result-end-4 c =
     let lent = c in
-    let counted = (goal.at.slice_bounds-result-end-4 c).After-steps-heads in
-    let e = came-back counted.times-mp.result 1024 _ (few (goal.at.slice_bounds-result-end-4 c).After-times).2 c.v-2-1.given in
+    let counted = c.before.before.before.before.before.before.before.before.before.before.before.before.before.before in
+    let e = came-back counted.times-mp.result 1024 _ (few c.before.before.before.before.before.before.before.before.before.before.before.before.before.before.before.before.before.before.before.before.before).2 c.v-2-1.given in
     sym (length-take-le _ _ (simp length-append (omega (arith, e))))
 
 pub result-requires : goal.result-requires
 result-requires c =
     let back = c in
-    let lent = (goal.at.result-requires c).After-two-1 in
-    let counted = (goal.at.result-requires c).After-steps-heads in
-    let f = few (goal.at.result-requires c).After-times in (
+    let lent = c.before.before.before.before.before in
+    let counted = c.before.before.before.before.before.before.before.before.before.before.before.before.before.before.before in
+    let f = few c.before.before.before.before.before.before.before.before.before.before.before.before.before.before.before.before.before.before.before.before.before.before in (
       counted.requires.1,
       take-few _ 2048 _ f.0,
       take-few _ 3072 _ f.1,
@@ -118,9 +118,9 @@ result-requires c =
 pub returns : goal.returns
 returns c =
     let back = c in
-    let lent = (goal.at.returns c).After-two-1 in
-    let counted = (goal.at.returns c).After-steps-heads in
-    let f = few (goal.at.returns c).After-times in
+    let lent = c.before.before.before.before.before.before.before.before in
+    let counted = c.before.before.before.before.before.before.before.before.before.before.before.before.before.before.before.before.before.before in
+    let f = few c.before.before.before.before.before.before.before.before.before.before.before.before.before.before.before.before.before.before.before.before.before.before.before.before.before in
     let t = counted.args.t in
     let kp = counted.times-kp in
     let mp = counted.times-mp in

@@ -5,9 +5,9 @@ use Rattle.rehearse_lines.proofs.input.read.Goals as goal
 pub returns : goal.returns
 returns c =
     let raw = c in
-    let inputs = (goal.at.returns c).After-load_two-words in
-    let terms = (goal.at.returns c).After-load_two-inputs in
-    let whole = (goal.at.returns c).After-load_line-terms in
+    let inputs = c.before.before.before.before.before in
+    let terms = c.before.before.before.before.before.before.before.before.before.before.before.before in
+    let whole = c.before.before.before.before.before.before.before.before.before.before.before.before.before.before.before.before.before in
     let a = whole.args in
     let f = terms.Load-Line in
     let i = inputs.load_two-inputs in

@@ -16,8 +16,8 @@ use Rattle.session.proofs.open.first_over.Goals as goal
 pub returns-then-x-eq0 : goal.returns-then-x-eq0
 returns-then-x-eq0 c =
     let at12 = c in
-    let at17 = (goal.at.returns-then-x-eq0 c).After-first_step-d in
-    let at26 = (goal.at.returns-then-x-eq0 c).Then-x-eq0 in
+    let at17 = c.before.before.before.before.before.before.before.before.before.before.before.before in
+    let at26 = c.before.before.before.before.before.before.before.before.before.before.before.before.before.before.before.before.before in
     let a = at26.args in
     let s = slot_at a.pool.now a.at.size a.at.index in
     let m = message_with a.a a.residues.now in
@@ -36,8 +36,8 @@ returns-then-x-eq0 c =
 pub returns : goal.returns
 returns c =
     let at4 = c in
-    let at7 = (goal.at.returns c).After-check_first-checked in
-    let at16 = (goal.at.returns c).After-slice_known-4-1 in
+    let at7 = c.before.before.before.before in
+    let at16 = c.before.before.before.before.before.before.before in
     let a = at16.args in
     let s = slot_at a.pool.now a.at.size a.at.index in
     let m = message_with a.a a.residues.now in

@@ -17,7 +17,7 @@ returns-then-not-last_fits c =
 pub returns : goal.returns
 returns c =
     let last = c in
-    let sides = (goal.at.returns c).After-last_fits in
+    let sides = c.before.before in
     c.modulus_fits.ensures
     ∙ fits-modulus _ _ _ _ _ (holds sides.kind_known.ensures sides.if-not-kind_known.false)
     (holds sides.kind_sides_fit.ensures last.if-not-kind_sides_fit.false)

@@ -8,7 +8,13 @@ use Rattle.protocol.proofs.MessageRoundTrip.{few-digits}
 use Rattle.judging.proofs.KindLaws.{few}
 use Rattle.sizes.specs.Sizes.{longest_terms}
 use Rattle.sizes.proofs.Longest.{fit-terms, few-residues, longest-length}
+use Rattle.sizes.proofs.line.line_length.Lts
+use Rattle.sizes.proofs.line.line_length.Tie
+use Rattle.sizes.proofs.line.line_length.Reads
 use Rattle.sizes.proofs.line.line_length.Goals as goal
+
+abbrev After-message_size-residues : Type 0
+After-message_size-residues = Lts.After-message_size Tie.the-claims Reads.Pre Reads.Post
 
 pub message_size-residues-requires : goal.message_size-residues-requires
 message_size-residues-requires c =
@@ -17,7 +23,7 @@ message_size-residues-requires c =
     (few (kind_sort a.kind) a.m a.k a.p (fit-terms a.kind a.q a.m a.k a.p c.requires).sides)
 
 -- the residues of the longest message
-residues : (c : goal.After-message_size-residues)
+residues : (c : After-message_size-residues)
     → let a = c.args in
     c.message_size-residues.result ≡ message_size a.kind (longest_terms a.q a.m a.k a.p)
 residues c = rw c.longest_terms.ensures at c.message_size-residues.ensures
@@ -54,5 +60,5 @@ pub returns : goal.returns
 returns c =
     let a = c.args in
     ap₂ (λ (x y : ℕ). x + y) c.line_length.ensures.0
-    (ap₂ (λ (x y : ℕ). x * (y + 1)) (residues (goal.at.returns c).After-message_size-residues) c.digit_count.ensures)
+    (ap₂ (λ (x y : ℕ). x * (y + 1)) (residues c.before.before.before) c.digit_count.ensures)
     ∙ sym (longest-length a.kind a.q a.m a.k a.p)

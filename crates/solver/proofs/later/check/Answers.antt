@@ -8,19 +8,28 @@ use Rattle.judging.proofs.Join.{also, hands_on, goes-past}
 use Rattle.solver.specs.Groups.{sort_tests, arriving}
 use Rattle.solver.proofs.Known.{arriving-known}
 use Rattle.solver.proofs.Order.{later-phases}
+use Rattle.solver.proofs.later.check.Lts
+use Rattle.solver.proofs.later.check.Tie
+use Rattle.solver.proofs.later.check.Reads
 use Rattle.solver.proofs.later.check.Goals as goal
 
-abbrev start : goal.After-worst-arrived → goal.Start
+abbrev After-worst-arrived : Type 0
+After-worst-arrived = Lts.After-worst2 Tie.the-claims Reads.Pre Reads.Post
+
+abbrev Start : Type 0
+Start = Lts.Start Tie.the-claims Reads.Pre Reads.Post
+
+abbrev start : After-worst-arrived → Start
 start c = c.before.before.before.before.before.before.before.before.before.before
 
-abbrev slot : goal.Start → Slot
+abbrev slot : Start → Slot
 slot c = slot_at c.args.pool.now c.args.at.size c.args.at.index
 
-abbrev message : goal.Start → Message
+abbrev message : Start → Message
 message c = message_with c.args.a c.args.residues.now
 
 -- what is tested before the words that the session keeps
-arrived : (c : goal.After-worst-arrived) →
+arrived : (c : After-worst-arrived) →
     let a = (start c).args in
     checked c.worst-arrived.result ≡ judged (arriving a.kind a.sends a.s (slot (start c)) (message (start c)) a.room)
 unfolding arriving room_tests sort_tests
@@ -32,20 +41,20 @@ arrived c =
 pub returns-in_default : goal.returns-in_default
 returns-in_default c =
     let at = c in
-    let a = (start (goal.at.returns-in_default c).After-worst-arrived).args in
-    hands_on at.worst-arrived.result _ (arrived (goal.at.returns-in_default c).After-worst-arrived) c.in_default.is
-    ∙ sym (later-phases a.kind a.sends a.s (slot (start (goal.at.returns-in_default c).After-worst-arrived)) (message (start (goal.at.returns-in_default c).After-worst-arrived)) a.room)
+    let a = (start c.before.before).args in
+    hands_on at.worst-arrived.result _ (arrived c.before.before) c.in_default.is
+    ∙ sym (later-phases a.kind a.sends a.s (slot (start c.before.before)) (message (start c.before.before)) a.room)
 
 pub check_kept-requires : goal.check_kept-requires
 check_kept-requires c =
     let at = c in
-    let a = (start (goal.at.check_kept-requires c).After-worst-arrived).args in
-    arriving-known a.kind a.sends a.s (slot (start (goal.at.check_kept-requires c).After-worst-arrived)) (message (start (goal.at.check_kept-requires c).After-worst-arrived)) a.room (sym (arrived (goal.at.check_kept-requires c).After-worst-arrived) ∙ ap checked c.in-Passed.is)
+    let a = (start c.before.before).args in
+    arriving-known a.kind a.sends a.s (slot (start c.before.before)) (message (start c.before.before)) a.room (sym (arrived c.before.before) ∙ ap checked c.in-Passed.is)
 
 pub returns : goal.returns
 returns c =
     let at = c in
-    let a = (start (goal.at.returns c).After-worst-arrived).args in
+    let a = (start c.before.before.before).args in
     c.check_kept.ensures
-    ∙ sym (later-phases a.kind a.sends a.s (slot (start (goal.at.returns c).After-worst-arrived)) (message (start (goal.at.returns c).After-worst-arrived)) a.room
-    ∙ goes-past at.worst-arrived.result (arrived (goal.at.returns c).After-worst-arrived) c.in-Passed.is)
+    ∙ sym (later-phases a.kind a.sends a.s (slot (start c.before.before.before)) (message (start c.before.before.before)) a.room
+    ∙ goes-past at.worst-arrived.result (arrived c.before.before.before) c.in-Passed.is)

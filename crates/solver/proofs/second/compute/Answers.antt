@@ -16,9 +16,18 @@ use Rattle.judging.specs.Leaves.{taken}
 use Rattle.judging.proofs.Fits.{open-placed}
 use Rattle.solver.proofs.Known.{Few, few, second-known, second-counts}
 use Rattle.solver.proofs.Formulas.{y0-size, b0-size, r-size, share_of, share-found, share-length}
+use Rattle.solver.proofs.second.compute.Lts
+use Rattle.solver.proofs.second.compute.Tie
+use Rattle.solver.proofs.second.compute.Reads
 use Rattle.solver.proofs.second.compute.Goals as goal
 
-module _ (c : goal.Start) where
+abbrev Start : Type 0
+Start = Lts.Start Tie.the-claims Reads.Pre Reads.Post
+
+abbrev After-write_share_of : Type 0
+After-write_share_of = Lts.After-write_share_of Tie.the-claims Reads.Pre Reads.Post
+
+module _ (c : Start) where
   abbrev slot : Slot
   slot = slot_at c.args.pool.now c.args.at.size c.args.at.index
 
@@ -34,11 +43,11 @@ module _ (c : goal.Start) where
   small : Few c.args.s.terms
   small = few c.args.s.terms place.sides
 
-abbrev start : goal.After-write_share_of → goal.Start
+abbrev start : After-write_share_of → Start
 start c = c.before.before.before.before.before.before.before.before.before.before.before
 
 -- S, as the array holds it
-found : (c : goal.After-write_share_of) →
+found : (c : After-write_share_of) →
     let words = c.write_share_of.new.1.1.1.1.0 in
     let n = c.times-n.result in
     (n ≤ length words) × (take n words ≡ share_of (start c).args.s.terms (slot (start c)) (message (start c)))
@@ -48,25 +57,25 @@ found c =
     let n = at.times-n in
     let h = (second-counts b.args.s (slot b) (message b) (length b.args.out.now) (known b)).0 in
     share-found b.args.s.terms (slot b) (message b) (small b) n.result _ n.ensures (omega (arith, (small b).mp, n.ensures)) h
-    (rw (c.sides_of.ensures, at.matrix-y0.ensures, at.matrix-b0.ensures) at c.write_share_of.ensures)
+    (rw (c.sides_of.ensures, at.matrix-y0.ensures, at.matrix-b0.ensures) c.before.before.before.before c.write_share_of.ensures)
 
 pub matrix-y0-requires : goal.matrix-y0-requires
-matrix-y0-requires c = (place (goal.at.matrix-y0-requires c).Start, omega arith)
+matrix-y0-requires c = (place c.before.before.before.before.before, omega arith)
 
 pub matrix-b0-requires : goal.matrix-b0-requires
-matrix-b0-requires c = (place (goal.at.matrix-b0-requires c).Start, omega arith)
+matrix-b0-requires c = (place c.before.before.before.before.before.before, omega arith)
 
 pub matrix-r-requires : goal.matrix-r-requires
-matrix-r-requires c = (place (goal.at.matrix-r-requires c).Start, omega arith)
+matrix-r-requires c = (place c.before.before.before.before.before.before.before, omega arith)
 
 pub write_share_of-requires : goal.write_share_of-requires
 write_share_of-requires c =
     let at = c in
-    let b = (goal.at.write_share_of-requires c).After-matrix-b0 in
+    let b = c.before.before.before in
     let t = b.args.s.terms in
-    let o = (known (goal.at.write_share_of-requires c).Start).later.session-open.terms in
-    let f = small (goal.at.write_share_of-requires c).Start in
-    let n = (second-counts b.args.s (slot (goal.at.write_share_of-requires c).Start) (message (goal.at.write_share_of-requires c).Start) (length b.args.out.now) (known (goal.at.write_share_of-requires c).Start)).0 in
+    let o = (known c.before.before.before.before.before.before.before.before.before.before).later.session-open.terms in
+    let f = small c.before.before.before.before.before.before.before.before.before.before in
+    let n = (second-counts b.args.s (slot c.before.before.before.before.before.before.before.before.before.before) (message c.before.before.before.before.before.before.before.before.before.before) (length b.args.out.now) (known c.before.before.before.before.before.before.before.before.before.before)).0 in
     rw (c.sides_of.ensures, at.matrix-y0.ensures, at.matrix-b0.ensures) (
       record {
         some-q = omega (arith, o.big);
@@ -74,32 +83,32 @@ write_share_of-requires c =
         few-k = omega (arith, f.square, f.few);
         few-y = omega (arith, f.kp-is, f.mp);
         full-x = omega (arith, n);
-        full-y = omega (arith, y0-size t (slot (goal.at.write_share_of-requires c).Start) (place (goal.at.write_share_of-requires c).Start));
+        full-y = omega (arith, y0-size t (slot c.before.before.before.before.before.before.before.before.before.before) (place c.before.before.before.before.before.before.before.before.before.before));
         room = omega (arith, f.mp);
       },
       omega (arith, n),
-      omega (arith, b0-size t (slot (goal.at.write_share_of-requires c).Start) (place (goal.at.write_share_of-requires c).Start)),
+      omega (arith, b0-size t (slot c.before.before.before.before.before.before.before.before.before.before) (place c.before.before.before.before.before.before.before.before.before.before)),
     )
 
 pub slice_bounds-share-end : goal.slice_bounds-share-end
-slice_bounds-share-end c = (found (goal.at.slice_bounds-share-end c).After-write_share_of).0
+slice_bounds-share-end c = (found c.before).0
 
 pub slice_bounds-finish-end : goal.slice_bounds-finish-end
-slice_bounds-finish-end c = sym (length-take-le _ _ (found (goal.at.slice_bounds-finish-end c).After-write_share_of).0)
+slice_bounds-finish-end c = sym (length-take-le _ _ (found c.before.before).0)
 
 pub finish-requires : goal.finish-requires
 finish-requires c =
     let at = c in
-    let b = start (goal.at.finish-requires c).After-write_share_of in
+    let b = start c.before.before.before in
     let t = b.args.s.terms in
     let o = (known b).later.session-open.terms in
     let r = ap length at.matrix-r.ensures ∙ r-size t (slot b) (place b) in
     let n = (second-counts b.args.s (slot b) (message b) (length b.args.out.now) (known b)).1 in
-    (omega (arith, o.big), o.sides, r, ap length (found (goal.at.finish-requires c).After-write_share_of).1 ∙ share-length t (slot b) (message b) (small b), n)
+    (omega (arith, o.big), o.sides, r, ap length (found c.before.before.before).1 ∙ share-length t (slot b) (message b) (small b), n)
 
 pub returns : goal.returns
 unfolding solver_second_effect share_of join over
 returns c =
     let at = c in
-    let sent = rw (at.matrix-r.ensures, (found (goal.at.returns c).After-write_share_of).1) (goal.at.returns c).After-write_share_of c.finish.ensures.1 in
-    rw (c.finish.ensures.0, sent, (found (goal.at.returns c).After-write_share_of).1) (simp append-nil)
+    let sent = rw (at.matrix-r.ensures, (found c.before.before.before.before.before.before).1) c.before.before.before.before.before.before c.finish.ensures.1 in
+    rw (c.finish.ensures.0, sent, (found c.before.before.before.before.before.before).1) (simp append-nil)
