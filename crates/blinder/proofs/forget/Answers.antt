@@ -7,8 +7,8 @@ use Rattle.blinder.proofs.forget.Goals as goal
 
 pub returns : goal.returns
 returns c =
-    let told = c in (
-      c.closed.ensures,
-      c.write_zeros.ensures ∙ ap (λ (n : ℕ). over (zeros n) told.args.scratch.now)
-          told.scratch_size.ensures,
-    )
+    let told = c in record {
+      value = c.closed.ensures;
+      scratch_after = c.write_zeros.ensures ∙ ap (λ (n : ℕ). over (zeros n) told.args.scratch.now)
+          told.scratch_size.ensures;
+    }

@@ -34,4 +34,7 @@ loop-j-preserved c =
     (omega (arith, line-length-step a.xs.now c.loop-j.j c.loop-j-test.true), omega arith, omega arith, i.3)
 
 pub returns : goal.returns
-returns c = (omega (arith, ap length (line-none c.args.xs.now c.loop-j.j c.loop-j-test.false)), omega arith)
+returns c = record {
+  bytes = omega (arith, ap length (line-none c.args.xs.now c.loop-j.j c.loop-j-test.false));
+  few = omega arith;
+}

@@ -10,15 +10,14 @@ use Rattle.decimal.proofs.Entry.{unread-length, unread-end, before-whole}
 use Rattle.decimal.proofs.load_behind.Goals as goal
 
 pub returns-then-n-eq0 : goal.returns-then-n-eq0
-returns-then-n-eq0 c = let a = c.args in unread-length a.skip a.s.now a.out.now (inl (omega arith))
+returns-then-n-eq0 c = let a = c.args in let all = unread-length a.skip a.s.now a.out.now (inl (omega arith)) in record { answered = all.0; contents = all.1 }
 
 pub returns-then-n-gt65536 : goal.returns-then-n-gt65536
-returns-then-n-gt65536 c = let a = c.args in unread-length a.skip a.s.now a.out.now (inr c.if-n-gt65536.true)
+returns-then-n-gt65536 c = let a = c.args in let all = unread-length a.skip a.s.now a.out.now (inr c.if-n-gt65536.true) in record { answered = all.0; contents = all.1 }
 
 pub returns-then-s-n-ne10 : goal.returns-then-s-n-ne10
 returns-then-s-n-ne10 c =
-    let a = c.args in
-    unread-end a.skip a.s.now a.out.now (omega arith) c.if-n-gt65536.false c.if-s-n-ne10.true
+    let a = c.args in let all = unread-end a.skip a.s.now a.out.now (omega arith) c.if-n-gt65536.false c.if-s-n-ne10.true in record { answered = all.0; contents = all.1 }
 
 pub scan-requires : goal.scan-requires
 scan-requires c = c.if-s-n-ne10.false
@@ -28,5 +27,7 @@ returns c =
     let a = c.args in
     let s = a.s.now in
     let e = before-whole s (omega arith) c.if-n-gt65536.false c.if-s-n-ne10.false in
-    let scan = c.scan in
-    (scan.ensures.0 ∙ e.0, scan.ensures.1 ∙ ap (λ (l : List ℕ). sets a.out.now 0 (drop a.skip l)) e.1)
+    let scan = c.scan in record {
+      answered = scan.ensures.0 ∙ e.0;
+      contents = scan.ensures.1 ∙ ap (λ (l : List ℕ). sets a.out.now 0 (drop a.skip l)) e.1;
+    }

@@ -16,7 +16,7 @@ returns-in_default c =
     let out = a.out.now in
     let e = into-none (length out) s
     (told-wrong (numbers_of s) (replicate 1 0) _ c.load-first.result
-    (tallied 0 s _ _ _ c.load-first.ensures.0 c.load-first.ensures.1) c.in_default.is) in
+    (tallied 0 s _ _ _ c.load-first.ensures.answered c.load-first.ensures.contents) c.in_default.is) in
     rw e (refl, refl)
 
 pub returns-then-out-n : goal.returns-then-out-n
@@ -42,5 +42,5 @@ returns c =
     rw e (
       ap (λ (n : ℕ). count_reply (count.Words n)) t.count,
       stored-behind 0 (numbers_of s) t.values out c.load.new.1.0 c.load.result t.reads
-          (tallied 0 s _ _ _ c.load.ensures.0 c.load.ensures.1) ∙ sets_over t.values out h,
+          (tallied 0 s _ _ _ c.load.ensures.answered c.load.ensures.contents) ∙ sets_over t.values out h,
     )

@@ -40,9 +40,9 @@ loop-i-preserved c =
     let h = c.loop-i-test.true in
     let n = a.n in
     let at = a.at in (
-      c.put_digit-p.ensures.1 ∙ ap (λ (o : List ℕ). sets o l.p (digit_at n (get_or powers l.i 0))) l.invariant.0
+      c.put_digit-p.ensures.contents ∙ ap (λ (o : List ℕ). sets o l.p (digit_at n (get_or powers l.i 0))) l.invariant.0
           ∙ power-stored n l.i h a.out.now at l.p l.invariant.1,
-      omega (arith, power-length n l.i h, c.put_digit-p.ensures.0),
+      omega (arith, power-length n l.i h, c.put_digit-p.ensures.place),
       omega arith,
       l.invariant.3,
       l.invariant.4,
@@ -61,5 +61,7 @@ returns c =
     let n = a.n in
     let at = a.at in
     let i9 : l.i ≡ 9 = omega arith in
-    let e : upto n (above l.i) ≡ high n = ap (λ (i : ℕ). upto n (above i)) i9 ∙ upto-high n in
-    (omega (arith, l.invariant.1, ap length e, ap length (decimal-high n), length-append (high n) ((48 + n % 10) ∷ [])), l.invariant.0 ∙ ap (sets a.out.now at) e)
+    let e : upto n (above l.i) ≡ high n = ap (λ (i : ℕ). upto n (above i)) i9 ∙ upto-high n in record {
+      place = omega (arith, l.invariant.1, ap length e, ap length (decimal-high n), length-append (high n) ((48 + n % 10) ∷ []));
+      contents = l.invariant.0 ∙ ap (sets a.out.now at) e;
+    }

@@ -8,13 +8,13 @@ use Rattle.decimal.proofs.Powers.{number-stored}
 use Rattle.decimal.proofs.put_number.Goals as goal
 
 pub bounds-out-p-2 : goal.bounds-out-p-2
-bounds-out-p-2 c = simp length-set (omega (arith, ap length c.put_high-p.ensures.1))
+bounds-out-p-2 c = simp length-set (omega (arith, ap length c.put_high-p.ensures.contents))
 
 pub returns : goal.returns
 returns c =
-    let a = c.args in (
-      omega arith,
-      ap (λ (l : List ℕ). set (set l c.put_high-p.result (48 + a.n % 10)) (c.put_high-p.result + 1)
-          a.last) c.put_high-p.ensures.1
-          ∙ number-stored a.out.now a.at a.n a.last c.put_high-p.result c.put_high-p.ensures.0,
-    )
+    let a = c.args in record {
+      place = omega arith;
+      contents = ap (λ (l : List ℕ). set (set l c.put_high-p.result (48 + a.n % 10)) (c.put_high-p.result + 1)
+          a.last) c.put_high-p.ensures.contents
+          ∙ number-stored a.out.now a.at a.n a.last c.put_high-p.result c.put_high-p.ensures.place;
+    }

@@ -28,8 +28,8 @@ loop-j-preserved c =
     let xs = a.xs.now in
     let l = c.loop-j in
     let h = c.loop-j-test.true in (
-      ap₂ (λ (d : List ℕ) (k : ℕ). sets d k (line_before more (drop (l.j + 1) xs))) c.put_number-p.ensures.1
-          c.put_number-p.ensures.0 ∙ part-turn more l.out xs l.p l.j _ h c.end_byte.ensures
+      ap₂ (λ (d : List ℕ) (k : ℕ). sets d k (line_before more (drop (l.j + 1) xs))) c.put_number-p.ensures.contents
+          c.put_number-p.ensures.place ∙ part-turn more l.out xs l.p l.j _ h c.end_byte.ensures
           ∙ l.invariant.0,
       omega (arith, before-length-step more xs l.j h),
       omega arith,
@@ -41,5 +41,7 @@ loop-j-preserved c =
 pub returns : goal.returns
 returns c =
     let a = c.args in
-    let none = before-none a.more a.xs.now c.loop-j.j c.loop-j-test.false in
-    (omega (arith, ap length none), rw none at c.loop-j.invariant.0)
+    let none = before-none a.more a.xs.now c.loop-j.j c.loop-j-test.false in record {
+      place = omega (arith, ap length none);
+      contents = rw none at c.loop-j.invariant.0;
+    }

@@ -14,9 +14,8 @@ pub shape_of-out-in_default : goal.shape_of-out-in_default
 shape_of-out-in_default c = scan-same _ _ _ _ _ _ c.loop-i.invariant.0
 
 pub returns-in_default : goal.returns-in_default
-returns-in_default c =
-    found-wrong _ _ _ _ _ _ c.loop-i.invariant.0 c.number_at-found.result
-    c.number_at-found.ensures c.in_default.is
+returns-in_default c = let all = found-wrong _ _ _ _ _ _ c.loop-i.invariant.0 c.number_at-found.result
+    c.number_at-found.ensures c.in_default.is in record { answered = all.0; contents = all.1 }
 
 pub overflow_add-n : goal.overflow_add-n
 overflow_add-n c = let i = c.loop-i.invariant.0 in omega (arith, i.few, i.inside)
@@ -40,4 +39,4 @@ pub shape_of-out : goal.shape_of-out
 shape_of-out c = scan-same _ _ _ _ _ _ c.loop-i.invariant.0
 
 pub returns : goal.returns
-returns c = scan-done _ _ _ _ _ _ c.loop-i.invariant.0 c.loop-i-test.false
+returns c = let all = scan-done _ _ _ _ _ _ c.loop-i.invariant.0 c.loop-i-test.false in record { answered = all.0; contents = all.1 }

@@ -20,8 +20,8 @@ returns-then-all_kept c =
     let start = c in
     let a = start.args in
     let fits : a.n ≤ length a.words.now = omega (arith, start.requires.1, residues-few a.q a.words.now) in
-    let all = c.all_kept.ensures c.if-all_kept.true in (
-      kept_read a.q a.n a.words.now fits all,
-      kept-collected a.q a.n a.words.now a.out.now fits start.requires.2 all
-          c.write_copy.ensures,
-    )
+    let all = c.all_kept.ensures c.if-all_kept.true in record {
+      value = kept_read a.q a.n a.words.now fits all;
+      collected = kept-collected a.q a.n a.words.now a.out.now fits start.requires.2 all
+          c.write_copy.ensures;
+    }

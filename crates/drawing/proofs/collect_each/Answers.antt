@@ -47,4 +47,7 @@ pub shape_of-out : goal.shape_of-out
 shape_of-out c = c.loop-j.invariant.same
 
 pub returns : goal.returns
-returns c = (collects-read _ _ _ _ _ _ c.loop-j.invariant (search rules), collected _ _ _ _ _ _ c.loop-j.invariant (search rules))
+returns c = record {
+  value = collects-read _ _ _ _ _ _ c.loop-j.invariant (search rules);
+  collected = collected _ _ _ _ _ _ c.loop-j.invariant (search rules);
+}

@@ -3,10 +3,10 @@ use Rattle.line.proofs.Words.{none-loaded, few-loaded, message-loaded}
 use Rattle.line.proofs.load.Goals as goal
 
 pub returns-in_default : goal.returns-in_default
-returns-in_default c = none-loaded _ c.load-loaded.ensures.0 c.in_default.is
+returns-in_default c = none-loaded _ c.load-loaded.ensures.answered c.in_default.is
 
 pub returns-then-n-lt7 : goal.returns-then-n-lt7
-returns-then-n-lt7 c = few-loaded _ c.load-loaded.ensures.0 c.in-Numbers.is c.if-n-lt7.true
+returns-then-n-lt7 c = few-loaded _ c.load-loaded.ensures.answered c.in-Numbers.is c.if-n-lt7.true
 
 pub returns : goal.returns
 returns c =

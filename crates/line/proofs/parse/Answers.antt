@@ -15,8 +15,7 @@ pub returns-in_default-check : goal.returns-in_default-check
 returns-in_default-check c =
     let load = c.load-loaded.ensures in
     let l = holds _ _ load c.in-Message.is in
-    let check = c.check_form-check in
-    refuses l _ (parse-judged l _) _ check.result (check.ensures _ _ l) c.in_default-check.is c.refused.ensures
+    let check = c.check_form-check in let all = refuses l _ (parse-judged l _) _ check.result (check.ensures _ _ l) c.in_default-check.is c.refused.ensures in record { answered = all.0; contents = all.1 }
 
 pub store-requires : goal.store-requires
 store-requires c =
@@ -28,6 +27,5 @@ pub returns : goal.returns
 returns c =
     let load = c.load-loaded.ensures in
     let l = holds _ _ load c.in-Message.is in
-    let check = c.check_form-check in
-    takes l _ (parse-judged l _) _ check.result (check.ensures _ _ l)
-    c.in-Passed.is (c.store.ensures _ l)
+    let check = c.check_form-check in let all = takes l _ (parse-judged l _) _ check.result (check.ensures _ _ l)
+    c.in-Passed.is (c.store.ensures _ l) in record { answered = all.0; contents = all.1 }

@@ -29,5 +29,7 @@ returns c =
     let w = c.head_words-words.ensures in
     let put = c.put_numbers-at.ensures in
     let last = c.put_numbers.ensures in
-    let room = c.requires.1 in
-    (omega (arith, two_runs a.h a.residues.now w, put.0, last.0), last.1 ∙ line-stored a.h a.residues.now w a.out.now put.0 put.1 room)
+    let room = c.requires.1 in record {
+      place = omega (arith, two_runs a.h a.residues.now w, put.0, last.0);
+      contents = last.1 ∙ line-stored a.h a.residues.now w a.out.now put.0 put.1 room;
+    }

@@ -31,8 +31,7 @@ pub returns-in_default-check : goal.returns-in_default-check
 returns-in_default-check c =
     let load = c.load-loaded.ensures in
     let l = holds _ _ load c.in-Message.is in
-    let check = c.check_read-check in
-    refuses l _ (read-judged l _) _ check.result (check.ensures _ l) c.in_default-check.is c.refused.ensures
+    let check = c.check_read-check in let all = refuses l _ (read-judged l _) _ check.result (check.ensures _ l) c.in_default-check.is c.refused.ensures in record { answered = all.0; contents = all.1 }
 
 pub put_residues-requires : goal.put_residues-requires
 put_residues-requires c =
@@ -49,6 +48,5 @@ returns c =
     let check = c.check_read-check in
     let told = c.in-Passed.is in
     let out = (start c.before.before.before.before.before.before.before.before.before.before.before.before).args.out.now in
-    let few = read-few l _ (sym (check.ensures _ l) ∙ ap checked told) in
-    takes l _ (read-judged l _) _ check.result (check.ensures _ l) told
-    (c.put_residues.ensures ∙ ap (λ (r : List ℕ). over r out) (all-residues l (search rules)))
+    let few = read-few l _ (sym (check.ensures _ l) ∙ ap checked told) in let all = takes l _ (read-judged l _) _ check.result (check.ensures _ l) told
+    (c.put_residues.ensures ∙ ap (λ (r : List ℕ). over r out) (all-residues l (search rules))) in record { answered = all.0; contents = all.1 }

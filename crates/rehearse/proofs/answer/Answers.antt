@@ -18,8 +18,8 @@ returns-in_default c =
     let p = c.requires in
     λ xs ys hx hy. refused-printed _ numbers.result refusal-in.result _ _ _
     (numbers-refused a.t xs ys a.dealer.now a.coins.now a.nx a.ny hx.count hy.count numbers.result numbers.ensures
-    enum-told2.given.1) enum-told2.given.1 refusal-in.ensures c.refusal.ensures.0
-    c.refusal.ensures.1.0 c.refusal.ensures.1.1
+    enum-told2.given.1) enum-told2.given.1 refusal-in.ensures c.refusal.ensures.place
+    c.refusal.ensures.few c.refusal.ensures.contents
 
 pub slice_bounds-judge_words-end : goal.slice_bounds-judge_words-end
 slice_bounds-judge_words-end c =

@@ -18,8 +18,8 @@ returns-in_default c =
     refused-printed _ words.result refusal-in.result _ _ _
     (words-refused a.t a.x.now a.y.now a.dealer.now a.coins.now
     c.requires.0 words.result words.ensures
-    enum-told2.given.1) enum-told2.given.1 refusal-in.ensures c.refusal.ensures.0
-    c.refusal.ensures.1.0 c.refusal.ensures.1.1
+    enum-told2.given.1) enum-told2.given.1 refusal-in.ensures c.refusal.ensures.place
+    c.refusal.ensures.few c.refusal.ensures.contents
 
 pub perform-requires : goal.perform-requires
 perform-requires c =

@@ -8,17 +8,20 @@ pub returns-in_default : goal.returns-in_default
 returns-in_default c =
     let read = c in
     let a = read.args in
-    let wrong = said-wrong a.bytes.now _ _ _ _ _ read.read-lines.result read.read-lines.ensures.0 c.in_default.is in
+    let wrong = said-wrong a.bytes.now _ _ _ _ _ read.read-lines.result read.read-lines.ensures.answered c.in_default.is in
     let z = wrong-printed a.bytes.now _ _ _ wrong
-    c.refusal.ensures.0 c.refusal.ensures.1.0 c.refusal.ensures.1.1 in
-    (z.place, (z.few, z.contents))
+    c.refusal.ensures.place c.refusal.ensures.few c.refusal.ensures.contents in record {
+      place = z.place;
+      few = z.few;
+      contents = z.contents;
+    }
 
 pub said-requires : goal.said-requires
 said-requires c =
     let lines = c.lines-1 in
     let read = c in
     let a = read.args in
-    let s = said_read a.bytes.now _ _ _ _ _ read.read-lines.result lines.given.0.0 read.read-lines.ensures.0 lines.given.1 in
+    let s = said_read a.bytes.now _ _ _ _ _ read.read-lines.result lines.given.0.0 read.read-lines.ensures.answered lines.given.1 in
     let coins = c in (
       search rules,
       search rules,
@@ -33,6 +36,9 @@ returns c =
     let told = c in
     let read = c.before.before.before.before.before.before.before.before in
     let a = read.args in
-    let s = said_read a.bytes.now _ _ _ _ _ read.read-lines.result told.in-Read.c read.read-lines.ensures.0 told.in-Read.is in
-    let z = c.said.ensures a.bytes.now s in
-    (z.place, (z.few, z.contents))
+    let s = said_read a.bytes.now _ _ _ _ _ read.read-lines.result told.in-Read.c read.read-lines.ensures.answered told.in-Read.is in
+    let z = c.said.ensures a.bytes.now s in record {
+      place = z.place;
+      few = z.few;
+      contents = z.contents;
+    }

@@ -41,7 +41,7 @@ returns c =
     let told = c in
     let a = told.args in
     let s = slot_at a.pool.now a.at.size a.at.index in
-    rw (told.forget-session.ensures.0, told.forget-session.ensures.1)
+    rw (told.forget-session.ensures.value, told.forget-session.ensures.scratch_after)
     (step-leaves a.s s a.scratch.now [] [] _ _
     (sym told.check-checked.ensures ∙ ap checked told.in-Passed.is) refl
     c.spend_at.ensures)

@@ -53,14 +53,14 @@ pub slice_bounds-has_inverse-end : goal.slice_bounds-has_inverse-end
 slice_bounds-has_inverse-end c =
     let few = enough c.before.before.before.before.before.before in
     sym (ap length (coins-part _ _ (start c.before.before.before.before.before.before).args.words.now _ _ few
-    c.draw.ensures.1) ∙ drawn-count _ _ _ few)
+    c.draw.ensures.out_after) ∙ drawn-count _ _ _ few)
 
 pub has_inverse-requires-2 : goal.has_inverse-requires-2
 has_inverse-requires-2 c =
     let told = c in
     let a = told.args in
     let h = told.requires.0 in
-    let u = coins-part _ _ a.words.now _ _ (enough c.before.before.before.before.before.before) c.draw.ensures.1 in (
+    let u = coins-part _ _ a.words.now _ _ (enough c.before.before.before.before.before.before) c.draw.ensures.out_after in (
       h.prime,
       h.small-q,
       (unknowns a.t.m a.t.k a.t.p h.sides).few,
@@ -73,7 +73,7 @@ unfolding first_regular regular_tests
 returns c =
     let told = c in
     let a = told.args in
-    let u = coins-part _ _ a.words.now _ _ (enough c.before.before.before.before.before.before.before.before.before) c.draw.ensures.1 in
+    let u = coins-part _ _ a.words.now _ _ (enough c.before.before.before.before.before.before.before.before.before) c.draw.ensures.out_after in
     also (_ ∷ []) _ c.worst.ensures
     (rw c.has_inverse.ensures at c.need-own.ensures)
     (rw (c.has_inverse-2.ensures, u, told.times-size.ensures, p-drawn a.t a.words.now) at c.need-drawn.ensures)

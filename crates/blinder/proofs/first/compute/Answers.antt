@@ -47,7 +47,7 @@ send-requires c =
     let told = c in
     let a = (start c.before.before.before.before.before.before).args in
     masking-known a.t _ a.scratch.now a.mm.now a.y.now a.words.now _ _ (known (start c.before.before.before.before.before.before))
-    c.matrix-x0.ensures c.matrix-a0.ensures told.scratch_size.ensures told.draw-count.ensures.1
+    c.matrix-x0.ensures c.matrix-a0.ensures told.scratch_size.ensures told.draw-count.ensures.out_after
 
 pub opened-requires : goal.opened-requires
 opened-requires c =
@@ -63,5 +63,5 @@ returns c =
     let a = (start c.before.before.before.before.before.before.before.before.before.before).args in
     first-computed a.t (slot_at a.pool.now a.at.size a.at.index) a.scratch.now a.mm.now a.y.now a.words.now
     (taken 1 a.t a.residues.now) _ (known (start c.before.before.before.before.before.before.before.before.before.before)) c.matrix-x0.ensures
-    c.matrix-a0.ensures told.scratch_size.ensures told.draw-count.ensures.1
-    a.out.now told.draw-count.ensures.0 c.opened.ensures c.send.ensures
+    c.matrix-a0.ensures told.scratch_size.ensures told.draw-count.ensures.out_after
+    a.out.now told.draw-count.ensures.value c.opened.ensures c.send.ensures

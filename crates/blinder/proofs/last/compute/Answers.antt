@@ -68,8 +68,8 @@ returns c =
     let m = taken 5 a.s.terms a.residues.now in
     let t = a.s.terms in
     rw (
-      c.forget.ensures.0,
-      c.forget.ensures.1,
+      c.forget.ensures.value,
+      c.forget.ensures.scratch_after,
       c.no_head.ensures,
       told.write_product.ensures,
       told.matrix-qm.ensures,

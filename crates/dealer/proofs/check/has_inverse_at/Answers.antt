@@ -33,7 +33,7 @@ has_inverse-requires c =
     let a = c.args in
     let h = c.requires in
     let nn = c.times-nn.ensures in
-    let drawn = rw (tail-part a.at a.words.now, nn) at c.draw.ensures.1 in
+    let drawn = rw (tail-part a.at a.words.now, nn) at c.draw.ensures.out_after in
     let mask = coins-part a.q (a.n * a.n) (drop a.at a.words.now) _ _ h.3 drawn in
     (h.0, h.1.small-q, h.1.few-n, rw (nn, mask) (drawn-residues a.q (a.n * a.n) (drop a.at a.words.now) h.1.some-q h.3))
 
@@ -42,6 +42,6 @@ returns c =
     let a = c.args in
     let h = c.requires in
     let nn = c.times-nn.ensures in
-    let drawn = rw (tail-part a.at a.words.now, nn) at c.draw.ensures.1 in
+    let drawn = rw (tail-part a.at a.words.now, nn) at c.draw.ensures.out_after in
     c.has_inverse.ensures
     ∙ ap (regular a.q a.n) (rw nn (coins-part a.q (a.n * a.n) (drop a.at a.words.now) _ _ h.3 drawn))

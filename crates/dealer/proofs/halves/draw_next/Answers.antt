@@ -16,11 +16,13 @@ draw-read-requires c =
 pub overflow_add-result : goal.overflow_add-result
 overflow_add-result c =
     let a = c.args in
-    let e = rw (tail-part a.from a.words.now) at c.draw-read.ensures.0 in
+    let e = rw (tail-part a.from a.words.now) at c.draw-read.ensures.value in
     omega (arith, e, read-few a.q a.n (drop a.from a.words.now), length-drop a.from a.words.now)
 
 pub returns : goal.returns
 returns c =
     let a = c.args in
-    let e = rw (tail-part a.from a.words.now) at c.draw-read.ensures in
-    (omega (arith, e.0), part-written a.at _ a.out.now _ (search rules) e.1)
+    let e = rw (tail-part a.from a.words.now) at c.draw-read.ensures in record {
+      value = omega (arith, e.0);
+      out_after = part-written a.at _ a.out.now _ (search rules) e.1;
+    }

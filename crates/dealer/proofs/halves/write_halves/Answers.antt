@@ -16,13 +16,11 @@ pub returns-in_default : goal.returns-in_default
 returns-in_default c =
     let a = c.args in
     let e = c.write_masks-read.ensures in
-    let told = c.in_default.is in (
-      e.0 ∙ ap (λ (n : ℕ). words_read a.t.q n a.words.now) (same_count a.t a.words.now told),
-      (
-        e.1.0 ∙ ap (λ (l : List ℕ). over l a.first.now) (same_first a.t a.words.now told),
-        e.1.1 ∙ ap (λ (l : List ℕ). over l a.second.now) (same_second a.t a.words.now told),
-      ),
-    )
+    let told = c.in_default.is in record {
+      value = e.0 ∙ ap (λ (n : ℕ). words_read a.t.q n a.words.now) (same_count a.t a.words.now told);
+      first_after = e.1.0 ∙ ap (λ (l : List ℕ). over l a.first.now) (same_first a.t a.words.now told);
+      second_after = e.1.1 ∙ ap (λ (l : List ℕ). over l a.second.now) (same_second a.t a.words.now told);
+    }
 
 pub write_more-requires : goal.write_more-requires
 write_more-requires c =

@@ -8,5 +8,7 @@ returns c =
     let a = c.args in
     let first-end = c.first_end-end in
     let write-header = c.write_header in
-    let e = first-sort (sort a.s) in
-    (rw (first-end.ensures, e) at write-header.ensures, rw (first-end.ensures, e) at c.write_header-2.ensures)
+    let e = first-sort (sort a.s) in record {
+      first_after = rw (first-end.ensures, e) at write-header.ensures;
+      second_after = rw (first-end.ensures, e) at c.write_header-2.ensures;
+    }

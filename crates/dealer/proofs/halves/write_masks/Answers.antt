@@ -33,10 +33,8 @@ returns c =
     let write-headers = c.write_headers in
     let a = far.args in
     let e = c.fill_masks.ensures in
-    let heads = write-headers.ensures in (
-      e.0,
-      (
-        masks-over (sort a.s) a.t _ a.first.now _ heads.0 e.1.0,
-        masks-over (sort a.s) a.t _ a.second.now _ heads.1 e.1.1,
-      ),
-    )
+    let heads = write-headers.ensures in record {
+      value = e.0;
+      first_after = masks-over (sort a.s) a.t _ a.first.now _ heads.0 e.1.0;
+      second_after = masks-over (sort a.s) a.t _ a.second.now _ heads.1 e.1.1;
+    }

@@ -25,4 +25,4 @@ pub returns : goal.returns
 returns c =
     let a = c.args in
     let same = line-some a.h a.sent.now c.if-h-eq0.false c.sent_count.ensures.0 c.smaller-n.ensures in
-    c.put_message.ensures.1 ∙ ap (λ (l : List ℕ). over l a.line.now) same
+    c.put_message.ensures.contents ∙ ap (λ (l : List ℕ). over l a.line.now) same

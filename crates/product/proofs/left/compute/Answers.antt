@@ -63,7 +63,7 @@ slice_bounds-write_message-end-2 c =
     let f = left-known a.t s a.x.now a.words.now (taken 1 a.t a.residues.now) (length a.out.now) (length a.share.now) start.requires in
     let enough = f.enough in
     let few : at.times-mp.result ≤ length (residues_of a.t.q a.words.now) = omega (arith, at.times-mp.ensures, enough) in
-    let u = coins-part _ _ a.words.now _ _ few c.draw-count.ensures.1 in
+    let u = coins-part _ _ a.words.now _ _ few c.draw-count.ensures.out_after in
     sym (ap length u ∙ drawn-count _ _ _ few)
 
 pub write_message-requires : goal.write_message-requires
@@ -76,7 +76,7 @@ write_message-requires c =
     let f = left-known a.t s a.x.now a.words.now m (length a.out.now) (length a.share.now) start.requires in
     let enough = f.enough in
     let few : at.times-mp.result ≤ length (residues_of a.t.q a.words.now) = omega (arith, at.times-mp.ensures, enough) in
-    let u = coins-part _ _ a.words.now _ _ few c.draw-count.ensures.1 in
+    let u = coins-part _ _ a.words.now _ _ few c.draw-count.ensures.out_after in
     rw (at.matrix-a0.ensures, at.matrix-x0.ensures)
     (answering a.t s a.x.now a.words.now m (length a.out.now) (length a.share.now) f (ap length u ∙ (drawn-count _ _ _ few ∙ at.times-mp.ensures)))
 

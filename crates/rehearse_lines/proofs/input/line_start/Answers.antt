@@ -35,5 +35,7 @@ returns c =
     let s = a.s.now in
     let n = a.n in
     let l = c.loop-i in
-    let z : n - l.i ≡ 0 = omega arith in
-    (l.invariant.1, sym l.invariant.2 ∙ ap (λ (k : ℕ). line_at k (drop l.at s)) z ∙ line-zero (drop l.at s))
+    let z : n - l.i ≡ 0 = omega arith in record {
+      inside = l.invariant.1;
+      begins = sym l.invariant.2 ∙ ap (λ (k : ℕ). line_at k (drop l.at s)) z ∙ line-zero (drop l.at s);
+    }

@@ -14,5 +14,8 @@ put_numbers-requires c =
 pub returns : goal.returns
 returns c =
     let a = c.args in
-    let f = few_bytes a.more a.xs.now (λ i. omega (arith, c.shared_slice_known-1.given i)) in
-    (c.put_numbers.ensures.0, (omega (arith, f, c.put_numbers.ensures.0), c.put_numbers.ensures.1))
+    let f = few_bytes a.more a.xs.now (λ i. omega (arith, c.shared_slice_known-1.given i)) in record {
+      place = c.put_numbers.ensures.place;
+      few = omega (arith, f, c.put_numbers.ensures.place);
+      contents = c.put_numbers.ensures.contents;
+    }

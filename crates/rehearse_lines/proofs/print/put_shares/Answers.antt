@@ -14,7 +14,8 @@ returns c =
     let one = ascii "left," ++ line a.left.now in
     let two = ascii "right," ++ line a.right.now in
     let stored = two-stored a.out.now one two a.at first.result last.result first.ensures.0 last.ensures.0 _ _ first.ensures.1.1
-    last.ensures.1.1 in (
-      two_bytes a.out.now one two a.at first.result last.result first.ensures.0 last.ensures.0,
-      (omega (arith, first.ensures.1.0, last.ensures.1.0), stored),
-    )
+    last.ensures.1.1 in record {
+      place = two_bytes a.out.now one two a.at first.result last.result first.ensures.0 last.ensures.0;
+      few = omega (arith, first.ensures.1.0, last.ensures.1.0);
+      contents = stored;
+    }

@@ -33,5 +33,7 @@ shape_of-out c =
 
 pub returns : goal.returns
 returns c =
-    let a = c.args in
-    (omega arith, c.loop-j.invariant.0 ∙ ap (sets a.out.now a.at) (take_all c.loop-j.j a.text.now c.loop-j-test.false))
+    let a = c.args in record {
+      place = omega arith;
+      contents = c.loop-j.invariant.0 ∙ ap (sets a.out.now a.at) (take_all c.loop-j.j a.text.now c.loop-j-test.false);
+    }

@@ -9,7 +9,10 @@ returns c =
     let a = c.args in
     let number = c.number_of_lem in
     let z = refusal-stored a.r a.out.now number.result c.put_named.result _ number.ensures
-    c.put_named.ensures.0
-    (omega (arith, c.put_named.ensures.1.0, c.requires))
-    c.put_named.ensures.1.1 in
-    (z.0, (omega (arith, c.put_named.ensures.1.0), z.1))
+    c.put_named.ensures.place
+    (omega (arith, c.put_named.ensures.few, c.requires))
+    c.put_named.ensures.contents in record {
+      place = z.0;
+      few = omega (arith, c.put_named.ensures.few);
+      contents = z.1;
+    }

@@ -14,5 +14,8 @@ returns c =
     let p = whole.requires in
     let few : shares.result ≤ MOST = omega (arith, p.1, p.2, p.3, p.4, messages.ensures.1.0, shares.ensures.1.0) in
     let z = result-stored a.one a.y1.now a.two a.x1r1.now a.left.now a.right.now a.out.now messages.result shares.result _ _
-    messages.ensures.0 shares.ensures.0 (omega (arith, p.0, few)) messages.ensures.1.1 shares.ensures.1.1 in
-    (z.0, (few, z.1))
+    messages.ensures.0 shares.ensures.0 (omega (arith, p.0, few)) messages.ensures.1.1 shares.ensures.1.1 in record {
+      place = z.0;
+      few = few;
+      contents = z.1;
+    }

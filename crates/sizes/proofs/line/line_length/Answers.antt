@@ -54,11 +54,11 @@ pub overflow_mul-result : goal.overflow_mul-result
 overflow_mul-result c = let b = bytes c in omega arith
 
 pub overflow_add-result-2 : goal.overflow_add-result-2
-overflow_add-result-2 c = let b = bytes c in omega (arith, c.line_length.ensures.1)
+overflow_add-result-2 c = let b = bytes c in omega (arith, c.line_length.ensures.few)
 
 pub returns : goal.returns
 returns c =
     let a = c.args in
-    ap₂ (λ (x y : ℕ). x + y) c.line_length.ensures.0
+    ap₂ (λ (x y : ℕ). x + y) c.line_length.ensures.bytes
     (ap₂ (λ (x y : ℕ). x * (y + 1)) (residues c.before.before.before) c.digit_count.ensures)
     ∙ sym (longest-length a.kind a.q a.m a.k a.p)

@@ -110,5 +110,5 @@ pub returns : goal.returns
 unfolding solver_second_effect share_of join over
 returns c =
     let at = c in
-    let sent = rw (at.matrix-r.ensures, (found c.before.before.before.before.before.before).1) c.before.before.before.before.before.before c.finish.ensures.1 in
-    rw (c.finish.ensures.0, sent, (found c.before.before.before.before.before.before).1) (simp append-nil)
+    let sent = rw (at.matrix-r.ensures, (found c.before.before.before.before.before.before).1) c.before.before.before.before.before.before c.finish.ensures.out_after in
+    rw (c.finish.ensures.value, sent, (found c.before.before.before.before.before.before).1) (simp append-nil)

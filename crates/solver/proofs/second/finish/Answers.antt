@@ -2,4 +2,7 @@
 use Rattle.solver.proofs.second.finish.Goals as goal
 
 pub returns : goal.returns
-returns c = (rw (c.accepted.ensures, c.last_column-s.ensures), c.write_f.ensures)
+returns c = record {
+      value = rw (c.accepted.ensures, c.last_column-s.ensures);
+      out_after = c.write_f.ensures;
+    }
