@@ -41,20 +41,20 @@ arrived c =
 pub returns-in_default : goal.returns-in_default
 returns-in_default c =
     let at = c in
-    let a = (start c.before.before).args in
-    hands_on at.worst-arrived.result _ (arrived c.before.before) c.in_default.is
-    ∙ sym (later-phases a.kind a.sends a.s (slot (start c.before.before)) (message (start c.before.before)) a.room)
+    let a = (start c.before).args in
+    hands_on at.worst-arrived.result _ (arrived c.before) c.in_default.is
+    ∙ sym (later-phases a.kind a.sends a.s (slot (start c.before)) (message (start c.before)) a.room)
 
 pub check_kept-requires : goal.check_kept-requires
 check_kept-requires c =
     let at = c in
-    let a = (start c.before.before).args in
-    arriving-known a.kind a.sends a.s (slot (start c.before.before)) (message (start c.before.before)) a.room (sym (arrived c.before.before) ∙ ap checked c.in-Passed.is)
+    let a = (start c.before).args in
+    arriving-known a.kind a.sends a.s (slot (start c.before)) (message (start c.before)) a.room (sym (arrived c.before) ∙ ap checked c.in-Passed.is)
 
 pub returns : goal.returns
 returns c =
     let at = c in
-    let a = (start c.before.before.before).args in
+    let a = (start c.before.before).args in
     c.check_kept.ensures
-    ∙ sym (later-phases a.kind a.sends a.s (slot (start c.before.before.before)) (message (start c.before.before.before)) a.room
-    ∙ goes-past at.worst-arrived.result (arrived c.before.before.before) c.in-Passed.is)
+    ∙ sym (later-phases a.kind a.sends a.s (slot (start c.before.before)) (message (start c.before.before)) a.room
+    ∙ goes-past at.worst-arrived.result (arrived c.before.before) c.in-Passed.is)
