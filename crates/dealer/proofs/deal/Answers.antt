@@ -97,8 +97,8 @@ returns c =
     let e = write-halves.ensures in
     let first = slot-part-length a.first.now a.at.size a.at.index k.first-inside in
     let second = slot-part-length a.second.now a.at.size a.at.index k.second-inside in
-    let one : length write-halves.new.1.1.1.0 ≡ a.at.size = omega (arith, first) in
-    let two : length write-halves.new.1.1.1.1.0 ≡ a.at.size = omega (arith, second) in
+    let one : length write-halves.new.first ≡ a.at.size = omega (arith, first) in
+    let two : length write-halves.new.second ≡ a.at.size = omega (arith, second) in
     deal-done a.first.now a.second.now a.at.size a.at.index (request (sort a.s) a.t a.words.now)
     (sym check.ensures ∙ ap checked enum_told-1.given.1) e.0
     (half_back a.first.now _ _ a.at.size a.at.index one e.1.0) (half_back a.second.now _ _ a.at.size a.at.index two e.1.1)

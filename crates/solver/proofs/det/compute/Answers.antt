@@ -40,7 +40,7 @@ start c = c.before.before.before.before.before.before.before
 
 -- W + V, as the array holds it
 found : (c : After-write_joint) →
-    let words = c.write_joint.new.1.1.1.1.0 in
+    let words = c.write_joint.new.out in
     let n = c.times-n.result in
     (n ≤ length words) × (take n words ≡ sum_of (start c).args.s.terms (slot (start c)) (start c).args.residues.now)
 found c =

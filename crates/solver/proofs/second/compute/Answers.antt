@@ -48,7 +48,7 @@ start c = c.before.before.before.before.before.before.before.before.before.befor
 
 -- S, as the array holds it
 found : (c : After-write_share_of) →
-    let words = c.write_share_of.new.1.1.1.1.0 in
+    let words = c.write_share_of.new.out in
     let n = c.times-n.result in
     (n ≤ length words) × (take n words ≡ share_of (start c).args.s.terms (slot (start c)) (message (start c)))
 found c =
