@@ -49,15 +49,15 @@ slice_bounds-play-end-2 c =
 pub play-requires : goal.play-requires
 play-requires c =
     let dealt = c in
-    let whole = c.before.before.before.before.before in
+    let whole = c in
     let a = whole.args in
     ((fits a.t a.x.now a.y.now a.dealer.now a.coins.now whole.requires.0).terms.sides, whole.requires.1)
 
 pub returns : goal.returns
 returns c =
     let dealt = c in
-    let sized = c.before.before.before.before.before.before.before.before.before.before in
-    let whole = c.before.before.before.before.before.before.before.before.before.before.before.before.before in
+    let sized = c in
+    let whole = c in
     let a = whole.args in
     let n = sized.slot_size-size in
     let empty = pool-taken a.t n.result 4096 (few c.before.before.before.before.before.before.before.before.before.before.before.before.before) n.ensures.0 in

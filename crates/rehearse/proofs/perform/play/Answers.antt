@@ -49,64 +49,64 @@ slice_bounds-steps-end-4 c = sym (length-take-le _ _ (omega (arith, (few c.befor
 pub slice_bounds-y1-end-2 : goal.slice_bounds-y1-end-2
 slice_bounds-y1-end-2 c =
     let lent = c in
-    let counted = c.before.before.before.before.before.before.before.before.before.before in
+    let counted = c in
     let e = came-back counted.times-kp.result 2048 _ (few c.before.before.before.before.before.before.before.before.before.before.before.before.before.before.before.before.before).0 c.y1-2-1.given in
     simp length-append (omega (arith, e))
 
 pub slice_bounds-result-end : goal.slice_bounds-result-end
 slice_bounds-result-end c =
     let lent = c in
-    let counted = c.before.before.before.before.before.before.before.before.before.before.before in
+    let counted = c in
     let e = came-back counted.times-kp.result 2048 _ (few c.before.before.before.before.before.before.before.before.before.before.before.before.before.before.before.before.before.before).0 c.y1-2-1.given in
     sym (length-take-le _ _ (simp length-append (omega (arith, e))))
 
 pub slice_bounds-x1r1-end-2 : goal.slice_bounds-x1r1-end-2
 slice_bounds-x1r1-end-2 c =
     let lent = c in
-    let counted = c.before.before.before.before.before.before.before.before.before.before.before in
+    let counted = c in
     let e = came-back (counted.times.result + counted.times-mp.result) 3072 _ (few c.before.before.before.before.before.before.before.before.before.before.before.before.before.before.before.before.before.before).1 c.x1r1-2-1.given in
     simp length-append (omega (arith, e))
 
 pub slice_bounds-result-end-2 : goal.slice_bounds-result-end-2
 slice_bounds-result-end-2 c =
     let lent = c in
-    let counted = c.before.before.before.before.before.before.before.before.before.before.before.before in
+    let counted = c in
     let e = came-back (counted.times.result + counted.times-mp.result) 3072 _ (few c.before.before.before.before.before.before.before.before.before.before.before.before.before.before.before.before.before.before.before).1 c.x1r1-2-1.given in
     sym (length-take-le _ _ (simp length-append (omega (arith, e))))
 
 pub slice_bounds-u-end-2 : goal.slice_bounds-u-end-2
 slice_bounds-u-end-2 c =
     let lent = c in
-    let counted = c.before.before.before.before.before.before.before.before.before.before.before.before in
+    let counted = c in
     let e = came-back counted.times-mp.result 1024 _ (few c.before.before.before.before.before.before.before.before.before.before.before.before.before.before.before.before.before.before.before).2 c.u-2-1.given in
     simp length-append (omega (arith, e))
 
 pub slice_bounds-result-end-3 : goal.slice_bounds-result-end-3
 slice_bounds-result-end-3 c =
     let lent = c in
-    let counted = c.before.before.before.before.before.before.before.before.before.before.before.before.before in
+    let counted = c in
     let e = came-back counted.times-mp.result 1024 _ (few c.before.before.before.before.before.before.before.before.before.before.before.before.before.before.before.before.before.before.before.before).2 c.u-2-1.given in
     sym (length-take-le _ _ (simp length-append (omega (arith, e))))
 
 pub slice_bounds-v-end-2 : goal.slice_bounds-v-end-2
 slice_bounds-v-end-2 c =
     let lent = c in
-    let counted = c.before.before.before.before.before.before.before.before.before.before.before.before.before in
+    let counted = c in
     let e = came-back counted.times-mp.result 1024 _ (few c.before.before.before.before.before.before.before.before.before.before.before.before.before.before.before.before.before.before.before.before).2 c.v-2-1.given in
     simp length-append (omega (arith, e))
 
 pub slice_bounds-result-end-4 : goal.slice_bounds-result-end-4
 slice_bounds-result-end-4 c =
     let lent = c in
-    let counted = c.before.before.before.before.before.before.before.before.before.before.before.before.before.before in
+    let counted = c in
     let e = came-back counted.times-mp.result 1024 _ (few c.before.before.before.before.before.before.before.before.before.before.before.before.before.before.before.before.before.before.before.before.before).2 c.v-2-1.given in
     sym (length-take-le _ _ (simp length-append (omega (arith, e))))
 
 pub result-requires : goal.result-requires
 result-requires c =
     let back = c in
-    let lent = c.before.before.before.before.before in
-    let counted = c.before.before.before.before.before.before.before.before.before.before.before.before.before.before.before in
+    let lent = c in
+    let counted = c in
     let f = few c.before.before.before.before.before.before.before.before.before.before.before.before.before.before.before.before.before.before.before.before.before.before in (
       counted.requires.1,
       take-few _ 2048 _ f.0,
@@ -118,8 +118,8 @@ result-requires c =
 pub returns : goal.returns
 returns c =
     let back = c in
-    let lent = c.before.before.before.before.before.before.before.before in
-    let counted = c.before.before.before.before.before.before.before.before.before.before.before.before.before.before.before.before.before.before in
+    let lent = c in
+    let counted = c in
     let f = few c.before.before.before.before.before.before.before.before.before.before.before.before.before.before.before.before.before.before.before.before.before.before.before.before.before in
     let t = counted.args.t in
     let kp = counted.times-kp in

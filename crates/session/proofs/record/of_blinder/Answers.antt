@@ -28,7 +28,7 @@ pub returns : goal.returns
 unfolding of_blinder
 returns c =
     let at5 = c in
-    let at11 = c.before.before.before.before.before in
+    let at11 = c in
     let k = same_count at11.args.x.mm at11.well-formed.0.1.1.1.1.0.1.0.1 in
     let l = same_count at11.args.x.y at11.well-formed.0.1.1.1.1.1.0.1.0.1 in
     rw (joined 256 16 at11.args.x.mm at11.args.x.y _ _ _ k l (omega arith) at5.write_copy.ensures c.write_copy-2.ensures)
