@@ -1,5 +1,4 @@
 -- `rehearse_lines::print::refusal` meets its contract. Assumes nothing.
-use Prim.Native.Nat.{◌-◌}
 use native.Mathlib.Omega.{arith}
 use Rattle.rehearse_lines.proofs.Stores.{refusal-stored}
 use Rattle.rehearse_lines.proofs.print.refusal.Goals as goal
