@@ -13,7 +13,6 @@ use Rattle.protocol.specs.Judge.{done}
 use Rattle.protocol.specs.Message.{Message}
 use Rattle.protocol.specs.Product.{right_last_effect, right_last_tests}
 use Rattle.judging.specs.InOrder.{judged}
-use Rattle.protocol.proofs.StepTests.{RightLastFits}
 use Rattle.tape.specs.Placed.{Placed}
 use Rattle.tape.proofs.Sides.{sides-of}
 use Rattle.tape.proofs.Matrices.{matrix-length}

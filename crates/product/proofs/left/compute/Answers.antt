@@ -83,16 +83,15 @@ write_message-requires c =
 pub returns : goal.returns
 unfolding left_effect join over
 returns c =
-    let at = c in
     let start = c in
     let a = start.args in
     let s = slot_at a.pool.now a.at.size a.at.index in
     let m = taken 1 a.t a.residues.now in
     let f = left-known a.t s a.x.now a.words.now m (length a.out.now) (length a.share.now) start.requires in
     let enough = f.enough in
-    let few : at.times-mp.result ≤ length (residues_of a.t.q a.words.now) = omega (arith, at.times-mp.ensures, enough) in
+    let few : c.times-mp.result ≤ length (residues_of a.t.q a.words.now) = omega (arith, c.times-mp.ensures, enough) in
     let draw = c.draw-count in
-    let u = coins-part _ _ a.words.now _ _ few draw.ensures.1 in
+    let u = coins-part _ _ a.words.now _ _ few draw.ensures.out_after in
     let y = whole-message a.t m (f.message.residues.size ∙ sym (size-1 a.t)) in
-    let sent = rw (u, at.times-mp.ensures, at.matrix-a0.ensures, at.matrix-x0.ensures) at c.write_message.ensures in
-    rw (rw at.times-mp.ensures c.before.before.before.before.before.before.before.before.before draw.ensures.0, sent, rw at.times-mp.ensures c.before.before.before.before.before.before.before.before.before draw.ensures.1) (simp (append-nil, y))
+    let sent = rw (u, c.times-mp.ensures, c.matrix-a0.ensures, c.matrix-x0.ensures) at c.write_message.ensures in
+    rw (rw c.times-mp.ensures at draw.ensures.value, sent, rw c.times-mp.ensures at draw.ensures.out_after) (simp (append-nil, y))
