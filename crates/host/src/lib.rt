@@ -69,8 +69,8 @@ pub extern "C" fn yuthsaok_first(
     line: &mut [u8],
     res: &mut [u8],
 ) -> Report
-    ensures* { λ r. ⌜ ◌≡◌ {A = Left} (record {
-      report = r;
+    ensures { ◌≡◌ {A = Left} (record {
+      report = result;
       lent = record {
         host = session.new;
         pool = pool.new;
@@ -84,8 +84,8 @@ pub extern "C" fn yuthsaok_first(
           pool = pool.old;
           scratch = scratch.old;
           line = line.old;
-          res = res.old;
-        }) size index end (terms_of number tape q m k p) input.now words.now message.now) ⌝ }
+          result = res.old;
+        }) size index end (terms_of number tape q m k p) input.now words.now message.now) }
 {
     let terms = Terms {
         session: SessionId(number),
@@ -111,8 +111,8 @@ pub extern "C" fn yuthsaok_next(
     line: &mut [u8],
     res: &mut [u8],
 ) -> Report
-    ensures* { λ r. ⌜ ◌≡◌ {A = Left} (record {
-      report = r;
+    ensures { ◌≡◌ {A = Left} (record {
+      report = result;
       lent = record {
         host = session.new;
         pool = pool.new;
@@ -126,8 +126,8 @@ pub extern "C" fn yuthsaok_next(
           pool = pool.old;
           scratch = scratch.old;
           line = line.old;
-          res = res.old;
-        }) size index message.now) ⌝ }
+          result = res.old;
+        }) size index message.now) }
 {
     let at = Place { size, index };
     host_later::next(session, pool, at, scratch, message, line, res)
@@ -141,8 +141,8 @@ pub extern "C" fn yuthsaok_drop(
     index: usize,
     scratch: &mut [u8],
 ) -> Report
-    ensures* { λ r. ⌜ ◌≡◌ {A = Left} (record {
-      report = r;
+    ensures { ◌≡◌ {A = Left} (record {
+      report = result;
       lent = record {
         host = session.new;
         pool = pool.new;
@@ -151,7 +151,7 @@ pub extern "C" fn yuthsaok_drop(
         result = [];
       };
     })
-        (drop_on (record { host = session.old; pool = pool.old; scratch = scratch.old; line = []; result = [] }) size index) ⌝ }
+        (drop_on (record { host = session.old; pool = pool.old; scratch = scratch.old; line = []; result = [] }) size index) }
 {
     let at = Place { size, index };
     host_later::drop(session, pool, at, scratch)

@@ -58,8 +58,8 @@ fn first_on(
     coins: &mut [u32],
 ) -> Report
     requires { (length words.old ≡ 2048) × (length coins.old ≡ 1024) }
-    ensures* { λ r. ⌜ ◌≡◌ {A = Left} (record {
-      report = r;
+    ensures { ◌≡◌ {A = Left} (record {
+      report = result;
       lent = record {
         host = session.new;
         pool = pool.new;
@@ -73,20 +73,20 @@ fn first_on(
           pool = pool.old;
           scratch = scratch.old;
           line = line.old;
-          res = res.old;
+          result = res.old;
         }) (f.at.index * f.at.size)
         (judge (first_tests (record {
           host = session.old;
           pool = pool.old;
           scratch = scratch.old;
           line = line.old;
-          res = res.old;
+          result = res.old;
         }) (length input.now) (length raw.now)) tt)
         (seen_first f.end f.terms (lent_room f.end) most_sent (share_room f.end)
         (words_read f.terms.q (coin_count f.end f.terms) (words_of raw.now))
         (slot_at (words_of pool.old) f.at.size f.at.index) (words_of scratch.old) (seen_words (words_of input.now))
         (take (coin_count f.end f.terms) (kept_words f.terms.q (words_of raw.now)))
-        (message_with head residues.now) (length res.old / 4))) ⌝ }
+        (message_with head residues.now) (length res.old / 4))) }
 {
     let lengths = check_session(session.len(), pool.len(), scratch.len(), res.len());
     let free = check_first(due_in(session), input.len(), raw.len());
@@ -132,8 +132,8 @@ fn first_with(
     coins: &mut [u32],
 ) -> Report
     requires { (length numbers.old ≡ 2055) × (length words.old ≡ 2048) × (length coins.old ≡ 1024) }
-    ensures* { λ r. ⌜ ◌≡◌ {A = Left} (record {
-      report = r;
+    ensures { ◌≡◌ {A = Left} (record {
+      report = result;
       lent = record {
         host = session.new;
         pool = pool.new;
@@ -147,8 +147,8 @@ fn first_with(
           pool = pool.old;
           scratch = scratch.old;
           line = line.old;
-          res = res.old;
-        }) f.at.size f.at.index f.end f.terms input.now raw.now message.now) ⌝ }
+          result = res.old;
+        }) f.at.size f.at.index f.end f.terms input.now raw.now message.now) }
 {
     if !takes_message(f.end) {
         let none = no_head();
@@ -200,8 +200,8 @@ pub fn first(
     line: &mut [u8],
     res: &mut [u8],
 ) -> Report
-    ensures* { λ r. ⌜ ◌≡◌ {A = Left} (record {
-      report = r;
+    ensures { ◌≡◌ {A = Left} (record {
+      report = result;
       lent = record {
         host = session.new;
         pool = pool.new;
@@ -215,8 +215,8 @@ pub fn first(
           pool = pool.old;
           scratch = scratch.old;
           line = line.old;
-          res = res.old;
-        }) f.at.size f.at.index f.end f.terms input.now raw.now message.now) ⌝ }
+          result = res.old;
+        }) f.at.size f.at.index f.end f.terms input.now raw.now message.now) }
 {
     let mut numbers = [0u32; 2055];
     let mut words = [0u32; 2048];

@@ -88,8 +88,8 @@ fn on_slot(
     requires { (checked q.own ≡ done tt → length session.old ≡ 1120) × (length words.old * 4 ≤ length slot.old)
         × (length lent.old * 4 ≤ length scratch.old) × (length share.old * 4 ≤ length res.old)
         × Below 256 scratch.old × Below 256 res.old }
-    ensures* { λ r. ⌜ ◌≡◌ {A = Left} (record {
-      report = r;
+    ensures { ◌≡◌ {A = Left} (record {
+      report = result;
       lent = record {
         host = session.new;
         pool = slot.new;
@@ -103,12 +103,12 @@ fn on_slot(
           pool = slot.old;
           scratch = scratch.old;
           line = line.old;
-          res = res.old;
+          result = res.old;
         }) 0 (checked q.own)
         (on_done (entering q.read []) (first_step q.end q.terms
         (slot_at (take (length words.old) (words_of slot.old)) (length words.old) 0)
         (take (length lent.old) (words_of scratch.old)) input.now raw.now
-        (message_with q.head residues.now) (length out.old) (length share.old)))) ⌝ }
+        (message_with q.head residues.now) (length out.old) (length share.old)))) }
 {
     let d = run(
         q, residues, input, raw, slot, scratch, res, words, lent, out, share,
@@ -145,8 +145,8 @@ fn on_call(
 ) -> Report
     requires { (checked q.own ≡ done tt → length session.old ≡ 1120) × (length words.old ≡ 3079) × Below 256 pool.old
         × Below 256 scratch.old × Below 256 res.old }
-    ensures* { λ r. ⌜ ◌≡◌ {A = Left} (record {
-      report = r;
+    ensures { ◌≡◌ {A = Left} (record {
+      report = result;
       lent = record {
         host = session.new;
         pool = pool.new;
@@ -160,11 +160,11 @@ fn on_call(
           pool = pool.old;
           scratch = scratch.old;
           line = line.old;
-          res = res.old;
+          result = res.old;
         }) (at.index * at.size) (checked q.own)
         (seen_first q.end q.terms (length lent.old) (length out.old) (length share.old) q.read
         (slot_at (words_of pool.old) at.size at.index) (words_of scratch.old)
-        input.now raw.now (message_with q.head residues.now) (length res.old / 4))) ⌝ }
+        input.now raw.now (message_with q.head residues.now) (length res.old / 4))) }
 {
     let terms = q.terms;
     let half = Half {
@@ -207,8 +207,8 @@ pub fn with_room(
     res: &mut [u8],
 ) -> Report
     requires { checked q.own ≡ done tt → length session.old ≡ 1120 }
-    ensures* { λ r. ⌜ ◌≡◌ {A = Left} (record {
-      report = r;
+    ensures { ◌≡◌ {A = Left} (record {
+      report = result;
       lent = record {
         host = session.new;
         pool = pool.new;
@@ -222,11 +222,11 @@ pub fn with_room(
           pool = pool.old;
           scratch = scratch.old;
           line = line.old;
-          res = res.old;
+          result = res.old;
         }) (at.index * at.size) (checked q.own)
         (seen_first q.end q.terms (lent_room q.end) most_sent (share_room q.end) q.read
         (slot_at (words_of pool.old) at.size at.index) (words_of scratch.old)
-        input.now raw.now (message_with q.head residues.now) (length res.old / 4))) ⌝ }
+        input.now raw.now (message_with q.head residues.now) (length res.old / 4))) }
 {
     bytes_known(pool);
     bytes_known(scratch);

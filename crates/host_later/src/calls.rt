@@ -26,8 +26,8 @@ fn next_with(
     numbers: &mut [u32],
 ) -> Report
     requires { length numbers.old ≡ 3079 }
-    ensures* { λ r. ⌜ ◌≡◌ {A = Left} (record {
-      report = r;
+    ensures { ◌≡◌ {A = Left} (record {
+      report = result;
       lent = record {
         host = session.new;
         pool = pool.new;
@@ -41,8 +41,8 @@ fn next_with(
           pool = pool.old;
           scratch = scratch.old;
           line = line.old;
-          res = res.old;
-        }) at.size at.index message.now) ⌝ }
+          result = res.old;
+        }) at.size at.index message.now) }
 {
     let own = check_session(session.len(), pool.len(), scratch.len(), res.len());
     let loaded = take_line(message, numbers);
@@ -68,8 +68,8 @@ pub fn next(
     line: &mut [u8],
     res: &mut [u8],
 ) -> Report
-    ensures* { λ r. ⌜ ◌≡◌ {A = Left} (record {
-      report = r;
+    ensures { ◌≡◌ {A = Left} (record {
+      report = result;
       lent = record {
         host = session.new;
         pool = pool.new;
@@ -83,8 +83,8 @@ pub fn next(
           pool = pool.old;
           scratch = scratch.old;
           line = line.old;
-          res = res.old;
-        }) at.size at.index message.now) ⌝ }
+          result = res.old;
+        }) at.size at.index message.now) }
 {
     let mut numbers = [0u32; 3079];
     next_with(session, pool, at, scratch, message, line, res, &mut numbers)
@@ -102,8 +102,8 @@ fn drop_with(
     line: &mut [u8],
     res: &mut [u8],
 ) -> Report
-    ensures* { λ r. ⌜ ◌≡◌ {A = Left} (record {
-      report = r;
+    ensures { ◌≡◌ {A = Left} (record {
+      report = result;
       lent = record {
         host = session.new;
         pool = pool.new;
@@ -117,8 +117,8 @@ fn drop_with(
           pool = pool.old;
           scratch = scratch.old;
           line = line.old;
-          res = res.old;
-        }) at.size at.index) ⌝ }
+          result = res.old;
+        }) at.size at.index) }
 {
     let own = check_session(session.len(), pool.len(), scratch.len(), res.len());
     let head = no_head();
@@ -131,8 +131,8 @@ fn drop_with(
 }
 
 pub fn drop(session: &mut [u8], pool: &mut [u8], at: Place, scratch: &mut [u8]) -> Report
-    ensures* { λ r. ⌜ ◌≡◌ {A = Left} (record {
-      report = r;
+    ensures { ◌≡◌ {A = Left} (record {
+      report = result;
       lent = record {
         host = session.new;
         pool = pool.new;
@@ -141,7 +141,7 @@ pub fn drop(session: &mut [u8], pool: &mut [u8], at: Place, scratch: &mut [u8]) 
         result = [];
       };
     })
-        (drop_on (record { host = session.old; pool = pool.old; scratch = scratch.old; line = []; result = [] }) at.size at.index) ⌝ }
+        (drop_on (record { host = session.old; pool = pool.old; scratch = scratch.old; line = []; result = [] }) at.size at.index) }
 {
     let words = [0u32; 0];
     let mut line = [0u8; 0];

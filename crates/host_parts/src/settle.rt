@@ -38,8 +38,8 @@ pub fn settle(
 ) -> Report
     requires { (checked q.own ≡ done tt → length session.old ≡ 1120) × (length words.now * 4 ≤ length slot.old)
         × (length lent.now * 4 ≤ length scratch.old) × (length share.now * 4 ≤ length res.old) }
-    ensures* { λ r. ⌜ ◌≡◌ {A = Left} (record {
-      report = r;
+    ensures { ◌≡◌ {A = Left} (record {
+      report = result;
       lent = record {
         host = session.new;
         pool = slot.new;
@@ -49,7 +49,7 @@ pub fn settle(
       };
     })
         (settled q.own q.sums q.read answer x h words.now lent.now out.now share.now
-        (record { host = session.old; pool = slot.old; scratch = scratch.old; line = line.old; res = res.old })) ⌝ }
+        (record { host = session.old; pool = slot.old; scratch = scratch.old; line = line.old; result = res.old })) }
 {
     let own = q.own;
     let Check::Passed = own else {

@@ -101,8 +101,8 @@ fn store_sent(
 ) -> Report
     requires { (length session.old ≡ 1120) × (length words.now * 4 ≤ length slot.old)
         × (length lent.now * 4 ≤ length scratch.old) × (length share.now * 4 ≤ length res.old) }
-    ensures* { λ r. ⌜ ◌≡◌ {A = Left} (record {
-      report = r;
+    ensures { ◌≡◌ {A = Left} (record {
+      report = result;
       lent = record {
         host = session.new;
         pool = slot.new;
@@ -112,7 +112,7 @@ fn store_sent(
       };
     })
         (stored_sent read x h words.now lent.now sent.now share.now
-        (record { host = session.old; pool = slot.old; scratch = scratch.old; line = line.old; res = res.old })) ⌝ }
+        (record { host = session.old; pool = slot.old; scratch = scratch.old; line = line.old; result = res.old })) }
 {
     let bytes = line_size(h, sent);
     if line.len() < bytes {
@@ -155,8 +155,8 @@ pub fn store(
 ) -> Report
     requires { (length session.old ≡ 1120) × (length words.now * 4 ≤ length slot.old)
         × (length lent.now * 4 ≤ length scratch.old) × (length share.now * 4 ≤ length res.old) }
-    ensures* { λ r. ⌜ ◌≡◌ {A = Left} (record {
-      report = r;
+    ensures { ◌≡◌ {A = Left} (record {
+      report = result;
       lent = record {
         host = session.new;
         pool = slot.new;
@@ -166,7 +166,7 @@ pub fn store(
       };
     })
         (stored sums read answer x h words.now lent.now sent.now share.now
-        (record { host = session.old; pool = slot.old; scratch = scratch.old; line = line.old; res = res.old })) ⌝ }
+        (record { host = session.old; pool = slot.old; scratch = scratch.old; line = line.old; result = res.old })) }
 {
     let Answer::Refused(r) = answer else {
         return store_sent(

@@ -9,9 +9,8 @@ use lib.Dec.{eqb}
 use Rattle.algebra.specs.Count.{both}
 use Rattle.protocol.specs.declared.Terms.{Terms}
 use Rattle.protocol.specs.declared.Head.{Head}
-use Rattle.protocol.specs.declared.Refusal.{Refusal}
 use Rattle.protocol.specs.declared.Refusal.TheVariants.{Mark, Stranger}
-use Rattle.protocol.specs.Judge.{refusals, is_same, Test, needs, clear, judge}
+use Rattle.protocol.specs.Judge.{refusals, is_same, needs, clear, judge}
 use Rattle.protocol.specs.Tape.{Role, status_of, tape_tests}
 use Rattle.protocol.proofs.Judge.{same-judge}
 use Rattle.tape.specs.Bears.{numbers_are, bears}

@@ -17,7 +17,7 @@ use native.Mathlib.Decide.{dec_lt}
 use borrow.Author.Tests.{lt-ltb, le-ltb}
 use Rattle.algebra.specs.Count.{both}
 use Rattle.protocol.specs.declared.Refusal.{Refusal}
-use Rattle.protocol.specs.Judge.{place_of, Test, needs, clear, Judged, refused, done, judge, judge_by}
+use Rattle.protocol.specs.Judge.{place_of, Test, needs, clear, Judged, refused, done}
 use Rattle.protocol.proofs.Judge.{accepts, passed, all_append, all_split, lowest, stops, Lowest, clear-append, all-clear, one-fails}
 use Rattle.judging.specs.declared.Check.{Check}
 use Rattle.judging.specs.declared.Check.TheVariants.{Passed, Refused}

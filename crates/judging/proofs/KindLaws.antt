@@ -14,7 +14,7 @@ use lib.Seq.{take_all}
 use borrow.Author.Tests.{lt-ltb, le-ltb, le-leb, lt-leb, eq-eqb, ne_eqb}
 use Rattle.algebra.specs.Count.{part, parts, total}
 use Rattle.protocol.specs.declared.Terms.{Terms}
-use Rattle.protocol.specs.Bounds.{Sort, product, system, within, sides_fit, columns}
+use Rattle.protocol.specs.Bounds.{Sort, product, system, sides_fit, columns}
 use Rattle.protocol.specs.Message.{Message, kind_sort, last_kind, message_layout, message_size, message_parts}
 use Rattle.tape.proofs.Sides.{sides-of}
 

@@ -1,7 +1,7 @@
 -- The shared groups of tests, in the phases in which the code makes them; `ids-fit`, `head-sides`, sides that were found to fit; `is_open_lem`, of a session
 -- of which something is due. Assumes nothing.
 use mathlib.Core.Path.{◌≡◌, refl, sym, ap, ◌∙◌}
-use mathlib.Core.Bool.{Bool, true, false}
+use mathlib.Core.Bool.{Bool, true}
 use mathlib.Core.List.{[], ◌∷◌, ◌++◌}
 use Prim.Native.Nat.{ℕ}
 use borrow.Author.Tests.{ne_eqb}

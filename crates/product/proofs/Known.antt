@@ -19,7 +19,7 @@ use Rattle.protocol.specs.Step.{open_tests}
 use Rattle.protocol.specs.Product.{right_first_effect, right_first_tests, right_first, left_effect, left_tests, left_step, right_last_effect, right_last_tests, right_last}
 use Rattle.protocol.proofs.Judge.{passed}
 use Rattle.protocol.proofs.Tests.{OpenFits, open-tests}
-use Rattle.protocol.proofs.StepTests.{RightFirstFits, right-first, LeftFits, left_step, RightLastFits, right-last}
+use Rattle.protocol.proofs.StepTests.{RightFirstFits, right-first, LeftFits, left_step_lem, RightLastFits, right-last}
 use Rattle.protocol.proofs.CompletionLaws.{first_of}
 use Rattle.judging.specs.InOrder.{judged}
 use Rattle.judging.proofs.InOrder.{accepted-by}
@@ -38,7 +38,7 @@ pub left-known : (t : Terms) (s : Slot) (x words : List ℕ) (a : Message) (room
     → LeftFits t s x words a room share
 unfolding left_step
 left-known t s x words a room share h =
-    ((left_step t s x words a room share).means (accepted-by (left_tests t s x words a room share) (left_effect t s x words a) h)).0
+    ((left_step_lem t s x words a room share).means (accepted-by (left_tests t s x words a room share) (left_effect t s x words a) h)).0
 
 pub last-known : (x : RightSession) (s : Slot) (a : Message) (share : ℕ) → judged (right_last_tests x s a share) ≡ done tt → RightLastFits x s a share
 unfolding right_last

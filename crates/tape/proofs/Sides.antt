@@ -10,7 +10,6 @@ use Prim.Native.Nat.{ℕ, ◌+◌, ◌*◌, ◌≤◌, ◌<◌}
 use native.Mathlib.Nat.{mul-le-mul}
 use native.Mathlib.Omega.{arith}
 use borrow.Author.Tests.{leb-true, eqb-true}
-use Rattle.algebra.specs.Count.{both}
 use Rattle.algebra.proofs.Count.{and_left, and_right}
 use Rattle.protocol.specs.Bounds.{Sort, product, system, within, largest_modulus, sides_fit}
 

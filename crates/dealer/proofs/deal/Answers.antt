@@ -11,17 +11,13 @@ use Rattle.dealer.proofs.Known.{deal-known}
 use Rattle.dealer.proofs.Leaving.{deal-refused, half_back, deal-done}
 use Rattle.dealer.proofs.deal.Goals as goal
 
-pub enum_told-1 : goal.enum_told-1
-enum_told-1 c = search rules
-
 pub returns-in_default : goal.returns-in_default
 returns-in_default c =
     let a = c.args in
-    let enum-told2 = c.enum_told-in_default-1 in
     let check = c.check-checked in
     let r = request (sort a.s) a.t a.words.now in
-    rw (c.answer_of.ensures, enum-told2.given.1)
-    (deal-refused a.first.now a.second.now a.at.size a.at.index r (sym check.ensures ∙ ap checked enum-told2.given.1))
+    rw (c.answer_of.ensures, c.in_default.is)
+    (deal-refused a.first.now a.second.now a.at.size a.at.index r (sym check.ensures ∙ ap checked c.in_default.is))
 
 pub overflow_mul-from : goal.overflow_mul-from
 overflow_mul-from c =
@@ -91,14 +87,13 @@ returns c =
     let far = c in
     let a = far.args in
     let check = far.check-checked in
-    let enum_told-1 = c.enum_told-1 in
     let write-halves = c.write_halves-read in
-    let k = deal-known _ a.t _ _ _ _ _ check.ensures enum_told-1.given.1 in
+    let k = deal-known _ a.t _ _ _ _ _ check.ensures c.in-Passed.is in
     let e = write-halves.ensures in
     let first = slot-part-length a.first.now a.at.size a.at.index k.first-inside in
     let second = slot-part-length a.second.now a.at.size a.at.index k.second-inside in
-    let one : length write-halves.new.1.1.1.0 ≡ a.at.size = omega (arith, first) in
-    let two : length write-halves.new.1.1.1.1.0 ≡ a.at.size = omega (arith, second) in
+    let one : length write-halves.new.first ≡ a.at.size = omega (arith, first) in
+    let two : length write-halves.new.second ≡ a.at.size = omega (arith, second) in
     deal-done a.first.now a.second.now a.at.size a.at.index (request (sort a.s) a.t a.words.now)
-    (sym check.ensures ∙ ap checked enum_told-1.given.1) e.0
-    (half_back a.first.now _ _ a.at.size a.at.index one e.1.0) (half_back a.second.now _ _ a.at.size a.at.index two e.1.1)
+    (sym check.ensures ∙ ap checked c.in-Passed.is) e.value
+    (half_back a.first.now _ _ a.at.size a.at.index one e.first_after) (half_back a.second.now _ _ a.at.size a.at.index two e.second_after)

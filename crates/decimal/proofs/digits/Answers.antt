@@ -1,6 +1,6 @@
 -- `decimal::digits` meets its contract: the loop keeps `Running`, one step a digit. Assumes nothing.
 use mathlib.Core.Path.{◌≡◌}
-use Prim.Native.Nat.{◌+◌, ◌-◌}
+use Prim.Native.Nat.{◌+◌}
 use native.Mathlib.Omega.{arith}
 use Rattle.decimal.proofs.Runs.{run-start, run-turn, run_end}
 use native.Mathlib.Nat.{pow-le-pow_right}

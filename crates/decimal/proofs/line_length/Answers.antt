@@ -1,6 +1,6 @@
 -- `decimal::line_length` meets its contract: the bytes counted and those left make the whole. Assumes nothing.
 use mathlib.Core.Path.{ap}
-use Prim.Native.Nat.{◌-◌, ◌<◌, ◌^◌}
+use Prim.Native.Nat.{◌<◌, ◌^◌}
 use native.Mathlib.Omega.{arith}
 use lib.ListN.{length, get_or}
 use Rattle.decimal.proofs.Stores.{line-length-step, line-none}

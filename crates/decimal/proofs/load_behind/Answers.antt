@@ -28,6 +28,6 @@ returns c =
     let s = a.s.now in
     let e = before-whole s (omega arith) c.if-n-gt65536.false c.if-s-n-ne10.false in
     let scan = c.scan in record {
-      answered = scan.ensures.0 ∙ e.0;
-      contents = scan.ensures.1 ∙ ap (λ (l : List ℕ). sets a.out.now 0 (drop a.skip l)) e.1;
+      answered = scan.ensures.answered ∙ e.0;
+      contents = scan.ensures.contents ∙ ap (λ (l : List ℕ). sets a.out.now 0 (drop a.skip l)) e.1;
     }

@@ -17,7 +17,7 @@ returns-in_default c =
     let e = into-none (length out) s
     (told-wrong (numbers_of s) (replicate 1 0) _ c.load-first.result
     (tallied 0 s _ _ _ c.load-first.ensures.answered c.load-first.ensures.contents) c.in_default.is) in
-    rw e (refl, refl)
+    rw e (record { answered = refl; contents = refl })
 
 pub returns-then-out-n : goal.returns-then-out-n
 returns-then-out-n c =
@@ -25,9 +25,9 @@ returns-then-out-n c =
     let load = c.load-first in
     let s = a.s.now in
     let out = a.out.now in
-    let t = told (numbers_of s) (replicate 1 0) _ load.result _ (tallied 0 s _ _ _ load.ensures.0 load.ensures.1) c.in-Numbers.is in
+    let t = told (numbers_of s) (replicate 1 0) _ load.result _ (tallied 0 s _ _ _ load.ensures.answered load.ensures.contents) c.in-Numbers.is in
     let e = into-short (length out) s t.values t.reads (omega (arith, t.count, c.if-out-n.true)) in
-    rw e (refl, refl)
+    rw e (record { answered = refl; contents = refl })
 
 pub returns : goal.returns
 returns c =
@@ -35,12 +35,12 @@ returns c =
     let load = c.load-first in
     let s = a.s.now in
     let out = a.out.now in
-    let t = told (numbers_of s) (replicate 1 0) _ load.result _ (tallied 0 s _ _ _ load.ensures.0 load.ensures.1)
+    let t = told (numbers_of s) (replicate 1 0) _ load.result _ (tallied 0 s _ _ _ load.ensures.answered load.ensures.contents)
     c.in-Numbers.is in
     let h : length t.values ≤ length out = omega (arith, t.count, c.if-out-n.false) in
     let e = into-done (length out) s t.values t.reads h in
-    rw e (
-      ap (λ (n : ℕ). count_reply (count.Words n)) t.count,
-      stored-behind 0 (numbers_of s) t.values out c.load.new.1.0 c.load.result t.reads
-          (tallied 0 s _ _ _ c.load.ensures.answered c.load.ensures.contents) ∙ sets_over t.values out h,
-    )
+    rw e (record {
+      answered = ap (λ (n : ℕ). count_reply (count.Words n)) t.count;
+      contents = stored-behind 0 (numbers_of s) t.values out c.load.new.out c.load.result t.reads
+          (tallied 0 s _ _ _ c.load.ensures.answered c.load.ensures.contents) ∙ sets_over t.values out h;
+    })

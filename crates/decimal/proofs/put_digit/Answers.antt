@@ -9,7 +9,7 @@ use Rattle.decimal.proofs.put_digit.Goals as goal
 
 pub returns-then-n-power : goal.returns-then-n-power
 unfolding digit_at
-returns-then-n-power c = rw (lt-ltb _ _ c.if-n-power.true) (omega arith, refl)
+returns-then-n-power c = rw (lt-ltb _ _ c.if-n-power.true) (record { place = omega arith; contents = refl })
 
 pub bounds-out-at : goal.bounds-out-at
 unfolding digit_at
@@ -20,4 +20,4 @@ bounds-out-at c =
 
 pub returns : goal.returns
 unfolding digit_at
-returns c = rw (le-ltb _ _ c.if-n-power.false) (omega arith, refl)
+returns c = rw (le-ltb _ _ c.if-n-power.false) (record { place = omega arith; contents = refl })

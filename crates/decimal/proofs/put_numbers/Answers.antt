@@ -1,7 +1,7 @@
 -- `decimal::put_numbers` meets its contract: what is stored and what is left make the whole run. Assumes nothing.
 use mathlib.Core.Path.{refl, ap, ◌∙◌, ap₂}
 use mathlib.Core.List.{List}
-use Prim.Native.Nat.{ℕ, ◌+◌, ◌-◌}
+use Prim.Native.Nat.{ℕ, ◌+◌}
 use native.Mathlib.Omega.{arith}
 use lib.ListN.{length, drop}
 use Rattle.decimal.proofs.Stores.{before-length-step, before-none, part-turn}

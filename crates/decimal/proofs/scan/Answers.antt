@@ -1,5 +1,4 @@
 -- `decimal::scan` meets its contract: the loop keeps `Scanning`, one turn a number. Assumes nothing.
-use Prim.Native.Nat.{◌-◌}
 use native.Mathlib.Omega.{arith}
 use Rattle.decimal.proofs.Scans.{scan-start, found_number, found-wrong, found-further, scan-same, scan-done}
 use Rattle.decimal.proofs.scan.Goals as goal
@@ -23,7 +22,7 @@ overflow_add-n c = let i = c.loop-i.invariant.0 in omega (arith, i.few, i.inside
 pub loop-i-smaller : goal.loop-i-smaller
 loop-i-smaller c =
     let number_at = c.number_at-found in
-    let f = found-further _ _ number_at.result _ _ number_at.ensures c.in-Number.is in
+    let f = found-further c.args.s.now c.loop-i.i number_at.result c.in-Number.v c.in-Number.next number_at.ensures c.in-Number.is in
     omega (arith, f.0, f.1)
 
 pub loop-i-preserved : goal.loop-i-preserved

@@ -1,5 +1,4 @@
 -- `drawing::collect_each` meets its contract: each turn keeps or throws away one word. Assumes nothing.
-use Prim.Native.Nat.{◌-◌}
 use native.Mathlib.Omega.{arith}
 use lib.Dec.{ltb}
 use lib.ListN.{get_or}

@@ -8,6 +8,6 @@ returns c =
     let start = c in
     let a = start.args in
     let g = c.collect-read.ensures in record {
-      value = g.0;
-      out_after = c.reduce_words.ensures ∙ drawn-filled a.q a.n a.words.now a.out.now _ _ g.1.gives g.1.past start.requires.1;
+      value = g.value;
+      out_after = c.reduce_words.ensures ∙ drawn-filled a.q a.n a.words.now a.out.now _ _ g.collected.gives g.collected.past start.requires.1;
     }

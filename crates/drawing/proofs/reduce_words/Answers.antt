@@ -1,6 +1,6 @@
 -- `drawing::reduce_words` meets its contract: after j turns the first j words are reduced. Assumes nothing.
 use mathlib.Core.Path.{◌≡◌, refl, ap, ◌∙◌}
-use Prim.Native.Nat.{ℕ, ◌-◌, ◌%◌}
+use Prim.Native.Nat.{ℕ, ◌%◌}
 use native.Mathlib.Nat.{mod-lt}
 use borrow.Author.Rules.{rules}
 use Rattle.protocol.specs.Drawing.{residue_of}

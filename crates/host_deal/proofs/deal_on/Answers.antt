@@ -1,7 +1,6 @@
 -- `host_deal::deal_on` meets its contract. Assumes nothing.
 use mathlib.Core.Path.{◌∙◌}
 use native.Mathlib.Omega.{arith}
-use Rattle.dealer.specs.Sorts.{sort}
 use Rattle.host_deal.proofs.Leaving.{other-sort, by-sort}
 use Rattle.host_deal.proofs.deal_on.Goals as goal
 

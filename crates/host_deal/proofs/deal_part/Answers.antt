@@ -9,13 +9,12 @@ use Rattle.host_deal.proofs.deal_part.Goals as goal
 pub slice_bounds-deal_bytes-end : goal.slice_bounds-deal_bytes-end
 slice_bounds-deal_bytes-end c =
     let few = c.sift_for-sifted.ensures.few in
-    simp length-take (omega (arith, few, c.raw-2-1.given))
+    simp length-take (omega (arith, few))
 
 pub returns : goal.returns
 returns c =
     let dealt = c in
-    let sifted = c.before.before.before.before.before in
-    let a = sifted.args in
+    let a = c.args in
     rw c.report_of.ensures
     (all_told a.at (sort a.s) a.t a.first.now a.second.now (words_of a.words.now) _ _ _ dealt.deal_bytes-answer.result _
-    sifted.sift_for-sifted.ensures.kept sifted.sift_for-sifted.ensures.read dealt.deal_bytes-answer.ensures)
+    c.sift_for-sifted.ensures.kept c.sift_for-sifted.ensures.read dealt.deal_bytes-answer.ensures)

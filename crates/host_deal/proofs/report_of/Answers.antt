@@ -6,4 +6,4 @@ pub returns-in-Accepted : goal.returns-in-Accepted
 returns-in-Accepted c = rw c.in-Accepted.is refl
 
 pub returns-in-Refused : goal.returns-in-Refused
-returns-in-Refused c = rw (c.number_of_lem.ensures, c.in-Refused.is) refl
+returns-in-Refused c = rw (c.number_of.ensures, c.in-Refused.is) refl

@@ -12,5 +12,5 @@ pub returns : goal.returns
 returns c =
     let load = c.load-loaded in
     let long = c.requires in
-    message-loaded _ load.ensures.0 _ _ long load.ensures.1
+    message-loaded _ load.ensures.answered _ _ long load.ensures.contents
     c.in-Numbers.is c.if-n-lt7.false c.head_of.ensures

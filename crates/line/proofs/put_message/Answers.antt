@@ -21,7 +21,7 @@ put_numbers-requires c =
     let words = c.head_words-words in
     let put = c.put_numbers-at.ensures in
     let same = length-sets a.out.now 0 (line_before (length a.residues.now) words.result) in
-    (omega (arith, two_runs a.h a.residues.now words.ensures, h.1, put.0, ap length put.1, same), omega (arith, h.0))
+    (omega (arith, two_runs a.h a.residues.now words.ensures, h.1, put.place, ap length put.contents, same), omega (arith, h.0))
 
 pub returns : goal.returns
 returns c =
@@ -30,6 +30,6 @@ returns c =
     let put = c.put_numbers-at.ensures in
     let last = c.put_numbers.ensures in
     let room = c.requires.1 in record {
-      place = omega (arith, two_runs a.h a.residues.now w, put.0, last.0);
-      contents = last.1 ∙ line-stored a.h a.residues.now w a.out.now put.0 put.1 room;
+      place = omega (arith, two_runs a.h a.residues.now w, put.place, last.place);
+      contents = last.contents ∙ line-stored a.h a.residues.now w a.out.now put.place put.contents room;
     }

@@ -1,7 +1,7 @@
 -- `line::put_residues` meets its contract: the loop copies one residue a turn. Assumes nothing.
 use mathlib.Core.Path.{◌≡◌, ap, ◌∙◌}
 use mathlib.Core.List.{List}
-use Prim.Native.Nat.{ℕ, ◌+◌, ◌-◌}
+use Prim.Native.Nat.{ℕ, ◌+◌}
 use native.Mathlib.Omega.{arith}
 use lib.ListN.{length, get_or, set, take, drop}
 use Rattle.line.proofs.Words.{copy_start, copy-turn, copy-same, copy_done}

@@ -8,30 +8,19 @@ use Rattle.judging.specs.InOrder.{checked}
 use Rattle.line.proofs.Judged.{holds, no-message, read-wrong, read-room, read-few, read-judged, refuses, takes}
 use Rattle.line.proofs.Words.{all-residues}
 use borrow.Author.Rules.{rules}
-use Rattle.line.proofs.read.Lts
-use Rattle.line.proofs.read.Tie
-use Rattle.line.proofs.read.Reads
 use Rattle.line.proofs.read.Goals as goal
-
-abbrev After-words-2-1 : Type 0
-After-words-2-1 = Lts.After-words2 Tie.the-claims Reads.Pre Reads.Post
-
-abbrev Start : Type 0
-Start = Lts.Start Tie.the-claims Reads.Pre Reads.Post
-
-abbrev start : After-words-2-1 → Start
-start c = c.before.before.before.before.before
 
 pub returns-in_default : goal.returns-in_default
 returns-in_default c =
     let a = c.args in
-    rw (read-wrong (length a.out.now) a.s.now (no-message _ _ c.load-loaded.ensures c.in_default.is)) (refl, refl)
+    rw (read-wrong (length a.out.now) a.s.now (no-message _ _ c.load-loaded.ensures c.in_default.is)) (record { answered = refl; contents = refl })
 
 pub returns-in_default-check : goal.returns-in_default-check
 returns-in_default-check c =
     let load = c.load-loaded.ensures in
     let l = holds _ _ load c.in-Message.is in
-    let check = c.check_read-check in let all = refuses l _ (read-judged l _) _ check.result (check.ensures _ l) c.in_default-check.is c.refused.ensures in record { answered = all.0; contents = all.1 }
+    let check = c.check_read-check in
+    let all = refuses l _ (read-judged l _) c.args.out.now check.result (check.ensures _ l) c.in_default-check.is c.refused.ensures in record { answered = all.0; contents = all.1 }
 
 pub put_residues-requires : goal.put_residues-requires
 put_residues-requires c =
@@ -47,6 +36,7 @@ returns c =
     let l = holds _ _ load c.in-Message.is in
     let check = c.check_read-check in
     let told = c.in-Passed.is in
-    let out = (start c.before.before.before.before.before.before.before.before.before.before.before.before).args.out.now in
-    let few = read-few l _ (sym (check.ensures _ l) ∙ ap checked told) in let all = takes l _ (read-judged l _) _ check.result (check.ensures _ l) told
+    let out = c.args.out.now in
+    let few = read-few l _ (sym (check.ensures _ l) ∙ ap checked told) in
+    let all = takes l _ (read-judged l _) c.args.out.now check.result (check.ensures _ l) told
     (c.put_residues.ensures ∙ ap (λ (r : List ℕ). over r out) (all-residues l (search rules))) in record { answered = all.0; contents = all.1 }

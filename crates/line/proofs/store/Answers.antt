@@ -23,5 +23,5 @@ returns-then-count-le3072 c =
 pub returns : goal.returns
 returns c =
     let load = c.load_behind in
-    λ h l. stored-behind 7 (numbers_of _) l.values _ _ load.result l.reads (tallied 7 _ _ _ _ load.ensures.0 load.ensures.1)
+    λ h l. stored-behind 7 (numbers_of _) l.values _ _ load.result l.reads (tallied 7 _ _ _ _ load.ensures.answered load.ensures.contents)
     ∙ sets_over (drop 7 l.values) _ (omega (arith, l.count))

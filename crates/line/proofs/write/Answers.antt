@@ -18,7 +18,7 @@ returns-in_default c =
     let m = message_with a.h a.residues.now in
     let k = c.in_default.is in
     rw (refused-by (write_tests (length a.out.now) m) (message_line m) (sym c.check_write-check.ensures ∙ ap checked k))
-    (ap written_reply (c.unwritten.ensures ∙ ap written_by k), refl)
+    (record { answered = ap written_reply (c.unwritten.ensures ∙ ap written_by k); contents = refl })
 
 pub put_message-n-requires : goal.put_message-n-requires
 put_message-n-requires c =
@@ -37,4 +37,4 @@ returns c =
     let check = c.check_write-check in
     let e = sym check.ensures ∙ ap checked c.in-Passed.is in
     rw (accepted-by (write_tests (length a.out.now) m) (message_line m) e)
-    (ap (λ (n : ℕ). written_reply (written.Bytes n)) put.0, put.1)
+    (record { answered = ap (λ (n : ℕ). written_reply (written.Bytes n)) put.place; contents = put.contents })

@@ -34,7 +34,7 @@ said-requires c =
 pub returns : goal.returns
 returns c =
     let told = c in
-    let read = c.before.before.before.before.before.before.before.before in
+    let read = c in
     let a = read.args in
     let s = said_read a.bytes.now _ _ _ _ _ read.read-lines.result told.in-Read.c read.read-lines.ensures.answered told.in-Read.is in
     let z = c.said.ensures a.bytes.now s in record {

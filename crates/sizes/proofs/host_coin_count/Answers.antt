@@ -6,11 +6,11 @@ use Rattle.sizes.proofs.host_coin_count.Goals as goal
 
 pub returns-in-1 : goal.returns-in-1
 unfolding coin_count by_end
-returns-in-1 c = rw c.match.keys1 c.coins.ensures
+returns-in-1 c = rw c.in-1.is c.coins.ensures
 
 pub returns-in-3 : goal.returns-in-3
 unfolding coin_count by_end scratch_size
-returns-in-3 c = rw c.match.keys2 c.scratch.ensures
+returns-in-3 c = rw c.in-3.is c.scratch.ensures
 
 pub returns-in_default : goal.returns-in_default
-returns-in_default c = no-coins _ _ _ _ c.match.rest.0.1 c.match.rest.1
+returns-in_default c = no-coins _ _ _ _ c.in_default.in_default-own.rest.0.1 c.in_default.in_default-own.rest.1

@@ -5,12 +5,12 @@ use Rattle.sizes.proofs.host_deal_count.Goals as goal
 
 pub returns-in-0 : goal.returns-in-0
 unfolding deal_count by_sort
-returns-in-0 c = rw c.match.keys1 c.product_draws.ensures
+returns-in-0 c = rw c.in-0.is c.product_draws.ensures
 
 pub returns-in-1 : goal.returns-in-1
 unfolding deal_count by_sort
-returns-in-1 c = rw c.match.keys2 c.system_draws.ensures
+returns-in-1 c = rw c.in-1.is c.system_draws.ensures
 
 pub returns-in_default : goal.returns-in_default
 unfolding deal_count by_sort
-returns-in_default c = simp (ne_eqb _ _ c.match.rest.0.1, ne_eqb _ _ c.match.rest.1)
+returns-in_default c = simp (ne_eqb _ _ c.in_default.in_default-own.rest.0.1, ne_eqb _ _ c.in_default.in_default-own.rest.1)

@@ -16,5 +16,5 @@ returns-in-Passed c = ap number (sym (ap checked c.in-Passed.is) ∙ c.check_mat
 pub returns-in-Refused : goal.returns-in-Refused
 unfolding inverse_number
 returns-in-Refused c =
-    c.number_of_lem.ensures
+    c.number_of.ensures
     ∙ ap number (sym (ap checked c.in-Refused.is) ∙ c.check_matrix.ensures)

@@ -18,6 +18,6 @@ returns-in-Taken c =
 pub returns-in-Refused : goal.returns-in-Refused
 returns-in-Refused c =
     let a = c.args in
-    ap (λ (n : ℕ). record { number = n; values = 0 }) c.number_of_lem.ensures
+    ap (λ (n : ℕ). record { number = n; values = 0 }) c.number_of.ensures
     ∙ sym (ap residue_reply c.in-Refused.is) ∙ c.to_residue.ensures
     ∙ ap (λ (z : ℤ). reply_of 0 (to_residue a.q z)) (to_z-of_z w32 _ c.ranges.score)

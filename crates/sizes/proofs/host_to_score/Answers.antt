@@ -17,5 +17,5 @@ returns-in-Read c =
 
 pub returns-in-Refused : goal.returns-in-Refused
 returns-in-Refused c =
-    ap (λ (n : ℕ). record { number = n; values = pos 0 }) c.number_of_lem.ensures
+    ap (λ (n : ℕ). record { number = n; values = pos 0 }) c.number_of.ensures
     ∙ sym (ap score_reply c.in-Refused.is) ∙ c.to_score.ensures

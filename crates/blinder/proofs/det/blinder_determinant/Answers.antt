@@ -53,11 +53,11 @@ tests c = rw c.has_room-fits.ensures at c.check-checked.ensures
 
 module _ (c : After-divisor-by) where
   abbrev told : Start
-  told = start c.before.before.before.before.before
+  told = start c.before.before.before.before
 
   passed : judged (later_step 6 (leb (message_size 6 told.args.s.terms) (length told.args.out.now)) told.args.s (slot told)
       told.args.scratch.now (message told)) ≡ done tt
-  passed = sym (tests c.before.before.before.before.before) ∙ ap checked c.in-Passed.is
+  passed = sym (tests c.before.before.before.before) ∙ ap checked c.in-Passed.is
 
   dividing : Dividing told.args.s.terms (slot told) told.args.scratch.now
   dividing = dividing-known told.args.s (slot told) told.args.scratch.now (message told) _ passed
@@ -79,18 +79,18 @@ module _ (c : After-divisor-by) where
 pub returns-in_default : goal.returns-in_default
 unfolding blinder_determinant
 returns-in_default c =
-    let b = start c.before.before.before in
+    let b = start c.before.before in
     let a = b.args in
     let e = c.in_default.is in
-    let failed = sym (hands_on c.check-checked.result _ (tests c.before.before.before) e
+    let failed = sym (hands_on c.check-checked.result _ (tests c.before.before) e
     ∙ sym (determinant-phases a.s (slot b) a.scratch.now (message b) (length a.out.now))) ∙ ap checked e in
     rw (c.refused.ensures, e)
     (sym (refused-leaves a.s (slot b) a.scratch.now [] a.out.now _ (blinder_determinant_effect a.s (slot b) a.scratch.now (message b)) failed))
 
 pub divisor-by-requires : goal.divisor-by-requires
 divisor-by-requires c =
-    let b = start c.before.before.before.before in
-    dividing-known b.args.s (slot b) b.args.scratch.now (message b) _ (sym (tests c.before.before.before.before) ∙ ap checked c.in-Passed.is)
+    let b = start c.before.before.before in
+    dividing-known b.args.s (slot b) b.args.scratch.now (message b) _ (sym (tests c.before.before.before) ∙ ap checked c.in-Passed.is)
 
 pub returns-then-by-eq0 : goal.returns-then-by-eq0
 unfolding blinder_determinant

@@ -29,20 +29,20 @@ told c = also _ _ c.worst-numbers.ensures c.check_first_received-session.ensures
 
 pub returns-in_default : goal.returns-in_default
 returns-in_default c =
-    let a = (start c.before.before).args in
-    hands_on c.worst-numbers.result _ (told c.before.before) c.in_default.is
+    let a = (start c.before).args in
+    hands_on c.worst-numbers.result _ (told c.before) c.in_default.is
     ∙ sym (first-phases a.t (slot_at a.pool.now a.at.size a.at.index) a.scratch a.mm.now a.y.now a.words.now
     (message_with a.a a.residues.now) a.room)
 
 pub check_drawn-requires : goal.check_drawn-requires
 check_drawn-requires c =
-    let a = (start c.before.before).args in
-    eliminable a.t _ a.scratch a.mm.now a.y.now _ a.room (sym (told c.before.before) ∙ ap checked c.in-Passed.is)
+    let a = (start c.before).args in
+    eliminable a.t _ a.scratch a.mm.now a.y.now _ a.room (sym (told c.before) ∙ ap checked c.in-Passed.is)
 
 pub returns : goal.returns
 returns c =
-    let a = (start c.before.before.before).args in
+    let a = (start c.before.before).args in
     c.check_drawn.ensures
     ∙ sym (first-phases a.t (slot_at a.pool.now a.at.size a.at.index) a.scratch a.mm.now a.y.now a.words.now
     (message_with a.a a.residues.now) a.room
-    ∙ goes-past c.worst-numbers.result (told c.before.before.before) c.in-Passed.is)
+    ∙ goes-past c.worst-numbers.result (told c.before.before) c.in-Passed.is)

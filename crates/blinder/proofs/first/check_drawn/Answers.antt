@@ -20,13 +20,13 @@ told : (c : After-check_coins-coins) → checked c.check_coins-coins.result
 told c = rw c.scratch_size.ensures at c.check_coins-coins.ensures
 
 pub returns-in_default : goal.returns-in_default
-returns-in_default c = hands_on c.check_coins-coins.result _ (told c.before.before) c.in_default.is
+returns-in_default c = hands_on c.check_coins-coins.result _ (told c.before) c.in_default.is
 
 pub check_regular-requires : goal.check_regular-requires
 check_regular-requires c =
-    (c.requires, enough _ _ _ (sym (told c.before.before) ∙ ap checked c.in-Passed.is))
+    (c.requires, enough _ _ _ (sym (told c.before) ∙ ap checked c.in-Passed.is))
 
 pub returns : goal.returns
 returns c =
     c.check_regular.ensures
-    ∙ sym (goes-past c.check_coins-coins.result (told c.before.before.before) c.in-Passed.is)
+    ∙ sym (goes-past c.check_coins-coins.result (told c.before.before) c.in-Passed.is)

@@ -37,14 +37,14 @@ returns-in_default c =
     let m = message_with a.a a.residues.now in
     let e = c.in_default.is in
     rw (c.refused.ensures, e)
-    (sym (refused-leaves a.s s a.scratch.now [] a.out.now _ (blinder_last_effect a.s s a.scratch.now m) (sym (tests c.before.before.before) ∙ ap checked e)))
+    (sym (refused-leaves a.s s a.scratch.now [] a.out.now _ (blinder_last_effect a.s s a.scratch.now m) (sym (tests c.before.before) ∙ ap checked e)))
 
 pub compute-done-requires : goal.compute-done-requires
 compute-done-requires c =
     let told = c in
     let a = told.args in
     let s = slot_at a.pool.now a.at.size a.at.index in
-    let passed = sym (tests c.before.before.before.before.before) ∙ ap checked told.in-Passed.is in
+    let passed = sym (tests c.before.before.before.before) ∙ ap checked told.in-Passed.is in
     let f = last-known a.s s (message_with a.a a.residues.now) a.scratch.now (length a.out.now) passed in
     as-taken (λ (m : Message). blinder_last_tests a.s s a.scratch.now m (length a.out.now)) f.message passed
 
@@ -53,7 +53,7 @@ spend_at-requires c =
     let told = c in
     let a = told.args in
     let s = slot_at a.pool.now a.at.size a.at.index in
-    let passed = sym (tests c.before.before.before.before.before.before.before.before.before.before.before) ∙ ap checked told.in-Passed.is in
+    let passed = sym (tests c.before.before.before.before.before.before.before.before.before.before) ∙ ap checked told.in-Passed.is in
     open-placed blinder a.s.terms s
     (last-known a.s s (message_with a.a a.residues.now) a.scratch.now (length a.out.now) passed).later.session-open
 
@@ -65,5 +65,5 @@ returns c =
     let s = slot_at a.pool.now a.at.size a.at.index in
     let m = message_with a.a a.residues.now in
     step-leaves a.s s a.scratch.now [] a.out.now _ (blinder_last_effect a.s s a.scratch.now m)
-    (sym (tests c.before.before.before.before.before.before.before.before.before.before.before.before.before.before) ∙ ap checked told.in-Passed.is)
+    (sym (tests c.before.before.before.before.before.before.before.before.before.before.before.before.before) ∙ ap checked told.in-Passed.is)
     c.compute-done.ensures c.spend_at.ensures

@@ -33,19 +33,19 @@ told c =
 
 pub returns-in_default : goal.returns-in_default
 returns-in_default c =
-    let a = (start c.before.before).args in
-    hands_on c.worst-numbers.result _ (told c.before.before) c.in_default.is ∙ sym
+    let a = (start c.before).args in
+    hands_on c.worst-numbers.result _ (told c.before) c.in_default.is ∙ sym
     (later-phases a.s (slot_at a.pool.now a.at.size a.at.index) a.scratch.now (message_with a.a a.residues.now) a.step a.fits)
 
 pub check_kept-requires : goal.check_kept-requires
 check_kept-requires c =
-    let a = (start c.before.before).args in
-    let f = kept-known a.s _ _ a.step a.fits _ (sym (told c.before.before) ∙ ap checked c.in-Passed.is) in
+    let a = (start c.before).args in
+    let f = kept-known a.s _ _ a.step a.fits _ (sym (told c.before) ∙ ap checked c.in-Passed.is) in
     (f.0.session-open.terms.sides, f.1)
 
 pub returns : goal.returns
 returns c =
-    let a = (start c.before.before.before).args in
+    let a = (start c.before.before).args in
     c.check_kept.ensures
     ∙ sym (later-phases a.s (slot_at a.pool.now a.at.size a.at.index) a.scratch.now (message_with a.a a.residues.now) a.step a.fits
-    ∙ goes-past c.worst-numbers.result (told c.before.before.before) c.in-Passed.is)
+    ∙ goes-past c.worst-numbers.result (told c.before.before) c.in-Passed.is)

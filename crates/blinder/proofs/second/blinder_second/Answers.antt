@@ -37,14 +37,14 @@ returns-in_default c =
     let m = message_with a.a a.residues.now in
     let e = c.in_default.is in
     rw (c.refused.ensures, e)
-    (sym (refused-leaves a.s s a.scratch.now a.out.now [] _ (blinder_second_effect a.s s a.scratch.now m) (sym (tests c.before.before.before) ∙ ap checked e)))
+    (sym (refused-leaves a.s s a.scratch.now a.out.now [] _ (blinder_second_effect a.s s a.scratch.now m) (sym (tests c.before.before) ∙ ap checked e)))
 
 pub compute-requires : goal.compute-requires
 compute-requires c =
     let told = c in
     let a = told.args in
     let s = slot_at a.pool.now a.at.size a.at.index in
-    let passed = sym (tests c.before.before.before) ∙ ap checked c.in-Passed.is in
+    let passed = sym (tests c.before.before) ∙ ap checked c.in-Passed.is in
     let f = second-known a.s s (message_with a.a a.residues.now) a.scratch.now (length a.out.now) passed in
     as-taken (λ (m : Message). blinder_second_tests a.s s a.scratch.now m (length a.out.now)) f.message passed
 
@@ -55,7 +55,7 @@ returns c =
     let a = told.args in
     let s = slot_at a.pool.now a.at.size a.at.index in
     let m = message_with a.a a.residues.now in
-    let passed = sym (tests c.before.before.before.before.before.before) ∙ ap checked c.in-Passed.is in
+    let passed = sym (tests c.before.before.before.before.before) ∙ ap checked c.in-Passed.is in
     let f = second-known a.s s m a.scratch.now (length a.out.now) passed in
     step-leaves a.s s a.scratch.now a.out.now [] _ (blinder_second_effect a.s s a.scratch.now m) passed c.compute.ensures
     (sym (same-pool s f.later.session-open.half.inside))

@@ -25,12 +25,11 @@ returns-in_default c =
 pub has_inverse_at-requires : goal.has_inverse_at-requires
 has_inverse_at-requires c =
     let a = c.args in
-    let at = c.at-1 in
     let h = c.requires in
     let t = a.t in
     let n = masks_count t.m t.k t.p in
     let told = rw c.masks_count.ensures at c.read.ensures in
-    let here = (enough-many t.q n a.words.now (sym told ∙ at.given.1)).1 in (
+    let here = (enough-many t.q n a.words.now (sym told ∙ c.in-Enough.is)).1 in (
       prime-of h.0,
       unknowns-of h.0,
       next-inside t.q n a.words.now _ here,
@@ -40,11 +39,10 @@ has_inverse_at-requires c =
 pub returns : goal.returns
 returns c =
     let a = c.args in
-    let at = c.at-1 in
     let h = c.requires in
     let t = a.t in
     let n = masks_count t.m t.k t.p in
     let told = rw c.masks_count.ensures at c.read.ensures in
-    let here = (enough-many t.q n a.words.now (sym told ∙ at.given.1)).1 in
+    let here = (enough-many t.q n a.words.now (sym told ∙ c.in-Enough.is)).1 in
     let many = enough-masks system t.m t.k t.p h.1 in
     c.has_inverse_at.ensures ∙ ap (regular t.q t.m) (mask-part t a.words.now (square h.0) here many)

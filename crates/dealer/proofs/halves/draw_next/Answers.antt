@@ -23,6 +23,6 @@ pub returns : goal.returns
 returns c =
     let a = c.args in
     let e = rw (tail-part a.from a.words.now) at c.draw-read.ensures in record {
-      value = omega (arith, e.0);
-      out_after = part-written a.at _ a.out.now _ (search rules) e.1;
+      value = omega (arith, e.value);
+      out_after = part-written a.at _ a.out.now _ (search rules) e.out_after;
     }

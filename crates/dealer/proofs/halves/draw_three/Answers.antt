@@ -14,7 +14,7 @@ draw_next-two-requires c =
     let draw-next = c.draw_next-one in
     let h = c.requires in
     let ws = a.words.now in
-    let one : draw-next.result ≡ words_read a.q a.a ws = omega (arith, draw-next.ensures.0) in
+    let one : draw-next.result ≡ words_read a.q a.a ws = omega (arith, draw-next.ensures.value) in
     (h.0, next-inside a.q a.a ws _ one, next-left a.q a.a ws _ one a.b (omega (arith, h.1)), h.3)
 
 pub draw_next-requires : goal.draw_next-requires
@@ -23,7 +23,7 @@ draw_next-requires c =
     let draw-next = c.draw_next-one in
     let h = c.requires in
     let ws = a.words.now in
-    let one : draw-next.result ≡ words_read a.q a.a ws = omega (arith, draw-next.ensures.0) in
+    let one : draw-next.result ≡ words_read a.q a.a ws = omega (arith, draw-next.ensures.value) in
     let two = c.draw_next-two.ensures.value ∙ next-read a.q a.a ws _ one a.b (omega (arith, h.1)) in
     (h.0, next-inside a.q (a.a + a.b) ws _ two, next-left a.q (a.a + a.b) ws _ two a.c (omega (arith, h.1)), search rules)
 
@@ -35,11 +35,11 @@ returns c =
     let draw-next2 = c.draw_next-two in
     let h = far.requires in
     let ws = a.words.now in
-    let one : draw-next.result ≡ words_read a.q a.a ws = omega (arith, draw-next.ensures.0) in
-    let two = draw-next2.ensures.0 ∙ next-read a.q a.a ws _ one a.b (omega (arith, h.1)) in
+    let one : draw-next.result ≡ words_read a.q a.a ws = omega (arith, draw-next.ensures.value) in
+    let two = draw-next2.ensures.value ∙ next-read a.q a.a ws _ one a.b (omega (arith, h.1)) in
     let three = c.draw_next.ensures in
     let sum : a.a + a.b + a.c ≡ a.a + (a.b + a.c) = omega arith in record {
-      value = three.0 ∙ (next-read a.q (a.a + a.b) ws _ two a.c (omega (arith, h.1)) ∙ ap (λ (n : ℕ). words_read a.q n ws) sum);
-      first_after = three-first a.q a.a a.b a.c ws h.1 a.first-at a.first.now _ _ two (omega (arith, h.2)) draw-next.ensures.1 three.1;
-      second_after = three-second a.q a.a a.b a.c ws h.1 a.second_at a.second.now _ one draw-next2.ensures.1;
+      value = three.value ∙ (next-read a.q (a.a + a.b) ws _ two a.c (omega (arith, h.1)) ∙ ap (λ (n : ℕ). words_read a.q n ws) sum);
+      first_after = three-first a.q a.a a.b a.c ws h.1 a.first_at a.first.now _ _ two (omega (arith, h.2)) draw-next.ensures.out_after three.out_after;
+      second_after = three-second a.q a.a a.b a.c ws h.1 a.second_at a.second.now _ one draw-next2.ensures.out_after;
     }

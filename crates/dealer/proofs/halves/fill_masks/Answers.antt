@@ -15,8 +15,8 @@ returns c =
     let a = far.args in
     let h = far.requires in
     let e = rw (times.ensures, times2.ensures, times3.ensures) at draw-three.ensures in record {
-      value = e.0;
-      first_after = e.1.0;
+      value = e.value;
+      first_after = e.first_after;
       second_after = masks-filled a.q a.m a.k a.p a.words.now h.1 a.first.now a.second.now _ _ (omega (arith, h.2)) (omega (arith, h.3))
-          e.1.0 e.1.1 c.write_b.ensures;
+          e.first_after e.second_after c.write_b.ensures;
     }

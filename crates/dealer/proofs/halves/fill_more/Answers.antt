@@ -13,8 +13,8 @@ returns c =
     let a = far.args in
     let h = far.requires in
     let e = rw times.ensures at draw-three.ensures in record {
-      value = e.0;
-      first_after = e.1.0;
-      second_after = more-filled a.q a.n _ h.1 a.first-at a.second_at a.first.now a.second.now _ _ (omega (arith, h.2)) (omega (arith, h.3))
-          e.1.0 e.1.1 c.write_v.ensures;
+      value = e.value;
+      first_after = e.first_after;
+      second_after = more-filled a.q a.n _ h.1 a.first_at a.second_at a.first.now a.second.now _ _ (omega (arith, h.2)) (omega (arith, h.3))
+          e.first_after e.second_after c.write_v.ensures;
     }

@@ -34,7 +34,7 @@ returns c =
     let a = far.args in
     let e = c.fill_masks.ensures in
     let heads = write-headers.ensures in record {
-      value = e.0;
-      first_after = masks-over (sort a.s) a.t _ a.first.now _ heads.0 e.1.0;
-      second_after = masks-over (sort a.s) a.t _ a.second.now _ heads.1 e.1.1;
+      value = e.value;
+      first_after = masks-over (sort a.s) a.t _ a.first.now _ heads.first_after e.first_after;
+      second_after = masks-over (sort a.s) a.t _ a.second.now _ heads.second_after e.second_after;
     }

@@ -89,4 +89,6 @@ returns c =
     let few = enough-masks system t.m t.k t.p h.0.enough in
     let e = rw (tail-part a.read a.words.now, matrix-at.ensures, matrix-at2.ensures) at fill_more.ensures in
     let sum = next-read t.q n a.words.now a.read h.1 (nn + (nn + nn)) few in
-    let all = ap (λ (i : ℕ). words_read t.q i a.words.now) (more-count h.0.fits) in let all = (ap (λ (i : ℕ). a.read + i) e.0 ∙ (sum ∙ all), rw (rest-residues t a.words.now h.1 few) at e.1) in record { value = all.0; first_after = all.1.0; second_after = all.1.1 }
+    let all = ap (λ (i : ℕ). words_read t.q i a.words.now) (more-count h.0.fits) in
+    let r = rw (rest-residues t a.words.now h.1 few) at e in
+    record { value = ap (λ (i : ℕ). a.read + i) e.value ∙ (sum ∙ all); first_after = r.first_after; second_after = r.second_after }

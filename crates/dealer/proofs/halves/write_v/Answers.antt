@@ -35,5 +35,5 @@ returns c =
     let a = far.args in
     let h = far.requires in
     let few = square-few a.n h.0.few-n in
-    v-written a.q a.n a.first-at a.second_at a.first.now a.second.now _ _ _ (omega (arith, few)) (omega (arith, h.2))
+    v-written a.q a.n a.first_at a.second_at a.first.now a.second.now _ _ _ (omega (arith, few)) (omega (arith, h.2))
     c.write_masked.ensures c.write_copy.ensures

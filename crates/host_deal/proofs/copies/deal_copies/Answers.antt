@@ -18,6 +18,6 @@ returns c =
     let deal = c.deal in
     let start = c in
     let a = start.args in
-    let one : length deal.new.1.1.0 ≡ a.size = omega (arith, length-take-le a.size a.one.now start.requires.1) in
-    let two : length deal.new.1.1.1.0 ≡ a.size = omega (arith, length-take-le a.size a.two.now start.requires.2) in
+    let one : length deal.new.first ≡ a.size = omega (arith, length-take-le a.size a.one.now start.requires.1) in
+    let two : length deal.new.second ≡ a.size = omega (arith, length-take-le a.size a.two.now start.requires.2) in
     cut-back a.size _ _ a.one.now a.two.now one two deal.ensures

@@ -46,12 +46,12 @@ returns-then-t-eq0 c = rw (le-ltb 0 c.args.t.q (omega arith)) refl
 
 pub returns-in_default : goal.returns-in_default
 returns-in_default c =
-    let a = (start c.before.before).args in
+    let a = (start c.before).args in
     sym (fit_refused (sort a.s) a.t a.first a.second a.words a.at.size a.at.index
-    (sym (told c.before.before) ∙ ap checked c.in_default.is))
+    (sym (told c.before) ∙ ap checked c.in_default.is))
 
 pub returns : goal.returns
 returns c =
-    let a = (start c.before.before).args in
+    let a = (start c.before).args in
     sym (fit_passed (sort a.s) a.t a.first a.second a.words a.at.size a.at.index (omega arith)
-    (sym (told c.before.before) ∙ ap checked c.in-Passed.is))
+    (sym (told c.before) ∙ ap checked c.in-Passed.is))

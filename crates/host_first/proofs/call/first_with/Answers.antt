@@ -9,10 +9,10 @@ use Rattle.host_first.proofs.call.first_with.Goals as goal
 pub returns-then-not-takes_message : goal.returns-then-not-takes_message
 returns-then-not-takes_message c =
     let at14 = c in
-    let at23 = c.before.before.before.before.before.before.before.before.before.before.before.before.before.before in
-    let at24 = c.before.before.before.before.before.before.before.before.before.before.before.before.before.before.before.before.before.before.before.before.before.before.before in
-    let at25 = c.before.before.before.before.before.before.before.before.before.before.before.before.before.before.before.before.before.before.before.before.before.before.before.before in
-    let at37 = c.before.before.before.before.before.before.before.before.before.before.before.before.before.before.before.before.before.before.before.before.before.before.before.before.before in
+    let at23 = c in
+    let at24 = c in
+    let at25 = c in
+    let at37 = c in
     let a = at37.args in
     let l : Lent = record {
       host = a.session.now;
@@ -27,8 +27,8 @@ returns-then-not-takes_message c =
 pub returns-in_default : goal.returns-in_default
 returns-in_default c =
     let at7 = c in
-    let at8 = c.before.before.before.before.before.before.before in
-    let at20 = c.before.before.before.before.before.before.before.before in
+    let at8 = c in
+    let at20 = c in
     let a = at20.args in
     let l : Lent = record {
       host = a.session.now;
@@ -43,7 +43,7 @@ returns-in_default c =
 pub residues_in-residues-requires : goal.residues_in-residues-requires
 residues_in-residues-requires c =
     let at7 = c in
-    let at22 = c.before.before.before.before.before.before.before in
+    let at22 = c in
     omega (arith, c.Opening-of.ensures.2, at7.take_line-loaded.auto, at22.requires.0)
 
 pub first_on-requires-2 : goal.first_on-requires-2
@@ -59,13 +59,13 @@ shape_of-numbers c =
 pub returns : goal.returns
 returns c =
     let at14 = c in
-    let at22 = c.before.before.before.before.before.before.before.before.before.before.before.before.before.before in
-    let at24 = c.before.before.before.before.before.before.before.before.before.before.before.before.before.before.before.before.before.before.before.before.before.before in
-    let at26 = c.before.before.before.before.before.before.before.before.before.before.before.before.before.before.before.before.before.before.before.before.before.before.before.before in
-    let at30 = c.before.before.before.before.before.before.before.before.before.before.before.before.before.before.before.before.before.before.before.before.before.before.before.before.before.before in
-    let at32 = c.before.before.before.before.before.before.before.before.before.before.before.before.before.before.before.before.before.before.before.before.before.before.before.before.before.before.before.before.before.before in
-    let at33 = c.before.before.before.before.before.before.before.before.before.before.before.before.before.before.before.before.before.before.before.before.before.before.before.before.before.before.before.before.before.before.before.before in
-    let at45 = c.before.before.before.before.before.before.before.before.before.before.before.before.before.before.before.before.before.before.before.before.before.before.before.before.before.before.before.before.before.before.before.before.before in
+    let at22 = c in
+    let at24 = c in
+    let at26 = c in
+    let at30 = c in
+    let at32 = c in
+    let at33 = c in
+    let at45 = c in
     let a = at45.args in
     let l : Lent = record {
       host = a.session.now;

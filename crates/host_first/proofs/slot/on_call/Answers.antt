@@ -24,7 +24,7 @@ slice_bounds-on_slot-end-3 c = sym (length-take-le _ _ (slice_bounds-on_slot-end
 pub slice_bounds-on_slot-end-4 : goal.slice_bounds-on_slot-end-4
 slice_bounds-on_slot-end-4 c =
     let at7 = c in
-    let at23 = c.before.before.before.before.before.before.before in
+    let at23 = c in
     let a = at23.args in
     few_words _ (length a.scratch.now) a.lent.now at7.smaller-k.ensures
 
@@ -34,7 +34,7 @@ slice_bounds-on_slot-end-5 c = sym (length-take-le _ _ (slice_bounds-on_slot-end
 pub slice_bounds-on_slot-end-6 : goal.slice_bounds-on_slot-end-6
 slice_bounds-on_slot-end-6 c =
     let at8 = c in
-    let at25 = c.before.before.before.before.before.before.before.before in
+    let at25 = c in
     let a = at25.args in
     few_words _ (length a.result.now) a.share.now at8.smaller-j.ensures
 
@@ -44,9 +44,9 @@ slice_bounds-on_slot-end-7 c = sym (length-take-le _ _ (slice_bounds-on_slot-end
 pub on_slot-requires : goal.on_slot-requires
 on_slot-requires c =
     let at9 = c in
-    let at10 = c.before.before.before.before.before.before.before.before.before in
-    let at11 = c.before.before.before.before.before.before.before.before.before.before in
-    let at26 = c.before.before.before.before.before.before.before.before.before.before.before in
+    let at10 = c in
+    let at11 = c in
+    let at26 = c in
     let a = at26.args in
     let h = at26.requires in
     let seen = at11.seen_in-seen in (
@@ -62,11 +62,11 @@ pub returns : goal.returns
 unfolding seen_first
 returns c =
     let at18 = c in
-    let at28 = c.before.before.before.before.before.before.before.before.before.before.before.before.before.before.before.before.before.before in
-    let at29 = c.before.before.before.before.before.before.before.before.before.before.before.before.before.before.before.before.before.before.before.before.before.before.before.before.before.before.before.before in
-    let at30 = c.before.before.before.before.before.before.before.before.before.before.before.before.before.before.before.before.before.before.before.before.before.before.before.before.before.before.before.before.before in
-    let at31 = c.before.before.before.before.before.before.before.before.before.before.before.before.before.before.before.before.before.before.before.before.before.before.before.before.before.before.before.before.before.before in
-    let at45 = c.before.before.before.before.before.before.before.before.before.before.before.before.before.before.before.before.before.before.before.before.before.before.before.before.before.before.before.before.before.before.before in
+    let at28 = c in
+    let at29 = c in
+    let at30 = c in
+    let at31 = c in
+    let at45 = c in
     let a = at45.args in
     let h = at45.requires in
     let end = at31.end_of_lem in

@@ -19,17 +19,17 @@ use Rattle.host_first.proofs.slot.on_slot.Goals as goal
 pub settle-requires : goal.settle-requires
 settle-requires c =
     let at12 = c in
-    let at16 = c.before.before.before.before.before.before.before.before.before.before.before.before in
-    let at18 = c.before.before.before.before.before.before.before.before.before.before.before.before.before.before.before.before in
-    let at39 = c.before.before.before.before.before.before.before.before.before.before.before.before.before.before.before.before.before.before in
+    let at16 = c in
+    let at18 = c in
+    let at39 = c in
     let p = at39.requires in
     (p.0, omega (arith, p.1, at18.words-1.given), omega (arith, p.2, at16.lent-1.given), omega (arith, p.3, at12.share-1.given))
 
 pub returns : goal.returns
 returns c =
     let at10 = c in
-    let at30 = c.before.before.before.before.before.before.before.before.before.before in
-    let at50 = c.before.before.before.before.before.before.before.before.before.before.before.before.before.before.before.before.before.before.before.before.before.before.before.before.before.before.before.before.before.before in
+    let at30 = c in
+    let at50 = c in
     let a = at50.args in
     let p = at50.requires in
     let run = at30.run-d in

@@ -10,23 +10,23 @@ use Rattle.host_first.proofs.slot.run.Goals as goal
 pub shape_of-words : goal.shape_of-words
 shape_of-words c =
     let at7 = c in
-    let at23 = c.before.before.before.before.before.before.before in
+    let at23 = c in
     at7.words-2-1.given ∙ at23.words-1.given
 
 pub shape_of-lent : goal.shape_of-lent
 shape_of-lent c =
     let at5 = c in
-    let at19 = c.before.before.before.before.before in
+    let at19 = c in
     at5.lent-2-1.given ∙ at19.lent-1.given
 
 pub returns : goal.returns
 returns c =
     let at8 = c in
-    let at8 = c.before.before.before.before.before.before.before.before in
-    let at16 = c.before.before.before.before.before.before.before.before in
-    let at20 = c.before.before.before.before.before.before.before.before.before.before.before.before.before.before.before.before in
-    let at24 = c.before.before.before.before.before.before.before.before.before.before.before.before.before.before.before.before.before.before.before.before in
-    let at36 = c.before.before.before.before.before.before.before.before.before.before.before.before.before.before.before.before.before.before.before.before.before.before.before.before in
+    let at8 = c in
+    let at16 = c in
+    let at20 = c in
+    let at24 = c in
+    let at36 = c in
     let a = at36.args in
     let h = at36.requires in
     let message = message_with a.q.head a.residues.now in

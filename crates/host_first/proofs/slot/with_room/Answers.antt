@@ -15,9 +15,9 @@ use Rattle.host_first.proofs.slot.with_room.Goals as goal
 pub returns-then-is_system : goal.returns-then-is_system
 returns-then-is_system c =
     let at14 = c in
-    let at24 = c.before.before.before.before.before.before.before.before.before.before.before.before.before.before in
-    let at25 = c.before.before.before.before.before.before.before.before.before.before.before.before.before.before.before.before.before.before.before.before.before.before.before.before in
-    let at40 = c.before.before.before.before.before.before.before.before.before.before.before.before.before.before.before.before.before.before.before.before.before.before.before.before.before in
+    let at24 = c in
+    let at25 = c in
+    let at40 = c in
     let a = at40.args in
     let l : Lent = record {
       host = a.session.now;
@@ -34,9 +34,9 @@ returns-then-is_system c =
 pub returns : goal.returns
 returns c =
     let at14 = c in
-    let at24 = c.before.before.before.before.before.before.before.before.before.before.before.before.before.before in
-    let at25 = c.before.before.before.before.before.before.before.before.before.before.before.before.before.before.before.before.before.before.before.before.before.before.before.before in
-    let at40 = c.before.before.before.before.before.before.before.before.before.before.before.before.before.before.before.before.before.before.before.before.before.before.before.before.before in
+    let at24 = c in
+    let at25 = c in
+    let at40 = c in
     let a = at40.args in
     let l : Lent = record {
       host = a.session.now;

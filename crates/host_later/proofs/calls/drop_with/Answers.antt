@@ -6,7 +6,7 @@ use Rattle.host_later.proofs.calls.drop_with.Goals as goal
 pub with_room-requires : goal.with_room-requires
 with_room-requires c =
     let lengths = c in
-    let start = c.before.before.before.before.before.before in
+    let start = c in
     let a = start.args in
     let l : Lent = record {
       host = a.session.now;
@@ -20,8 +20,8 @@ with_room-requires c =
 pub returns : goal.returns
 returns c =
     let ran = c in
-    let lengths = c.before.before.before.before.before.before.before.before.before.before in
-    let start = c.before.before.before.before.before.before.before.before.before.before.before.before.before.before.before.before.before in
+    let lengths = c in
+    let start = c in
     let a = start.args in
     let l : Lent = record {
       host = a.session.now;

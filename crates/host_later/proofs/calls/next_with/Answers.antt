@@ -8,8 +8,8 @@ use Rattle.host_later.proofs.calls.next_with.Goals as goal
 pub returns-in_default : goal.returns-in_default
 returns-in_default c =
     let told = c in
-    let taken = c.before in
-    let start = c.before.before.before.before.before in
+    let taken = c in
+    let start = c in
     let a = start.args in
     let l : Lent = record {
       host = a.session.now;
@@ -23,7 +23,7 @@ returns-in_default c =
 pub with_room-requires : goal.with_room-requires
 with_room-requires c =
     let lengths = c in
-    let start = c.before.before.before.before.before.before.before.before.before.before.before.before.before.before.before in
+    let start = c in
     let a = start.args in
     let l : Lent = record {
       host = a.session.now;
@@ -37,13 +37,13 @@ with_room-requires c =
 pub returns : goal.returns
 returns c =
     let ran = c in
-    let cut = c.before.before.before.before.before.before.before.before.before.before in
-    let counted = c.before.before.before.before.before.before.before.before.before.before.before.before.before.before.before.before in
-    let known = c.before.before.before.before.before.before.before.before.before.before.before.before.before.before.before.before.before.before in
-    let kept = c.before.before.before.before.before.before.before.before.before.before.before.before.before.before.before.before.before.before.before.before in
-    let taken = c.before.before.before.before.before.before.before.before.before.before.before.before.before.before.before.before.before.before.before.before.before.before.before in
-    let lengths = c.before.before.before.before.before.before.before.before.before.before.before.before.before.before.before.before.before.before.before.before.before.before.before.before in
-    let start = c.before.before.before.before.before.before.before.before.before.before.before.before.before.before.before.before.before.before.before.before.before.before.before.before.before.before in
+    let cut = c in
+    let counted = c in
+    let known = c in
+    let kept = c in
+    let taken = c in
+    let lengths = c in
+    let start = c in
     let a = start.args in
     let l : Lent = record {
       host = a.session.now;

@@ -26,7 +26,7 @@ slice_bounds-on_slot-end-3 c = sym (length-take-le _ _ (slice_bounds-on_slot-end
 pub slice_bounds-on_slot-end-4 : goal.slice_bounds-on_slot-end-4
 slice_bounds-on_slot-end-4 c =
     let cut = c in
-    let start = c.before.before.before.before.before.before.before in
+    let start = c in
     few_words _ (length start.args.scratch.now) start.args.lent.now cut.smaller-k.ensures
 
 pub slice_bounds-on_slot-end-5 : goal.slice_bounds-on_slot-end-5
@@ -35,7 +35,7 @@ slice_bounds-on_slot-end-5 c = sym (length-take-le _ _ (slice_bounds-on_slot-end
 pub slice_bounds-on_slot-end-6 : goal.slice_bounds-on_slot-end-6
 slice_bounds-on_slot-end-6 c =
     let cut = c in
-    let start = c.before.before.before.before.before.before.before.before in
+    let start = c in
     few_words _ (length start.args.res.now) start.args.share.now cut.smaller-j.ensures
 
 pub slice_bounds-on_slot-end-7 : goal.slice_bounds-on_slot-end-7
@@ -44,8 +44,8 @@ slice_bounds-on_slot-end-7 c = sym (length-take-le _ _ (slice_bounds-on_slot-end
 pub on_slot-requires : goal.on_slot-requires
 on_slot-requires c =
     let cut = c in
-    let placed = c.before.before.before.before.before.before.before.before.before in
-    let start = c.before.before.before.before.before.before.before.before.before.before.before in
+    let placed = c in
+    let start = c in
     let a = start.args in
     let h = start.requires in
     let place = placed.seen_in-seen in (
@@ -61,14 +61,14 @@ pub returns : goal.returns
 unfolding seen_later
 returns c =
     let at18 = c in
-    let called = c.before.before.before.before.before.before.before.before.before.before.before.before.before.before.before.before.before.before in
-    let cut = c.before.before.before.before.before.before.before.before.before.before.before.before.before.before.before.before.before.before in
+    let called = c in
+    let cut = c in
     let lent = cut.smaller-k in
     let share = cut.smaller-j in
-    let placed = c.before.before.before.before.before.before.before.before.before.before.before.before.before.before.before.before.before.before.before.before.before.before.before.before.before.before.before.before in
+    let placed = c in
     let place = placed.seen_in-seen in
     let half = placed.half_in-half in
-    let start = c.before.before.before.before.before.before.before.before.before.before.before.before.before.before.before.before.before.before.before.before.before.before.before.before.before.before.before.before.before.before in
+    let start = c in
     let a = start.args in
     let h = start.requires in
     let l : Lent = record {

@@ -22,8 +22,8 @@ use Rattle.host_later.proofs.slot.on_slot.Goals as goal
 pub settle-requires : goal.settle-requires
 settle-requires c =
     let at12 = c in
-    let back = c.before.before.before.before.before.before.before.before.before.before.before.before in
-    let start = c.before.before.before.before.before.before.before.before.before.before.before.before in
+    let back = c in
+    let start = c in
     let p = start.requires in (
       p.0,
       omega (arith, p.1, back.words-1.given),
@@ -34,10 +34,10 @@ settle-requires c =
 pub returns : goal.returns
 returns c =
     let at10 = c in
-    let put = c.before.before.before.before.before.before.before.before.before.before in
-    let ran = c.before.before.before.before.before.before.before.before.before.before in
-    let read = c.before.before.before.before.before.before.before.before.before.before.before.before.before.before.before.before.before.before.before.before.before.before.before.before.before.before.before.before.before.before in
-    let start = c.before.before.before.before.before.before.before.before.before.before.before.before.before.before.before.before.before.before.before.before.before.before.before.before.before.before.before.before.before.before.before.before.before.before.before.before.before.before.before in
+    let put = c in
+    let ran = c in
+    let read = c in
+    let start = c in
     let a = start.args in
     let p = start.requires in
     let x = read.session_in-x.result in

@@ -12,8 +12,8 @@ pub returns-then-drops : goal.returns-then-drops
 unfolding later_step
 returns-then-drops c =
     let dropped = c in
-    let taken = c.before.before.before.before in
-    let start = c.before.before.before.before.before.before.before in
+    let taken = c in
+    let start = c in
     let a = start.args in
     let s = slot_in a.pool.now a.at in
     let drops : a.drops ≡ true = taken.if-drops.true in
@@ -25,7 +25,7 @@ pub returns : goal.returns
 unfolding later_step
 returns c =
     let stepped = c in
-    let left = c.before.before.before.before.before.before.before.before in
-    let start = c.before.before.before.before.before.before.before.before.before.before.before.before.before in
+    let left = c in
+    let start = c in
     let drops : start.args.drops ≡ false = left.if-drops.false in
     rw drops stepped.next_step.ensures

@@ -9,16 +9,16 @@ use Rattle.host_later.proofs.step.run.Goals as goal
 pub shape_of-words : goal.shape_of-words
 shape_of-words c =
     let back = c in
-    let brought = c.before.before.before.before.before.before.before in
+    let brought = c in
     back.words-2-1.given ∙ brought.words-1.given
 
 pub returns : goal.returns
 returns c =
     let performed = c in
-    let share = c.before.before.before.before.before.before.before.before in
-    let lent = c.before.before.before.before.before.before.before.before.before.before.before.before.before.before.before in
-    let words = c.before.before.before.before.before.before.before.before.before.before.before.before.before.before.before.before.before.before.before in
-    let start = c.before.before.before.before.before.before.before.before.before.before.before.before.before.before.before.before.before.before.before.before.before.before.before in
+    let share = c in
+    let lent = c in
+    let words = c in
+    let start = c in
     let a = start.args in
     let h = start.requires in
     run_on (λ s ls j. later_step a.drops a.x s ls (message_with a.a a.residues.now) (length a.out.now) j) a.x a.out.now

@@ -14,7 +14,7 @@ put_words-requires-2 c =
 pub returns : goal.returns
 returns c =
     let at7 = c in
-    let at13 = c.before.before.before.before.before.before.before in
+    let at13 = c in
     let n = same_count at13.args.x.kept at13.well-formed.0.1.1.1.1.1.0.1.0.1 in
     record-put at13.args.x at13.args.session.now n at13.requires at7.start_of_lem.ensures
     at7.put_words.ensures c.put_words-2.ensures

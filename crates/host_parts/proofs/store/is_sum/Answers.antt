@@ -11,4 +11,4 @@ returns-then-not-sums c = rw (not-true c.args.sums c.if-not-sums.true)
 pub returns : goal.returns
 unfolding both
 returns c =
-    rw (not-false c.args.sums c.if-not-sums.false, c.number_of_lem.ensures) (singular-number c.args.r)
+    rw (not-false c.args.sums c.if-not-sums.false, c.number_of.ensures) (singular-number c.args.r)

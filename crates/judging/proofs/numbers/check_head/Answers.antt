@@ -29,13 +29,13 @@ judged-head c =
 pub returns-in_default : goal.returns-in_default
 returns-in_default c =
     let a = c.args in
-    hands_on c.worst-head.result _ (judged-head c.before.before) c.in_default.is ∙ sym (head-phases a.a a.count)
+    hands_on c.worst-head.result _ (judged-head c.before) c.in_default.is ∙ sym (head-phases a.a a.count)
 
 pub message_size-requires : goal.message_size-requires
 message_size-requires c =
     let a = c.args.a in
     let t = a.terms in
-    few (kind_sort a.kind) t.m t.k t.p (head-sides a (sym (judged-head c.before.before) ∙ ap checked c.in-Passed.is))
+    few (kind_sort a.kind) t.m t.k t.p (head-sides a (sym (judged-head c.before) ∙ ap checked c.in-Passed.is))
 
 pub returns : goal.returns
 unfolding count_tests
@@ -43,4 +43,4 @@ returns c =
     let before = c in
     let a = before.args in
     simp (c.need.ensures, c.message_size.ensures) refl ∙ sym
-    (head-phases a.a a.count ∙ goes-past before.worst-head.result (judged-head c.before.before.before.before) c.in-Passed.is)
+    (head-phases a.a a.count ∙ goes-past before.worst-head.result (judged-head c.before.before.before) c.in-Passed.is)

@@ -1,5 +1,4 @@
 -- `session::numbers::check_ids` meets its contract. Assumes nothing.
-use Prim.Native.Nat.{◌-◌}
 use Rattle.judging.specs.Groups.{id_tests}
 use Rattle.judging.proofs.Join.{judged-cons}
 use Rattle.judging.proofs.numbers.check_ids.Goals as goal

@@ -1,6 +1,4 @@
 -- `session::numbers::sides_fit` meets its contract. Assumes nothing.
-use Prim.Native.Nat.{◌-◌}
-use Rattle.protocol.specs.Bounds.{sides_fit}
 use Rattle.judging.proofs.numbers.sides_fit.Goals as goal
 
 pub returns-in-Left : goal.returns-in-Left

@@ -1,5 +1,4 @@
 -- `steps::check_closed` meets its contract. Assumes nothing.
-use Prim.Native.Nat.{◌-◌}
 use mathlib.Core.List.{[], ◌∷◌}
 use Rattle.judging.proofs.Join.{also}
 use Rattle.judging.specs.Received.{closed_tests}

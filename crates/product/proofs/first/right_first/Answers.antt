@@ -25,7 +25,7 @@ compute-done-requires c = sym c.check-checked.ensures ∙ ap checked c.in-Passed
 pub take_up_at-requires : goal.take_up_at-requires
 take_up_at-requires c =
     let told = c in
-    let start = c.before.before.before.before.before.before in
+    let start = c in
     let a = start.args in
     let s = slot_at a.pool.now a.at.size a.at.index in
     placed right a.t s (first-known a.t s a.y.now (length a.out.now) (sym told.check-checked.ensures ∙ ap checked told.in-Passed.is)).first

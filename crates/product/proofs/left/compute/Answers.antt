@@ -46,7 +46,7 @@ draw-count-requires c =
 pub slice_bounds-write_message-end : goal.slice_bounds-write_message-end
 slice_bounds-write_message-end c =
     let at = c in
-    let start = c.before.before.before.before in
+    let start = c in
     let a = start.args in
     let s = slot_at a.pool.now a.at.size a.at.index in
     let f = left-known a.t s a.x.now a.words.now (taken 1 a.t a.residues.now) (length a.out.now) (length a.share.now) start.requires in
@@ -57,7 +57,7 @@ slice_bounds-write_message-end c =
 pub slice_bounds-write_message-end-2 : goal.slice_bounds-write_message-end-2
 slice_bounds-write_message-end-2 c =
     let at = c in
-    let start = c.before.before.before.before.before in
+    let start = c in
     let a = start.args in
     let s = slot_at a.pool.now a.at.size a.at.index in
     let f = left-known a.t s a.x.now a.words.now (taken 1 a.t a.residues.now) (length a.out.now) (length a.share.now) start.requires in
@@ -69,7 +69,7 @@ slice_bounds-write_message-end-2 c =
 pub write_message-requires : goal.write_message-requires
 write_message-requires c =
     let at = c in
-    let start = c.before.before.before.before.before.before in
+    let start = c in
     let a = start.args in
     let s = slot_at a.pool.now a.at.size a.at.index in
     let m = taken 1 a.t a.residues.now in
@@ -83,16 +83,15 @@ write_message-requires c =
 pub returns : goal.returns
 unfolding left_effect join over
 returns c =
-    let at = c in
-    let start = c.before.before.before.before.before.before.before.before.before in
+    let start = c in
     let a = start.args in
     let s = slot_at a.pool.now a.at.size a.at.index in
     let m = taken 1 a.t a.residues.now in
     let f = left-known a.t s a.x.now a.words.now m (length a.out.now) (length a.share.now) start.requires in
     let enough = f.enough in
-    let few : at.times-mp.result ≤ length (residues_of a.t.q a.words.now) = omega (arith, at.times-mp.ensures, enough) in
+    let few : c.times-mp.result ≤ length (residues_of a.t.q a.words.now) = omega (arith, c.times-mp.ensures, enough) in
     let draw = c.draw-count in
-    let u = coins-part _ _ a.words.now _ _ few draw.ensures.1 in
+    let u = coins-part _ _ a.words.now _ _ few draw.ensures.out_after in
     let y = whole-message a.t m (f.message.residues.size ∙ sym (size-1 a.t)) in
-    let sent = rw (u, at.times-mp.ensures, at.matrix-a0.ensures, at.matrix-x0.ensures) c.before.before.before.before.before.before.before.before.before c.write_message.ensures in
-    rw (rw at.times-mp.ensures c.before.before.before.before.before.before.before.before.before draw.ensures.0, sent, rw at.times-mp.ensures c.before.before.before.before.before.before.before.before.before draw.ensures.1) (simp (append-nil, y))
+    let sent = rw (u, c.times-mp.ensures, c.matrix-a0.ensures, c.matrix-x0.ensures) at c.write_message.ensures in
+    rw (rw c.times-mp.ensures at draw.ensures.value, sent, rw c.times-mp.ensures at draw.ensures.out_after) (simp (append-nil, y))

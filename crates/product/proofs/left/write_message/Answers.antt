@@ -25,11 +25,10 @@ add_residues-requires c =
 
 pub write_reply-requires : goal.write_reply-requires
 write_reply-requires c =
-    let at = c in
-    let start = c.before.before.before.before.before.before in
+    let start = c in
     let a = start.args in
     let h = start.requires in
-    let n = at.times-mk.ensures in
+    let n = c.times-mk.ensures in
     let b = sides-of product a.t.m a.t.k a.t.p h.sides in
     let full = (sum-residues h.some-q (a.t.m * a.t.k) a.x.now a.x0.now).size in
     rw c.sides_of.ensures (
@@ -49,13 +48,12 @@ write_reply-requires c =
 pub returns : goal.returns
 unfolding send_x send_r
 returns c =
-    let at = c in
-    let start = c.before.before.before.before.before.before.before in
+    let start = c in
     let a = start.args in
     let h = start.requires in
-    let n = at.times-mk.ensures in
+    let n = c.times-mk.ensures in
     let full = (sum-residues h.some-q (a.t.m * a.t.k) a.x.now a.x0.now).size in
-    let first = rw n c.before.before.before.before.before.before.before at.add_residues.ensures in
+    let first = rw n at c.add_residues.ensures in
     rw n
     (part_then _ _ a.out.now _ _ (a.t.m * a.t.k) full (omega (arith, ap length first ∙ over-length _ a.out.now (omega (arith, full, h.room)), h.room))
-    first (rw (n, c.sides_of.ensures) c.before.before.before.before.before.before.before c.write_reply.ensures))
+    first (rw (n, c.sides_of.ensures) at c.write_reply.ensures))

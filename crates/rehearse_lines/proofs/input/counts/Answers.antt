@@ -1,5 +1,4 @@
 -- `rehearse_lines::input::counts` meets its contract. Assumes nothing.
-use Prim.Native.Nat.{◌-◌}
 use borrow.Author.Tests.{eq-eqb, ne_eqb}
 use Rattle.rehearse_lines.proofs.input.counts.Goals as goal
 

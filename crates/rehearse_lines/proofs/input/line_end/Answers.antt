@@ -1,6 +1,5 @@
 -- `rehearse_lines::input::line_end` meets its contract. Assumes nothing.
 use mathlib.Core.Path.{refl}
-use Prim.Native.Nat.{◌-◌}
 use native.Mathlib.Omega.{arith}
 use Rattle.rehearse_lines.proofs.Split.{first_ends, first_goes, first-none}
 use Rattle.rehearse_lines.proofs.input.line_end.Goals as goal

@@ -1,7 +1,7 @@
 -- `rehearse_lines::input::load_line` meets its contract. Assumes nothing.
 use mathlib.Core.Path.{sym, ap, ◌∙◌}
 use mathlib.Core.List.{List}
-use Prim.Native.Nat.{ℕ, ◌-◌}
+use Prim.Native.Nat.{ℕ}
 use native.Mathlib.Omega.{arith}
 use lib.Seq.{sets}
 use Rattle.rehearse_lines.proofs.Split.{first_fits, line-part}
@@ -20,7 +20,7 @@ returns c =
     let line-end = c.line_end-end in
     let line-start = c.line_start-at in
     let load = c.load in
-    let this = sym (line-part a.s.now a.n line-start.result line-end.result line-start.ensures.1 line-end.ensures) in record {
-      answered = tallied-as 0 _ _ a.out.now load.new.1.0 load.result (ap numbers_of this) (tallied 0 _ _ _ _ load.ensures.0 load.ensures.1);
-      contents = load.ensures.1 ∙ ap (λ (l : List ℕ). sets a.out.now 0 (numbers_before l)) (sym this);
+    let this = sym (line-part a.s.now a.n line-start.result line-end.result line-start.ensures.begins line-end.ensures) in record {
+      answered = tallied-as 0 _ _ a.out.now load.new.out load.result (ap numbers_of this) (tallied 0 _ _ _ _ load.ensures.answered load.ensures.contents);
+      contents = load.ensures.contents ∙ ap (λ (l : List ℕ). sets a.out.now 0 (numbers_before l)) (sym this);
     }

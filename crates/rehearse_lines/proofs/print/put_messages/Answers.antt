@@ -12,8 +12,8 @@ returns c =
     let a = c.args in
     let one = message_line (message_with a.one a.y1.now) in
     let two = message_line (message_with a.two a.x1r1.now) in
-    let stored = two-stored a.out.now one two 0 first.result last.result first.ensures.0 last.ensures.0 _ _ first.ensures.1.1 last.ensures.1.1 in record {
-      place = omega (arith, two_bytes a.out.now one two 0 first.result last.result first.ensures.0 last.ensures.0);
-      few = omega (arith, first.ensures.1.0, last.ensures.1.0);
+    let stored = two-stored a.out.now one two 0 first.result last.result first.ensures.place last.ensures.place _ _ first.ensures.contents last.ensures.contents in record {
+      place = omega (arith, two_bytes a.out.now one two 0 first.result last.result first.ensures.place last.ensures.place);
+      few = omega (arith, first.ensures.few, last.ensures.few);
       contents = stored;
     }

@@ -1,5 +1,4 @@
 -- `rehearse_lines::print::put_run` meets its contract. Assumes nothing.
-use Prim.Native.Nat.{◌-◌}
 use native.Mathlib.Omega.{arith}
 use Rattle.rehearse_lines.proofs.Stores.{few_bytes}
 use Rattle.rehearse_lines.proofs.print.put_run.Goals as goal

@@ -13,9 +13,9 @@ returns c =
     let a = c.args in
     let one = ascii "left," ++ line a.left.now in
     let two = ascii "right," ++ line a.right.now in
-    let stored = two-stored a.out.now one two a.at first.result last.result first.ensures.0 last.ensures.0 _ _ first.ensures.1.1
-    last.ensures.1.1 in record {
-      place = two_bytes a.out.now one two a.at first.result last.result first.ensures.0 last.ensures.0;
-      few = omega (arith, first.ensures.1.0, last.ensures.1.0);
+    let stored = two-stored a.out.now one two a.at first.result last.result first.ensures.place last.ensures.place _ _ first.ensures.contents
+    last.ensures.contents in record {
+      place = two_bytes a.out.now one two a.at first.result last.result first.ensures.place last.ensures.place;
+      few = omega (arith, first.ensures.few, last.ensures.few);
       contents = stored;
     }

@@ -1,5 +1,4 @@
 -- `rehearse_lines::print::refusal` meets its contract. Assumes nothing.
-use Prim.Native.Nat.{◌-◌}
 use native.Mathlib.Omega.{arith}
 use Rattle.rehearse_lines.proofs.Stores.{refusal-stored}
 use Rattle.rehearse_lines.proofs.print.refusal.Goals as goal
@@ -7,7 +6,7 @@ use Rattle.rehearse_lines.proofs.print.refusal.Goals as goal
 pub returns : goal.returns
 returns c =
     let a = c.args in
-    let number = c.number_of_lem in
+    let number = c.number_of in
     let z = refusal-stored a.r a.out.now number.result c.put_named.result _ number.ensures
     c.put_named.ensures.place
     (omega (arith, c.put_named.ensures.few, c.requires))

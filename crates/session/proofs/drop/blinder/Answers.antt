@@ -9,8 +9,8 @@ use Rattle.session.proofs.drop.blinder.Goals as goal
 pub returns : goal.returns
 returns c =
     let at9 = c in
-    let at10 = c.before.before.before.before.before.before.before.before.before in
-    let at15 = c.before.before.before.before.before.before.before.before.before.before in
+    let at10 = c in
+    let at15 = c in
     let a = at15.args in
     let s = slot_at a.pool.now a.at.size a.at.index in
     let told = drop-blinder-told (blinder_of a.x) s a.scratch.now in

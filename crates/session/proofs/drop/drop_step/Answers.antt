@@ -10,7 +10,7 @@ use Rattle.session.proofs.drop.drop_step.Goals as goal
 pub returns-then-x-eq-SOLVER : goal.returns-then-x-eq-SOLVER
 returns-then-x-eq-SOLVER c =
     let at4 = c in
-    let at8 = c.before.before.before.before in
+    let at8 = c in
     let a = at8.args in
     let s = slot_at a.pool.now a.at.size a.at.index in
     let which = drop-solver a.x s a.scratch.now at4.if-x-eq-SOLVER.true in
@@ -19,9 +19,9 @@ returns-then-x-eq-SOLVER c =
 pub returns-then-x-eq-BLINDER : goal.returns-then-x-eq-BLINDER
 returns-then-x-eq-BLINDER c =
     let at4 = c in
-    let at7 = c.before.before.before.before in
-    let at9 = c.before.before.before.before.before.before.before in
-    let at13 = c.before.before.before.before.before.before.before.before.before in
+    let at7 = c in
+    let at9 = c in
+    let at13 = c in
     let a = at13.args in
     let s = slot_at a.pool.now a.at.size a.at.index in
     rw (drop-blinder a.x s a.scratch.now at9.if-x-eq-SOLVER.false at7.if-x-eq-BLINDER.true) at4.blinder.ensures
@@ -29,8 +29,8 @@ returns-then-x-eq-BLINDER c =
 pub returns : goal.returns
 returns c =
     let at4 = c in
-    let at6 = c.before.before.before.before in
-    let at10 = c.before.before.before.before.before.before in
+    let at6 = c in
+    let at10 = c in
     let a = at10.args in
     let s = slot_at a.pool.now a.at.size a.at.index in
     let which = drop-right a.x s a.scratch.now at6.if-x-eq-SOLVER.false at4.if-x-eq-BLINDER.false in

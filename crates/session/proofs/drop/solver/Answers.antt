@@ -9,8 +9,8 @@ use Rattle.session.proofs.drop.solver.Goals as goal
 pub returns : goal.returns
 returns c =
     let at7 = c in
-    let at8 = c.before.before.before.before.before.before.before in
-    let at11 = c.before.before.before.before.before.before.before.before in
+    let at8 = c in
+    let at11 = c in
     let a = at11.args in
     let s = slot_at a.pool.now a.at.size a.at.index in
     let told = drop-solver-told (solver_of a.x) s in

@@ -18,8 +18,8 @@ slice_bounds-blinder_first-end c = sym (length-take-le _ _ c.square_of-n.ensures
 pub returns : goal.returns
 returns c =
     let at11 = c in
-    let at17 = c.before.before.before.before.before.before.before.before.before in
-    let at24 = c.before.before.before.before.before.before.before.before.before.before.before.before.before.before.before in
+    let at17 = c in
+    let at24 = c in
     let a = at24.args in
     let s = slot_at a.pool.now a.at.size a.at.index in
     let m = message_with a.a a.residues.now in

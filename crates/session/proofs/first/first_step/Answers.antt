@@ -18,8 +18,8 @@ use Rattle.session.proofs.first.first_step.Goals as goal
 pub returns-in-1 : goal.returns-in-1
 returns-in-1 c =
     let at6 = c in
-    let at10 = c.before.before.before.before.before.before in
-    let at18 = c.before.before.before.before.before.before.before.before.before.before in
+    let at10 = c in
+    let at18 = c in
     let a = at18.args in
     let s = slot_at a.pool.now a.at.size a.at.index in
     let m = message_with a.a a.residues.now in
@@ -33,8 +33,8 @@ returns-in-1 c =
 pub returns-in-2 : goal.returns-in-2
 returns-in-2 c =
     let at4 = c in
-    let at7 = c.before.before.before.before in
-    let at15 = c.before.before.before.before.before.before.before in
+    let at7 = c in
+    let at15 = c in
     let a = at15.args in
     let s = slot_at a.pool.now a.at.size a.at.index in
     let m = message_with a.a a.residues.now in
@@ -51,8 +51,8 @@ returns-in-2 c =
 pub returns-in-3 : goal.returns-in-3
 returns-in-3 c =
     let at6 = c in
-    let at10 = c.before.before.before.before.before.before in
-    let at18 = c.before.before.before.before.before.before.before.before.before.before in
+    let at10 = c in
+    let at18 = c in
     let a = at18.args in
     let s = slot_at a.pool.now a.at.size a.at.index in
     let m = message_with a.a a.residues.now in
@@ -67,8 +67,8 @@ returns-in-3 c =
 pub returns-in-4 : goal.returns-in-4
 returns-in-4 c =
     let at4 = c in
-    let at7 = c.before.before.before.before in
-    let at15 = c.before.before.before.before.before.before.before in
+    let at7 = c in
+    let at15 = c in
     let a = at15.args in
     let s = slot_at a.pool.now a.at.size a.at.index in
     let m = message_with a.a a.residues.now in

@@ -11,7 +11,7 @@ use Rattle.session.proofs.first.left.Goals as goal
 pub returns : goal.returns
 returns c =
     let at10 = c in
-    let at20 = c.before.before.before.before.before.before.before.before in
+    let at20 = c in
     let a = at20.args in
     let s = slot_at a.pool.now a.at.size a.at.index in
     let m = message_with a.a a.residues.now in

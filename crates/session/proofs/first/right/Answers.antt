@@ -10,7 +10,7 @@ use Rattle.session.proofs.first.right.Goals as goal
 pub returns : goal.returns
 returns c =
     let at9 = c in
-    let at15 = c.before.before.before.before.before.before.before in
+    let at15 = c in
     let a = at15.args in
     let s = slot_at a.pool.now a.at.size a.at.index in
     rw c.of_right.ensures

@@ -17,8 +17,8 @@ slice_bounds-solver_first-end c = sym (length-take-le _ _ c.square_of-n.ensures.
 pub returns : goal.returns
 returns c =
     let at9 = c in
-    let at14 = c.before.before.before.before.before.before.before in
-    let at18 = c.before.before.before.before.before.before.before.before.before.before.before.before in
+    let at14 = c in
+    let at18 = c in
     let a = at18.args in
     let s = slot_at a.pool.now a.at.size a.at.index in
     let n = a.t.m * a.t.m in

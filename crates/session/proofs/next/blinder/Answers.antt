@@ -12,8 +12,8 @@ use Rattle.session.proofs.next.blinder.Goals as goal
 pub returns-then-x-eq3 : goal.returns-then-x-eq3
 returns-then-x-eq3 c =
     let at5 = c in
-    let at8 = c.before.before.before.before.before in
-    let at15 = c.before.before.before.before.before.before.before.before in
+    let at8 = c in
+    let at15 = c in
     let a = at15.args in
     let s = slot_at a.pool.now a.at.size a.at.index in
     let m = message_with a.a a.residues.now in
@@ -28,9 +28,9 @@ returns-then-x-eq3 c =
 pub returns : goal.returns
 returns c =
     let at7 = c in
-    let at9 = c.before.before.before.before.before.before.before in
-    let at12 = c.before.before.before.before.before.before.before.before.before in
-    let at19 = c.before.before.before.before.before.before.before.before.before.before.before.before in
+    let at9 = c in
+    let at12 = c in
+    let at19 = c in
     let a = at19.args in
     let s = slot_at a.pool.now a.at.size a.at.index in
     let m = message_with a.a a.residues.now in

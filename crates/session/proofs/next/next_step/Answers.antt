@@ -12,8 +12,8 @@ use Rattle.session.proofs.next.next_step.Goals as goal
 pub returns-then-x-eq-SOLVER : goal.returns-then-x-eq-SOLVER
 returns-then-x-eq-SOLVER c =
     let at4 = c in
-    let at7 = c.before.before.before.before in
-    let at14 = c.before.before.before.before.before.before.before in
+    let at7 = c in
+    let at14 = c in
     let a = at14.args in
     let s = slot_at a.pool.now a.at.size a.at.index in
     let m = message_with a.a a.residues.now in
@@ -28,9 +28,9 @@ returns-then-x-eq-SOLVER c =
 pub returns-then-x-eq-BLINDER : goal.returns-then-x-eq-BLINDER
 returns-then-x-eq-BLINDER c =
     let at8 = c in
-    let at13 = c.before.before.before.before.before.before.before.before in
-    let at15 = c.before.before.before.before.before.before.before.before.before.before.before.before.before in
-    let at22 = c.before.before.before.before.before.before.before.before.before.before.before.before.before.before.before in
+    let at13 = c in
+    let at15 = c in
+    let at22 = c in
     let a = at22.args in
     let s = slot_at a.pool.now a.at.size a.at.index in
     let m = message_with a.a a.residues.now in
@@ -40,9 +40,9 @@ returns-then-x-eq-BLINDER c =
 pub returns : goal.returns
 returns c =
     let at4 = c in
-    let at7 = c.before.before.before.before in
-    let at9 = c.before.before.before.before.before.before.before in
-    let at16 = c.before.before.before.before.before.before.before.before.before in
+    let at7 = c in
+    let at9 = c in
+    let at16 = c in
     let a = at16.args in
     let s = slot_at a.pool.now a.at.size a.at.index in
     let m = message_with a.a a.residues.now in

@@ -11,8 +11,8 @@ use Rattle.session.proofs.next.right.Goals as goal
 pub returns : goal.returns
 returns c =
     let at5 = c in
-    let at7 = c.before.before.before.before.before in
-    let at12 = c.before.before.before.before.before.before.before in
+    let at7 = c in
+    let at12 = c in
     let a = at12.args in
     let s = slot_at a.pool.now a.at.size a.at.index in
     let m = message_with a.a a.residues.now in

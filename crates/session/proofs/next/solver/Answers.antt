@@ -12,8 +12,8 @@ use Rattle.session.proofs.next.solver.Goals as goal
 pub returns-then-x-eq2 : goal.returns-then-x-eq2
 returns-then-x-eq2 c =
     let at5 = c in
-    let at7 = c.before.before.before.before.before in
-    let at12 = c.before.before.before.before.before.before.before in
+    let at7 = c in
+    let at12 = c in
     let a = at12.args in
     let s = slot_at a.pool.now a.at.size a.at.index in
     let m = message_with a.a a.residues.now in
@@ -25,9 +25,9 @@ returns-then-x-eq2 c =
 pub returns : goal.returns
 returns c =
     let at5 = c in
-    let at7 = c.before.before.before.before.before in
-    let at9 = c.before.before.before.before.before.before.before in
-    let at14 = c.before.before.before.before.before.before.before.before.before in
+    let at7 = c in
+    let at9 = c in
+    let at14 = c in
     let a = at14.args in
     let s = slot_at a.pool.now a.at.size a.at.index in
     let m = message_with a.a a.residues.now in

@@ -46,7 +46,7 @@ pub returns-in-3 : goal.returns-in-3
 unfolding blinder_first
 returns-in-3 c =
     let at4 = c in
-    let at10 = c.before.before.before.before in
+    let at10 = c in
     let a = at10.args in
     let s = slot_at a.pool.now a.at.size a.at.index in
     let m = message_with a.a a.residues.now in
@@ -62,7 +62,7 @@ pub returns-in-4 : goal.returns-in-4
 unfolding solver_first
 returns-in-4 c =
     let at4 = c in
-    let at10 = c.before.before.before.before in
+    let at10 = c in
     let a = at10.args in
     let s = slot_at a.pool.now a.at.size a.at.index in
     let m = message_with a.a a.residues.now in

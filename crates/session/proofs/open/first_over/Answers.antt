@@ -16,8 +16,8 @@ use Rattle.session.proofs.open.first_over.Goals as goal
 pub returns-then-x-eq0 : goal.returns-then-x-eq0
 returns-then-x-eq0 c =
     let at12 = c in
-    let at17 = c.before.before.before.before.before.before.before.before.before.before.before.before in
-    let at26 = c.before.before.before.before.before.before.before.before.before.before.before.before.before.before.before.before.before in
+    let at17 = c in
+    let at26 = c in
     let a = at26.args in
     let s = slot_at a.pool.now a.at.size a.at.index in
     let m = message_with a.a a.residues.now in
@@ -36,8 +36,8 @@ returns-then-x-eq0 c =
 pub returns : goal.returns
 returns c =
     let at4 = c in
-    let at7 = c.before.before.before.before in
-    let at16 = c.before.before.before.before.before.before.before in
+    let at7 = c in
+    let at16 = c in
     let a = at16.args in
     let s = slot_at a.pool.now a.at.size a.at.index in
     let m = message_with a.a a.residues.now in

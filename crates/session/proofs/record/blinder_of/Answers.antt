@@ -21,7 +21,7 @@ pub returns : goal.returns
 unfolding blinder_of
 returns c =
     let at6 = c in
-    let at11 = c.before.before.before.before.before.before in
+    let at11 = c in
     let n = same_count at11.args.x.kept at11.well-formed.0.1.1.1.1.1.0.1.0.1 in
     rw (
       copied-start 256 at11.args.x.kept _ _ (omega arith) (omega arith) at6.write_copy.ensures,

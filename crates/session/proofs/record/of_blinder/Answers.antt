@@ -19,7 +19,7 @@ pub write_copy-requires-2 : goal.write_copy-requires-2
 write_copy-requires-2 c =
     let at9 = c in
     let n = same_count at9.args.x.y at9.well-formed.0.1.1.1.1.1.0.1.0.1 in
-    let k = c.write_copy.new.1.1.0 in
+    let k = c.write_copy.new.out in
     let len = after-over _ _ c.write_copy.ensures (omega (arith, words_count 256 at9.args.x.mm)) in
     let part = length-take-le 16 (drop 256 k) (omega (arith, len, length-drop 256 k)) in
     (omega arith, omega (arith, part))
@@ -28,7 +28,7 @@ pub returns : goal.returns
 unfolding of_blinder
 returns c =
     let at5 = c in
-    let at11 = c.before.before.before.before.before in
+    let at11 = c in
     let k = same_count at11.args.x.mm at11.well-formed.0.1.1.1.1.0.1.0.1 in
     let l = same_count at11.args.x.y at11.well-formed.0.1.1.1.1.1.0.1.0.1 in
     rw (joined 256 16 at11.args.x.mm at11.args.x.y _ _ _ k l (omega arith) at5.write_copy.ensures c.write_copy-2.ensures)

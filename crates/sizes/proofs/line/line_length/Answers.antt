@@ -14,7 +14,7 @@ use Rattle.sizes.proofs.line.line_length.Reads
 use Rattle.sizes.proofs.line.line_length.Goals as goal
 
 abbrev After-message_size-residues : Type 0
-After-message_size-residues = Lts.After-message_size Tie.the-claims Reads.Pre Reads.Post
+After-message_size-residues = Lts.After-message_size Tie.the-claims Reads.Pre Reads.Post Tie.handed_clauses
 
 pub message_size-residues-requires : goal.message_size-residues-requires
 message_size-residues-requires c =

@@ -1,6 +1,5 @@
 -- `sizes::text::put_text` meets its contract. After j turns the first j bytes are written. Assumes nothing.
 use mathlib.Core.Path.{refl}
-use Prim.Native.Nat.{◌-◌}
 use native.Mathlib.Omega.{arith}
 use borrow.Author.Rules.{rules}
 use borrow.Author.Tests.{lt-leb}

@@ -6,7 +6,6 @@ use borrow.Author.Rules.{rules}
 use Rattle.protocol.proofs.Matrices.{matrix-first, matrix-next, matrix-within}
 use Rattle.tape.proofs.Matrices.{half-bound}
 use mathlib.Core.Path.{◌≡◌}
-use Prim.Native.Nat.{◌-◌}
 use native.Mathlib.Omega.{arith}
 use Rattle.tape.specs.Ends.{role}
 use Rattle.tape.proofs.half.matrix_at.Goals as goal

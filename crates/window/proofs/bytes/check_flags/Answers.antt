@@ -4,7 +4,7 @@ use mathlib.Core.List.{[], ◌∷◌}
 use mathlib.Core.Bool.{Bool}
 use lib.ListN.{length}
 use Rattle.protocol.specs.declared.Refusal.TheVariants.{Residue}
-use Rattle.protocol.specs.Judge.{rules as need-test}
+use Rattle.protocol.specs.Judge.{needs as need-test}
 use Rattle.protocol.specs.Bounds.{all_below}
 use Rattle.judging.specs.InOrder.{judged}
 use Rattle.window.proofs.Sums.{words_long, words-loaded}

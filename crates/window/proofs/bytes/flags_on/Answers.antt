@@ -16,4 +16,4 @@ returns-in-Passed c = ap number (sym (ap checked c.in-Passed.is) ∙ c.check_all
 pub returns-in-Refused : goal.returns-in-Refused
 unfolding flags_number
 returns-in-Refused c =
-    c.number_of_lem.ensures ∙ ap number (sym (ap checked c.in-Refused.is) ∙ c.check_all_flags.ensures)
+    c.number_of.ensures ∙ ap number (sym (ap checked c.in-Refused.is) ∙ c.check_all_flags.ensures)

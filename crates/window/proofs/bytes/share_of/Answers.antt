@@ -9,4 +9,4 @@ returns-in-Taken c = sym (ap residue_reply c.in-Taken.is)
 
 pub returns-in-Refused : goal.returns-in-Refused
 returns-in-Refused c =
-    ap (λ (n : ℕ). record { number = n; values = 0 }) c.number_of_lem.ensures ∙ sym (ap residue_reply c.in-Refused.is)
+    ap (λ (n : ℕ). record { number = n; values = 0 }) c.number_of.ensures ∙ sym (ap residue_reply c.in-Refused.is)
