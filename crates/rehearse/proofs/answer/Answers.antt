@@ -1,7 +1,5 @@
 -- `rehearse::answer` meets its contract. Assumes nothing.
 use mathlib.Core.Path.{sym}
-use Prim.Native.Nat.{◌-◌}
-use borrow.Author.Rules.{rules}
 use lib.Seq.{length-take-le}
 use Rattle.rehearse.proofs.Judged.{numbers-refused, room-x, room-y, taken-fit, refused-printed, held-printed}
 use Rattle.rehearse.proofs.answer.Goals as goal

@@ -1,5 +1,4 @@
 -- `rehearse::judge_words` meets its contract. Assumes nothing.
-use Prim.Native.Nat.{◌-◌}
 use Rattle.rehearse.proofs.Judged.{numbers_fit, words-refused, all-passed, judged-run, refused-printed, as-printed}
 use Rattle.rehearse.proofs.judge_words.Goals as goal
 

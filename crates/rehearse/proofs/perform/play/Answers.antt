@@ -136,4 +136,4 @@ returns c =
     let rooms = rooms-taken t kp.result reply mp.result f.0 f.1 f.2 kp.ensures (omega (arith, mk.ensures, mp.ensures)) mp.ensures in
     λ d p. run-printed _ _ _ _ _
     (run-again _ _ (drop kp.result (replicate 2048 0)) (drop reply (replicate 3072 0)) shares shares in-y1 in-x1r1 in-u in-v ∙ lent.steps-heads.ensures d p rooms)
-    printed.ensures.0 printed.ensures.1.0 printed.ensures.1.1
+    printed.ensures.place printed.ensures.few printed.ensures.contents
