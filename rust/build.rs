@@ -16,7 +16,7 @@ fn main() {
     let archive = folder.join("libhost.a");
     println!("cargo::rerun-if-changed={}", archive.display());
     if !archive.is_file() {
-        let how = format!("make it by `rt staticlib host` in the repository's root, or set {VARIABLE} to the folder that has it");
+        let how = format!("make it by `tools/archive host` in the repository's root, or set {VARIABLE} to the folder that has it");
         println!("cargo::error=there is no {}: {how}", archive.display());
         return;
     }

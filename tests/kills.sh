@@ -33,6 +33,7 @@ fail() {
 
 # Looks at two pools, beside what they were before: columns 1 and 2 are the words of both now, 3 and 4 those before. Says what is wrong, if anything
 # is.
+# shellcheck disable=SC2016
 pools_rule='
 function bad(why) { if (!said) print "slot " slot ": " why; said = 1 }
 function look(    w) {

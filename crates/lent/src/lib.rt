@@ -6,7 +6,7 @@
 //   session_in, sent_in          the record, and what is sent, of what a call answers by value
 // A call is lent its record, its pool with the slot's place, and the scratch; last come the slices for the message that is sent and for the share
 // or z. What its end has no use of is not looked at. A refused call leaves the record as it was; a singular sum closes it.
-// The borrow checker covers no struct that is lent: tools/lent writes the proofs of `first`, `next` and `drop`, which look at no field.
+// The check proves them without a file of proofs: they look at no field of the record.
 #![tactic(auto)]
 
 ghost use Rattle.std.specs.Prelude.{◌≡◌, [], length};

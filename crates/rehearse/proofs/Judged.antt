@@ -6,7 +6,7 @@
 --   wrong-printed, said-printed                  and of the lines
 -- Assumes nothing.
 use mathlib.Core.Path.{◌≡◌, refl, sym, ap, ap₂, subst, ◌∙◌}
-use mathlib.Core.List.{List, [], ◌∷◌, ◌++◌}
+use mathlib.Core.List.{List, [], ◌∷◌}
 use Prim.Native.Nat.{ℕ, ◌+◌, ◌*◌, ◌≤◌, ◌<◌}
 use native.Mathlib.Omega.{arith}
 use lib.ListN.{length, take}
@@ -26,7 +26,7 @@ use Rattle.judging.specs.declared.Check.{Check}
 use Rattle.judging.specs.declared.Check.TheVariants.{Passed, Refused}
 use Rattle.judging.specs.InOrder.{checked, only, sorted_by, sorted, judged, after}
 use Rattle.judging.proofs.InOrder.{refused-by, accepted-by, after_last}
-use Rattle.tape.proofs.Sides.{Sides, sides, modulus}
+use Rattle.tape.proofs.Sides.{sides, modulus}
 use Rattle.judging.specs.Groups.{modulus_tests}
 use Rattle.judging.proofs.Join.{judged-phases, hands_on, goes-past}
 use Rattle.rehearse_lines.specs.declared.Counts.{Counts}

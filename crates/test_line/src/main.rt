@@ -6,136 +6,151 @@
 //   put ..    what is printed
 //   show ..   an entry's answer, a case, all cases
 #![tactic(auto)]
+
 ghost use Rattle.std.specs.Prelude.{◌≤◌, length};
 
 use decimal::Count;
 use judging::number_of;
-use libc::{STDIN_FILENO, STDOUT_FILENO};
 use line::{Received, Written};
 use protocol::Head;
+use std::io;
+use std::io::Read;
 
 // ---- what is printed
 
-fn put_text(bytes: &[u8]) {
-    io::write_all(STDOUT_FILENO, bytes);
+fn put_text(rt: &impl Print, bytes: &[u8]) -> io::Result<()> {
+    rt.write_all(bytes)
 }
 
-fn put(n: u64) {
-    put_text(b",");
-    io::print_decimal(STDOUT_FILENO, n);
+fn put(rt: &impl Print, n: u64) -> io::Result<()> {
+    put_text(rt, b",")?;
+    rt.print(n)
 }
 
-fn put_word(n: u32) {
-    put(n as u64);
+fn put_word(rt: &impl Print, n: u32) -> io::Result<()> {
+    put(rt, n as u64)
 }
 
-fn put_words(words: &[u32]) {
-    let mut i: usize = 0;
-    while i < words.len() {
-        put_word(words[i]);
-        i += 1;
+fn put_words(rt: &impl Print, words: &[u32]) -> io::Result<()> {
+    for word in words {
+        put_word(rt, *word)?;
     }
+    Ok(())
 }
 
-fn put_head(h: Head) {
+fn put_head(rt: &impl Print, h: Head) -> io::Result<()> {
     let t = h.terms;
     let session = t.session;
     let tape = t.tape;
-    put_words(&[h.kind, session.0, tape.0, t.q, t.m, t.k, t.p]);
+    put_words(rt, &[h.kind, session.0, tape.0, t.q, t.m, t.k, t.p])
 }
 
 // ---- an entry's answer
 
-fn show_numbers(s: &[u8]) {
-    put_text(b" numbers");
+fn show_numbers(rt: &impl Print, s: &[u8]) -> io::Result<()> {
+    put_text(rt, b" numbers")?;
     let mut out = [77u32; 9];
     match decimal::numbers(s, &mut out) {
         Count::Words(n) => {
-            put(0);
-            put(n as u64);
+            put(rt, 0)?;
+            put(rt, n as u64)?;
         }
-        Count::Refused(r) => put_word(number_of(r)),
+        Count::Refused(r) => put_word(rt, number_of(r))?,
     }
-    put_words(&out);
+    put_words(rt, &out)
 }
 
-fn show_received(answer: Received, out: &[u32]) {
+fn show_received(rt: &impl Print, answer: Received, out: &[u32]) -> io::Result<()> {
     match answer {
         Received::Message(h, n) => {
-            put(0);
-            put_head(h);
-            put(n as u64);
+            put(rt, 0)?;
+            put_head(rt, h)?;
+            put(rt, n as u64)?;
         }
-        Received::Refused(r) => put_word(number_of(r)),
+        Received::Refused(r) => put_word(rt, number_of(r))?,
     }
-    put_words(out);
+    put_words(rt, out)
 }
 
-fn show_read(s: &[u8]) {
-    put_text(b" read");
+fn show_read(rt: &impl Print, s: &[u8]) -> io::Result<()> {
+    put_text(rt, b" read")?;
     let mut out = [77u32; 4];
     let answer = line::read(s, &mut out);
-    show_received(answer, &out);
+    show_received(rt, answer, &out)
 }
 
-fn show_write(h: Head, residues: &[u32], out: &mut [u8]) {
-    put_text(b" write");
+fn show_write(rt: &impl Print, h: Head, residues: &[u32], out: &mut [u8]) -> io::Result<()> {
+    put_text(rt, b" write")?;
     match line::write(h, residues, out) {
         Written::Bytes(n) => {
-            put(0);
-            put(n as u64);
+            put(rt, 0)?;
+            put(rt, n as u64)?;
         }
-        Written::Refused(r) => put_word(number_of(r)),
+        Written::Refused(r) => put_word(rt, number_of(r))?,
     }
-    put_text(b"[");
-    put_text(out);
-    put_text(b"]");
+    put_text(rt, b"[")?;
+    put_text(rt, out)?;
+    put_text(rt, b"]")
 }
 
 // The slice is the first `room` bytes.
-fn show_within(h: Head, residues: &[u32], room: usize, bytes: &mut [u8]) {
+fn show_within(
+    rt: &impl Print,
+    h: Head,
+    residues: &[u32],
+    room: usize,
+    bytes: &mut [u8],
+) -> io::Result<()> {
     if room <= bytes.len() {
-        show_write(h, residues, &mut bytes[..room]);
+        show_write(rt, h, residues, &mut bytes[..room])?;
     }
+    Ok(())
 }
 
 // A message whose line has n bytes. The first two calls write nothing.
-fn show_writes(h: Head, residues: &[u32], n: usize, bytes: &mut [u8]) {
+fn show_writes(
+    rt: &impl Print,
+    h: Head,
+    residues: &[u32],
+    n: usize,
+    bytes: &mut [u8],
+) -> io::Result<()> {
     if n == 0 {
-        return;
+        return Ok(());
     }
-    show_within(h, residues, n - 1, bytes);
+    show_within(rt, h, residues, n - 1, bytes)?;
     let terms = h.terms;
-    show_within(Head { kind: 0, terms }, residues, n, bytes);
-    show_within(h, residues, n, bytes);
+    show_within(rt, Head { kind: 0, terms }, residues, n, bytes)?;
+    show_within(rt, h, residues, n, bytes)
 }
 
 // The residues are the first `count` words.
-fn show_message(h: Head, count: usize, words: &[u32], n: usize) {
+fn show_message(rt: &impl Print, h: Head, count: usize, words: &[u32], n: usize) -> io::Result<()> {
     let mut bytes = [46u8; 256];
     if count <= words.len() {
-        show_writes(h, &words[..count], n, &mut bytes);
+        show_writes(rt, h, &words[..count], n, &mut bytes)?;
     }
+    Ok(())
 }
 
-fn show_parse(s: &[u8]) {
-    put_text(b" parse");
+fn show_parse(rt: &impl Print, s: &[u8]) -> io::Result<()> {
+    put_text(rt, b" parse")?;
     let mut out = [77u32; 4];
     let answer = line::parse(s, &mut out);
-    show_received(answer, &out);
+    show_received(rt, answer, &out)?;
     let Received::Message(h, count) = answer else {
-        return;
+        return Ok(());
     };
-    show_message(h, count, &out, s.len());
+    show_message(rt, h, count, &out, s.len())
 }
 
 // ---- the cases
 
-fn show(s: &[u8]) {
-    show_numbers(s);
-    show_read(s);
-    show_parse(s);
-    put_text(b"\n");
+fn show(rt: &impl Print, s: &[u8]) -> io::Result<()> {
+    show_numbers(rt, s)?;
+    show_read(rt, s)?;
+    show_parse(rt, s)?;
+    put_text(rt, b"\n")
 }
 
 // Where the next `;` stands from `at` on, or the end.
@@ -153,20 +168,39 @@ fn case_end(bytes: &[u8], at: usize) -> usize
     i
 }
 
-fn show_all(bytes: &[u8]) {
+fn show_all(rt: &impl Print, bytes: &[u8]) -> io::Result<()> {
     let mut number: u64 = 0;
     let mut at: usize = 0;
     while at < bytes.len() {
         let end = case_end(bytes, at);
         number = std::num::wrapping_add_u64(number, 1);
-        io::print_decimal(STDOUT_FILENO, number);
-        show(&bytes[at..end]);
+        rt.print(number)?;
+        show(rt, &bytes[at..end])?;
         at = end + 1;
     }
+    Ok(())
 }
 
-fn main() {
-    let mut bytes = io::large_buffer();
-    let n = io::read_full(STDIN_FILENO, &mut bytes);
-    show_all(&bytes[..n]);
+// Reads until the bytes are full, the input ends or a read fails. The answer is how many bytes came.
+fn read_full(input: &mut impl Read, bytes: &mut [u8]) -> usize
+    ensures { result ≤ length bytes.new }
+{
+    let mut n = 0;
+    while n < bytes.len() {
+        let got = match input.read(&mut bytes[n..]) {
+            Ok(got) => got,
+            Err(_) => 0,
+        };
+        if got == 0 {
+            return n;
+        }
+        n += got;
+    }
+    n
+}
+
+fn main(rt: HostRuntime) -> io::Result<()> {
+    let mut bytes = [0u8; 65536];
+    let n = read_full(&mut rt.stdin(), &mut bytes);
+    show_all(&rt, &bytes[..n])
 }

@@ -1,56 +1,84 @@
 // Runs `rehearse` on each of the files in data/ and prints the file's name and what the rehearsal prints.
 // The file stdout has what the second implementation printed.
 #![tactic(auto)]
-use libc::STDOUT_FILENO;
 
-fn run(name: &[u8]) {
-    let fd = os::open_read(name);
-    if fd < 0 {
-        os::fail(name);
-        return;
+ghost use Rattle.std.specs.Prelude.{◌≤◌, length};
+
+use std::io::Read;
+use std::rt::Files;
+use std::{fs, io};
+
+const FILES: [&str; 33] = [
+    "inner_2048",
+    "inner_2049",
+    "widest",
+    "wider",
+    "too_many",
+    "largest_modulus",
+    "modulus_0",
+    "modulus_1",
+    "modulus_too_large",
+    "modulus_6",
+    "session_0",
+    "tape_0",
+    "side_0",
+    "x_short",
+    "y_long",
+    "nothing",
+    "missing_line",
+    "empty_line",
+    "unended_line",
+    "five_numbers",
+    "seven_numbers",
+    "leading_zero",
+    "form_before_modulus",
+    "behind_the_fifth",
+    "residue_of_q",
+    "residue_in_y",
+    "dry_dealer",
+    "dry_left",
+    "residue_before_dry",
+    "size_before_residue",
+    "thrown_away",
+    "too_long_a_line",
+    "longest_line",
+];
+
+// Reads until the bytes are full, the input ends or a read fails. The answer is how many bytes came.
+fn read_full(input: &mut impl Read, bytes: &mut [u8]) -> usize
+    ensures { result ≤ length bytes.new }
+{
+    let mut n = 0;
+    while n < bytes.len() {
+        let got = match input.read(&mut bytes[n..]) {
+            Ok(got) => got,
+            Err(_) => 0,
+        };
+        if got == 0 {
+            return n;
+        }
+        n += got;
     }
-    let mut bytes = [0u8; 327680];
-    let mut out = [0u8; 81920];
-    let n = io::read_full(fd, &mut bytes);
-    libc::close(fd);
-    let printed = rehearse::rehearse(&bytes[..n], &mut out);
-    io::write_all(STDOUT_FILENO, name);
-    io::write_all(STDOUT_FILENO, b"\n");
-    io::write_all(STDOUT_FILENO, &out[..printed]);
+    n
 }
 
-fn main() {
-    run(b"inner_2048");
-    run(b"inner_2049");
-    run(b"widest");
-    run(b"wider");
-    run(b"too_many");
-    run(b"largest_modulus");
-    run(b"modulus_0");
-    run(b"modulus_1");
-    run(b"modulus_too_large");
-    run(b"modulus_6");
-    run(b"session_0");
-    run(b"tape_0");
-    run(b"side_0");
-    run(b"x_short");
-    run(b"y_long");
-    run(b"nothing");
-    run(b"missing_line");
-    run(b"empty_line");
-    run(b"unended_line");
-    run(b"five_numbers");
-    run(b"seven_numbers");
-    run(b"leading_zero");
-    run(b"form_before_modulus");
-    run(b"behind_the_fifth");
-    run(b"residue_of_q");
-    run(b"residue_in_y");
-    run(b"dry_dealer");
-    run(b"dry_left");
-    run(b"residue_before_dry");
-    run(b"size_before_residue");
-    run(b"thrown_away");
-    run(b"too_long_a_line");
-    run(b"longest_line");
+fn run(rt: &(impl Files + Print + Eprint), name: &str) -> io::Result<()> {
+    let mut file = match fs::open(rt, name) {
+        Ok(file) => file,
+        Err(e) => return eprintln!(rt; "{name}: {e}"),
+    };
+    let mut bytes = [0u8; 327680];
+    let mut out = [0u8; 81920];
+    let n = read_full(&mut file, &mut bytes);
+    drop(file);
+    let printed = rehearse::rehearse(&bytes[..n], &mut out);
+    println!(rt; "{name}")?;
+    rt.write_all(&out[..printed])
+}
+
+fn main(rt: HostRuntime) -> io::Result<()> {
+    for name in FILES {
+        run(&rt, name)?;
+    }
+    Ok(())
 }

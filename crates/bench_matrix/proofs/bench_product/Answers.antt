@@ -2,4 +2,4 @@
 use Rattle.bench_matrix.proofs.bench_product.Goals as goal
 
 pub write_product-requires : goal.write_product-requires
-write_product-requires c = c.fits2.ensures.shape c.if-fits.true
+write_product-requires c = c.fits.ensures.shape c.if-fits.true

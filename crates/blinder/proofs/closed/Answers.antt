@@ -1,5 +1,4 @@
 -- `blinder::closed` meets its contract. Assumes nothing.
-use Prim.Native.Nat.{◌-◌}
 use Rattle.blinder.proofs.Kept.{zero-array}
 use Rattle.blinder.proofs.closed.Goals as goal
 

@@ -1,5 +1,4 @@
 -- `blinder::scratch_size` meets its contract. Assumes nothing.
-use Prim.Native.Nat.{◌-◌}
 use native.Mathlib.Omega.{arith}
 use Rattle.blinder.proofs.Kept.{square-bound, wide-bound, scratch-sum}
 use Rattle.blinder.proofs.scratch_size.Goals as goal

@@ -1,24 +1,18 @@
 -- `rehearse::answer` meets its contract. Assumes nothing.
 use mathlib.Core.Path.{sym}
-use Prim.Native.Nat.{◌-◌}
-use borrow.Author.Rules.{rules}
 use lib.Seq.{length-take-le}
 use Rattle.rehearse.proofs.Judged.{numbers-refused, room-x, room-y, taken-fit, refused-printed, held-printed}
 use Rattle.rehearse.proofs.answer.Goals as goal
 
-pub enum_told-1 : goal.enum_told-1
-enum_told-1 c = search rules
-
 pub returns-in_default : goal.returns-in_default
 returns-in_default c =
-    let enum-told2 = c.enum_told-in_default-1 in
     let numbers = c.numbers-numbers in
     let refusal-in = c.refusal_in in
     let a = c.args in
     let p = c.requires in
     λ xs ys hx hy. refused-printed _ numbers.result refusal-in.result _ _ _
     (numbers-refused a.t xs ys a.dealer.now a.coins.now a.nx a.ny hx.count hy.count numbers.result numbers.ensures
-    enum-told2.given.1) enum-told2.given.1 refusal-in.ensures c.refusal.ensures.place
+    c.in_default.is) c.in_default.is refusal-in.ensures c.refusal.ensures.place
     c.refusal.ensures.few c.refusal.ensures.contents
 
 pub slice_bounds-judge_words-end : goal.slice_bounds-judge_words-end
@@ -44,11 +38,10 @@ judge_words-requires c =
 
 pub returns : goal.returns
 returns c =
-    let enum_told-1 = c.enum_told-1 in
     let numbers = c.numbers-numbers in
     let a = c.args in
     let p = c.requires in
     λ xs ys hx hy. held-printed a.t _ _ xs ys a.dealer.now a.coins.now _ _ _
-    (hx.held (room-x a.t a.nx a.ny a.x.now a.y.now numbers.result numbers.ensures enum_told-1.given.1 p.0 p.1))
-    (hy.held (room-y a.t a.nx a.ny a.x.now a.y.now numbers.result numbers.ensures enum_told-1.given.1 p.0 p.1))
+    (hx.held (room-x a.t a.nx a.ny a.x.now a.y.now numbers.result numbers.ensures c.in-Passed.is p.0 p.1))
+    (hy.held (room-y a.t a.nx a.ny a.x.now a.y.now numbers.result numbers.ensures c.in-Passed.is p.0 p.1))
     c.judge_words.ensures

@@ -1,5 +1,4 @@
 -- `rehearse::judge_words` meets its contract. Assumes nothing.
-use Prim.Native.Nat.{◌-◌}
 use Rattle.rehearse.proofs.Judged.{numbers_fit, words-refused, all-passed, judged-run, refused-printed, as-printed}
 use Rattle.rehearse.proofs.judge_words.Goals as goal
 
@@ -11,14 +10,13 @@ words-words-requires c =
 
 pub returns-in_default : goal.returns-in_default
 returns-in_default c =
-    let enum-told2 = c.enum_told-in_default-1 in
     let refusal-in = c.refusal_in in
     let words = c.words-words in
     let a = c.args in
     refused-printed _ words.result refusal-in.result _ _ _
     (words-refused a.t a.x.now a.y.now a.dealer.now a.coins.now
     c.requires.0 words.result words.ensures
-    enum-told2.given.1) enum-told2.given.1 refusal-in.ensures c.refusal.ensures.place
+    c.in_default.is) c.in_default.is refusal-in.ensures c.refusal.ensures.place
     c.refusal.ensures.few c.refusal.ensures.contents
 
 pub perform-requires : goal.perform-requires

@@ -18,10 +18,9 @@ returns-in_default c =
 
 pub said-requires : goal.said-requires
 said-requires c =
-    let lines = c.lines-1 in
     let read = c in
     let a = read.args in
-    let s = said_read a.bytes.now _ _ _ _ _ read.read-lines.result lines.given.0.0 read.read-lines.ensures.answered lines.given.1 in
+    let s = said_read a.bytes.now _ _ _ _ _ read.read-lines.result c.in-Read.c read.read-lines.ensures.answered c.in-Read.is in
     let coins = c in (
       search rules,
       search rules,

@@ -8,8 +8,8 @@ returns c =
     let forget = c.forget in
     rw (
       c.no_head.ensures,
-      forget.ensures.0,
-      forget.ensures.1,
+      forget.ensures.value,
+      forget.ensures.scratch_after,
       first_word c.mul_mod.result start.args.out.now start.requires.room,
       c.mul_mod.ensures,
       c.inverse_mod.ensures,

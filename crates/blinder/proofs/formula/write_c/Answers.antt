@@ -6,43 +6,31 @@ use Rattle.algebra.proofs.Lists.{mul-residues}
 use Rattle.algebra.proofs.Columns.{cols-length}
 use Rattle.blinder.proofs.Start.{start_is, start-length}
 use borrow.Author.Rules.{rules}
-use Rattle.blinder.proofs.formula.write_c.Lts
-use Rattle.blinder.proofs.formula.write_c.Tie
-use Rattle.blinder.proofs.formula.write_c.Reads
 use Rattle.blinder.proofs.formula.write_c.Goals as goal
-
-abbrev After-write_cols : Type 0
-After-write_cols = Lts.After-write_cols Tie.the-claims Reads.Pre Reads.Post
-
-abbrev Start : Type 0
-Start = Lts.Start Tie.the-claims Reads.Pre Reads.Post
-
-abbrev start : After-write_cols → Start
-start c = c.before.before.before.before.before.before
 
 pub write_product-requires : goal.write_product-requires
 write_product-requires c =
-    let h = (start c.before.before.before).pre in
+    let h = c.requires in
     rw c.square_by.ensures (search rules)
 
 pub slice_bounds-write_sum-end : goal.slice_bounds-write_sum-end
 slice_bounds-write_sum-end c =
     let told = c in
-    let a = (start c.before.before.before.before.before.before).args in
+    let a = c.args in
     start-length (a.s.n * a.s.rhs) _ _ _ (cols-length a.s.n (a.s.n + a.s.rhs) a.s.n a.s.rhs a.u0.now) told.write_cols.ensures
 
 pub slice_bounds-write_sum-end-2 : goal.slice_bounds-write_sum-end-2
 slice_bounds-write_sum-end-2 c =
-    let told = start c.before.before.before.before.before.before.before in
+    let told = c in
     let a = told.args in
-    let size = (mul-residues told.pre.0.some-q a.s.n a.s.n a.s.rhs a.pm.now a.y.now).size in
+    let size = (mul-residues told.requires.0.some-q a.s.n a.s.n a.s.rhs a.pm.now a.y.now).size in
     start-length (a.s.n * a.s.rhs) _ _ _ size (rw c.square_by.ensures at c.write_product.ensures)
 
 pub write_sum-requires : goal.write_sum-requires
 write_sum-requires c =
     let told = c in
-    let a = (start c.before.before.before.before.before.before.before.before).args in
-    let h = (start c.before.before.before.before.before.before.before.before).pre in
+    let a = c.args in
+    let h = c.requires in
     let n = a.s.n * a.s.rhs in
     let wide = cols-length a.s.n (a.s.n + a.s.rhs) a.s.n a.s.rhs a.u0.now in
     let size = (mul-residues h.0.some-q a.s.n a.s.n a.s.rhs a.pm.now a.y.now).size in
@@ -57,8 +45,8 @@ pub returns : goal.returns
 unfolding send_c
 returns c =
     let told = c in
-    let a = (start c.before.before.before.before.before.before.before.before.before.before.before).args in
-    let h = (start c.before.before.before.before.before.before.before.before.before.before.before).pre in
+    let a = c.args in
+    let h = c.requires in
     let n = a.s.n * a.s.rhs in
     let wide = cols-length a.s.n (a.s.n + a.s.rhs) a.s.n a.s.rhs a.u0.now in
     let size = (mul-residues h.0.some-q a.s.n a.s.n a.s.rhs a.pm.now a.y.now).size in

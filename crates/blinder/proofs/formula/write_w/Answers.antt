@@ -3,32 +3,20 @@ use Prim.Native.Nat.{◌*◌}
 use native.Mathlib.Omega.{arith}
 use Rattle.blinder.proofs.Factored.{inner-length, factored}
 use Rattle.blinder.proofs.Start.{start_is, start-length}
-use Rattle.blinder.proofs.formula.write_w.Lts
-use Rattle.blinder.proofs.formula.write_w.Tie
-use Rattle.blinder.proofs.formula.write_w.Reads
 use Rattle.blinder.proofs.formula.write_w.Goals as goal
-
-abbrev After-write_inner : Type 0
-After-write_inner = Lts.After-write_inner Tie.the-claims Reads.Pre Reads.Post
-
-abbrev Start : Type 0
-Start = Lts.Start Tie.the-claims Reads.Pre Reads.Post
-
-abbrev start : After-write_inner → Start
-start c = c.before.before.before.before.before.before.before.before.before
 
 pub slice_bounds-write_deal-end : goal.slice_bounds-write_deal-end
 slice_bounds-write_deal-end c =
     let told = c in
-    let a = (start c.before.before.before).args in
-    let long = inner-length (start c.before.before.before).pre.0.some-q a.s.n a.s.rhs a.u0.now a.f.now a.pm.now a.mm.now in
+    let a = c.args in
+    let long = inner-length c.requires.0.some-q a.s.n a.s.rhs a.u0.now a.f.now a.pm.now a.mm.now in
     start-length (a.s.n * a.s.n) _ _ _ long told.write_inner.ensures
 
 pub write_deal-requires : goal.write_deal-requires
 write_deal-requires c =
     let told = c in
-    let h = (start c.before.before.before.before).pre in
-    let a = (start c.before.before.before.before).args in
+    let h = c.requires in
+    let a = c.args in
     let long = inner-length h.0.some-q a.s.n a.s.rhs a.u0.now a.f.now a.pm.now a.mm.now in
     rw c.square_by.ensures (
       record {
@@ -46,8 +34,8 @@ write_deal-requires c =
 pub returns : goal.returns
 returns c =
     let told = c in
-    let h = (start c.before.before.before.before.before.before.before).pre in
-    let a = (start c.before.before.before.before.before.before.before).args in
+    let h = c.requires in
+    let a = c.args in
     let long = inner-length h.0.some-q a.s.n a.s.rhs a.u0.now a.f.now a.pm.now a.mm.now in
     rw (
       start_is (a.s.n * a.s.n) _ _ _ long told.write_inner.ensures,

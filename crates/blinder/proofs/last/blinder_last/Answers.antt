@@ -1,32 +1,26 @@
 -- `blinder::last::blinder_last` meets its contract. Assumes nothing.
 use mathlib.Core.Path.{◌≡◌, sym, ap, ◌∙◌}
-use mathlib.Core.List.{[]}
+use mathlib.Core.List.{List, []}
+use Prim.Native.Nat.{ℕ}
+use lib.Dec.{leb}
 use lib.ListN.{length}
-use Rattle.protocol.specs.Tape.{slot_at, blinder}
+use Rattle.protocol.specs.declared.BlinderSession.{BlinderSession}
+use Rattle.protocol.specs.Judge.{Judged}
+use Rattle.protocol.specs.Tape.{Slot, slot_at, blinder}
 use Rattle.protocol.specs.Message.{Message, message_with, message_parts}
-use Rattle.protocol.specs.System.{blinder_last_effect, blinder_last_tests, blinder_last}
+use Rattle.protocol.specs.System.{side_size, blinder_last_effect, blinder_last_tests, blinder_last}
 use Rattle.judging.specs.InOrder.{checked, judged}
 use Rattle.judging.proofs.Fits.{open-placed}
 use Rattle.judging.proofs.Leaving.{refused-leaves, step-leaves, as-taken}
+use Rattle.blinder.specs.Later.{later_step}
 use Rattle.blinder.proofs.Known.{last-known}
 use Rattle.blinder.proofs.Order.{last-tests}
-use Rattle.blinder.proofs.last.blinder_last.Lts
-use Rattle.blinder.proofs.last.blinder_last.Tie
-use Rattle.blinder.proofs.last.blinder_last.Reads
 use Rattle.blinder.proofs.last.blinder_last.Goals as goal
 
-abbrev After-check-checked : Type 0
-After-check-checked = Lts.After-check Tie.the-claims Reads.Pre Reads.Post
-
 -- all tests passed, or the first that did not
-tests : (c : After-check-checked) →
-    let a = c.args in
-    checked c.check-checked.result ≡ judged (blinder_last_tests a.s (slot_at a.pool.now a.at.size a.at.index) a.scratch.now
-    (message_with a.a a.residues.now) (length a.out.now))
-tests c =
-    let a = c.args in
-    (rw c.side_size.ensures at c.check-checked.ensures) ∙ ap judged
-    (last-tests a.s (slot_at a.pool.now a.at.size a.at.index) a.scratch.now (message_with a.a a.residues.now) (length a.out.now))
+tests : (x : BlinderSession) (s : Slot) (scratch : List ℕ) (m : Message) (room : ℕ) {v : Judged Unit}
+    → v ≡ judged (later_step 5 (leb (side_size x.terms) room) x s scratch m) → v ≡ judged (blinder_last_tests x s scratch m room)
+tests x s scratch m room e = e ∙ ap judged (last-tests x s scratch m room)
 
 pub returns-in_default : goal.returns-in_default
 unfolding blinder_last
@@ -37,14 +31,14 @@ returns-in_default c =
     let m = message_with a.a a.residues.now in
     let e = c.in_default.is in
     rw (c.refused.ensures, e)
-    (sym (refused-leaves a.s s a.scratch.now [] a.out.now _ (blinder_last_effect a.s s a.scratch.now m) (sym (tests c.before.before) ∙ ap checked e)))
+    (sym (refused-leaves a.s s a.scratch.now [] a.out.now _ (blinder_last_effect a.s s a.scratch.now m) (sym (tests a.s s a.scratch.now (message_with a.a a.residues.now) (length a.out.now) (rw c.side_size.ensures at c.check-checked.ensures)) ∙ ap checked e)))
 
 pub compute-done-requires : goal.compute-done-requires
 compute-done-requires c =
     let told = c in
     let a = told.args in
     let s = slot_at a.pool.now a.at.size a.at.index in
-    let passed = sym (tests c.before.before.before.before) ∙ ap checked told.in-Passed.is in
+    let passed = sym (tests a.s s a.scratch.now (message_with a.a a.residues.now) (length a.out.now) (rw c.side_size.ensures at c.check-checked.ensures)) ∙ ap checked told.in-Passed.is in
     let f = last-known a.s s (message_with a.a a.residues.now) a.scratch.now (length a.out.now) passed in
     as-taken (λ (m : Message). blinder_last_tests a.s s a.scratch.now m (length a.out.now)) f.message passed
 
@@ -53,7 +47,7 @@ spend_at-requires c =
     let told = c in
     let a = told.args in
     let s = slot_at a.pool.now a.at.size a.at.index in
-    let passed = sym (tests c.before.before.before.before.before.before.before.before.before.before) ∙ ap checked told.in-Passed.is in
+    let passed = sym (tests a.s s a.scratch.now (message_with a.a a.residues.now) (length a.out.now) (rw c.side_size.ensures at c.check-checked.ensures)) ∙ ap checked told.in-Passed.is in
     open-placed blinder a.s.terms s
     (last-known a.s s (message_with a.a a.residues.now) a.scratch.now (length a.out.now) passed).later.session-open
 
@@ -65,5 +59,5 @@ returns c =
     let s = slot_at a.pool.now a.at.size a.at.index in
     let m = message_with a.a a.residues.now in
     step-leaves a.s s a.scratch.now [] a.out.now _ (blinder_last_effect a.s s a.scratch.now m)
-    (sym (tests c.before.before.before.before.before.before.before.before.before.before.before.before.before) ∙ ap checked told.in-Passed.is)
+    (sym (tests a.s s a.scratch.now (message_with a.a a.residues.now) (length a.out.now) (rw c.side_size.ensures at c.check-checked.ensures)) ∙ ap checked told.in-Passed.is)
     c.compute-done.ensures c.spend_at.ensures

@@ -1,32 +1,26 @@
 -- `blinder::second::blinder_second` meets its contract. Assumes nothing.
 use mathlib.Core.Path.{◌≡◌, sym, ap, ◌∙◌}
-use mathlib.Core.List.{[]}
+use mathlib.Core.List.{List, []}
+use Prim.Native.Nat.{ℕ}
+use lib.Dec.{leb}
 use lib.ListN.{length}
-use Rattle.protocol.specs.Tape.{slot_at}
-use Rattle.protocol.specs.Message.{Message, message_with, message_parts}
+use Rattle.protocol.specs.declared.BlinderSession.{BlinderSession}
+use Rattle.protocol.specs.Judge.{Judged}
+use Rattle.protocol.specs.Tape.{Slot, slot_at}
+use Rattle.protocol.specs.Message.{Message, message_size, message_with, message_parts}
 use Rattle.protocol.specs.System.{blinder_second_effect, blinder_second_tests, blinder_second}
 use Rattle.tape.proofs.Slots.{same-pool}
 use Rattle.judging.specs.InOrder.{checked, judged}
 use Rattle.judging.proofs.Leaving.{refused-leaves, step-leaves, as-taken}
+use Rattle.blinder.specs.Later.{later_step}
 use Rattle.blinder.proofs.Known.{second-known}
 use Rattle.blinder.proofs.Order.{second-tests}
-use Rattle.blinder.proofs.second.blinder_second.Lts
-use Rattle.blinder.proofs.second.blinder_second.Tie
-use Rattle.blinder.proofs.second.blinder_second.Reads
 use Rattle.blinder.proofs.second.blinder_second.Goals as goal
 
-abbrev After-check-checked : Type 0
-After-check-checked = Lts.After-check Tie.the-claims Reads.Pre Reads.Post
-
 -- all tests passed, or the first that did not
-tests : (c : After-check-checked) →
-    let a = c.args in
-    checked c.check-checked.result ≡ judged (blinder_second_tests a.s (slot_at a.pool.now a.at.size a.at.index) a.scratch.now
-    (message_with a.a a.residues.now) (length a.out.now))
-tests c =
-    let a = c.args in
-    (rw c.has_room-fits.ensures at c.check-checked.ensures) ∙ ap judged
-    (second-tests a.s (slot_at a.pool.now a.at.size a.at.index) a.scratch.now (message_with a.a a.residues.now) (length a.out.now))
+tests : (x : BlinderSession) (s : Slot) (scratch : List ℕ) (m : Message) (room : ℕ) {v : Judged Unit}
+    → v ≡ judged (later_step 3 (leb (message_size 4 x.terms) room) x s scratch m) → v ≡ judged (blinder_second_tests x s scratch m room)
+tests x s scratch m room e = e ∙ ap judged (second-tests x s scratch m room)
 
 pub returns-in_default : goal.returns-in_default
 unfolding blinder_second
@@ -37,14 +31,14 @@ returns-in_default c =
     let m = message_with a.a a.residues.now in
     let e = c.in_default.is in
     rw (c.refused.ensures, e)
-    (sym (refused-leaves a.s s a.scratch.now a.out.now [] _ (blinder_second_effect a.s s a.scratch.now m) (sym (tests c.before.before) ∙ ap checked e)))
+    (sym (refused-leaves a.s s a.scratch.now a.out.now [] _ (blinder_second_effect a.s s a.scratch.now m) (sym (tests a.s s a.scratch.now (message_with a.a a.residues.now) (length a.out.now) (rw c.has_room-fits.ensures at c.check-checked.ensures)) ∙ ap checked e)))
 
 pub compute-requires : goal.compute-requires
 compute-requires c =
     let told = c in
     let a = told.args in
     let s = slot_at a.pool.now a.at.size a.at.index in
-    let passed = sym (tests c.before.before) ∙ ap checked c.in-Passed.is in
+    let passed = sym (tests a.s s a.scratch.now (message_with a.a a.residues.now) (length a.out.now) (rw c.has_room-fits.ensures at c.check-checked.ensures)) ∙ ap checked c.in-Passed.is in
     let f = second-known a.s s (message_with a.a a.residues.now) a.scratch.now (length a.out.now) passed in
     as-taken (λ (m : Message). blinder_second_tests a.s s a.scratch.now m (length a.out.now)) f.message passed
 
@@ -55,7 +49,7 @@ returns c =
     let a = told.args in
     let s = slot_at a.pool.now a.at.size a.at.index in
     let m = message_with a.a a.residues.now in
-    let passed = sym (tests c.before.before.before.before.before) ∙ ap checked c.in-Passed.is in
+    let passed = sym (tests a.s s a.scratch.now (message_with a.a a.residues.now) (length a.out.now) (rw c.has_room-fits.ensures at c.check-checked.ensures)) ∙ ap checked c.in-Passed.is in
     let f = second-known a.s s m a.scratch.now (length a.out.now) passed in
     step-leaves a.s s a.scratch.now a.out.now [] _ (blinder_second_effect a.s s a.scratch.now m) passed c.compute.ensures
     (sym (same-pool s f.later.session-open.half.inside))

@@ -9,53 +9,44 @@ use Rattle.vectors.proofs.Written.{after-over, part_then}
 use Rattle.blinder.specs.Second.{second_sent}
 use Rattle.blinder.proofs.Kept.{square-bound, side-is, wide_is, wide_enough, small, p-length, u0-length}
 use borrow.Author.Rules.{rules}
-use Rattle.blinder.proofs.second.send.Lts
-use Rattle.blinder.proofs.second.send.Tie
-use Rattle.blinder.proofs.second.send.Reads
 use Rattle.blinder.proofs.second.send.Goals as goal
-
-abbrev Start : Type 0
-Start = Lts.Start Tie.the-claims Reads.Pre Reads.Post
-
-abbrev start : goal.After-times-square → Start
-start c = c.before.before.before.before.before.before.before.before.before.before
 
 pub overflow_sub-sizes : goal.overflow_sub-sizes
 overflow_sub-sizes c = let told = c in wide_enough told.args.t told.requires.sides
 
 pub write_w-requires : goal.write_w-requires
 write_w-requires c =
-    let told = start c.before.before.before in
+    let told = c in
     let t = told.args.t in
-    let all = small t told.pre.sides told.pre.some-q told.pre.small-q in
-    let wide : t.m * (t.m + (t.p - t.m)) ≡ t.m * t.p = ap (λ (p : ℕ). t.m * p) (wide_is t told.pre.sides) in
-    let p = p-length t told.args.scratch.now told.pre.lent c.drawn_p-pm.ensures in
-    let u0 = u0-length t told.args.scratch.now told.pre.lent c.drawn_u0-u0.ensures in
+    let all = small t told.requires.sides told.requires.some-q told.requires.small-q in
+    let wide : t.m * (t.m + (t.p - t.m)) ≡ t.m * t.p = ap (λ (p : ℕ). t.m * p) (wide_is t told.requires.sides) in
+    let p = p-length t told.args.scratch.now told.requires.lent c.drawn_p-pm.ensures in
+    let u0 = u0-length t told.args.scratch.now told.requires.lent c.drawn_u0-u0.ensures in
     search rules
 
 pub offset_bounds-out-square : goal.offset_bounds-out-square
 offset_bounds-out-square c =
-    let told = start c.before.before.before.before.before.before in
-    let few = square-bound told.args.t told.pre.sides in
+    let told = c in
+    let few = square-bound told.args.t told.requires.sides in
     search rules
 
 pub write_c-requires : goal.write_c-requires
 write_c-requires c =
-    let told = start c.before.before.before.before.before.before.before in
+    let told = c in
     let t = told.args.t in
-    let all = small t told.pre.sides told.pre.some-q told.pre.small-q in
-    let wide : t.m * (t.m + (t.p - t.m)) ≡ t.m * t.p = ap (λ (p : ℕ). t.m * p) (wide_is t told.pre.sides) in
-    let side = side-is t told.pre.sides in
-    let p = p-length t told.args.scratch.now told.pre.lent c.drawn_p-pm.ensures in
-    let u0 = u0-length t told.args.scratch.now told.pre.lent c.drawn_u0-u0.ensures in
+    let all = small t told.requires.sides told.requires.some-q told.requires.small-q in
+    let wide : t.m * (t.m + (t.p - t.m)) ≡ t.m * t.p = ap (λ (p : ℕ). t.m * p) (wide_is t told.requires.sides) in
+    let side = side-is t told.requires.sides in
+    let p = p-length t told.args.scratch.now told.requires.lent c.drawn_p-pm.ensures in
+    let u0 = u0-length t told.args.scratch.now told.requires.lent c.drawn_u0-u0.ensures in
     search rules
 
 pub returns : goal.returns
 unfolding second_sent send_w columns
 returns c =
     let told = c in
-    let h = (start c.before.before.before.before.before.before.before.before.before.before).pre in
-    let a = (start c.before.before.before.before.before.before.before.before.before.before).args in
+    let h = c.requires in
+    let a = c.args in
     let square = told.times-square.ensures in
     let size = (sub-residues h.some-q (a.t.m * a.t.m) _ _).size in
     let w = rw (told.drawn_p-pm.ensures, told.drawn_u0-u0.ensures) at told.write_w.ensures in

@@ -18,22 +18,15 @@ use Rattle.host_first.proofs.slot.on_slot.Goals as goal
 
 pub settle-requires : goal.settle-requires
 settle-requires c =
-    let at12 = c in
-    let at16 = c in
-    let at18 = c in
-    let at39 = c in
-    let p = at39.requires in
-    (p.0, omega (arith, p.1, at18.words-1.given), omega (arith, p.2, at16.lent-1.given), omega (arith, p.3, at12.share-1.given))
+    let p = c.requires in
+    (p.0, omega (arith, p.1, c.words-1.given), omega (arith, p.2, c.lent-1.given), omega (arith, p.3, c.share-1.given))
 
 pub returns : goal.returns
 returns c =
-    let at10 = c in
-    let at30 = c in
-    let at50 = c in
-    let a = at50.args in
-    let p = at50.requires in
-    let run = at30.run-d in
-    let l : Lent = record { host = a.session.now; pool = a.slot.now; scratch = a.scratch.now; line = a.line.now; result = a.result.now } in
+    let a = c.args in
+    let p = c.requires in
+    let run = c.run-d in
+    let l : Lent = record { host = a.session.now; pool = a.slot.now; scratch = a.scratch.now; line = a.line.now; result = a.res.now } in
     let n = length a.words.now in
     let k = length a.lent.now in
     let j = length a.share.now in
@@ -43,6 +36,6 @@ returns c =
     let o = first_step a.q.end a.q.terms slot (take k (words_of a.scratch.now)) a.input.now a.raw.now message (length a.out.now) j in
     let behaves = first-behaves a.q.end a.q.terms slot (take k (words_of a.scratch.now)) a.input.now a.raw.now message
     (length a.out.now) j in
-    at10.settle.ensures
+    c.settle.ensures
     ∙ settled-left l p.4 p.5 n k j (omega (arith, p.2)) (omega (arith, p.3)) a.out.now (length-take-le n (words_of a.slot.now) few)
     false a.q.read (unopened a.q.end a.q.terms) a.q.own o behaves run.result.answer run.ensures

@@ -14,38 +14,30 @@ use Rattle.host_first.proofs.slot.with_room.Goals as goal
 
 pub returns-then-is_system : goal.returns-then-is_system
 returns-then-is_system c =
-    let at14 = c in
-    let at24 = c in
-    let at25 = c in
-    let at40 = c in
-    let a = at40.args in
+    let a = c.args in
     let l : Lent = record {
       host = a.session.now;
       pool = a.pool.now;
       scratch = a.scratch.now;
       line = a.line.now;
-      result = a.result.now;
+      result = a.res.now;
     } in
-    let rooms = system-rooms a.q.end (sym at25.is_system.ensures ∙ at24.if-is_system.true) in
+    let rooms = system-rooms a.q.end (sym c.is_system.ensures ∙ c.if-is_system.true) in
     in-room l (a.at.index * a.at.size) (checked a.q.own) a.q.end a.q.terms a.q.read (slot_at (words_of a.pool.now) a.at.size a.at.index)
-    (words_of a.scratch.now) a.input.now a.raw.now (message_with a.q.head a.residues.now) (length a.result.now / 4)
-    (length-take-le {A = ℕ} 528 (replicate 1024 0) (omega (arith, length-replicate {A = ℕ} 1024 0)) ∙ rooms.0) (length-replicate {A = ℕ} 3072 0) (length-replicate {A = ℕ} 0 0 ∙ rooms.1) at14.on_call.ensures
+    (words_of a.scratch.now) a.input.now a.raw.now (message_with a.q.head a.residues.now) (length a.res.now / 4)
+    (length-take-le {A = ℕ} 528 (replicate 1024 0) (omega (arith, length-replicate {A = ℕ} 1024 0)) ∙ rooms.0) (length-replicate {A = ℕ} 3072 0) (length-replicate {A = ℕ} 0 0 ∙ rooms.1) c.on_call.ensures
 
 pub returns : goal.returns
 returns c =
-    let at14 = c in
-    let at24 = c in
-    let at25 = c in
-    let at40 = c in
-    let a = at40.args in
+    let a = c.args in
     let l : Lent = record {
       host = a.session.now;
       pool = a.pool.now;
       scratch = a.scratch.now;
       line = a.line.now;
-      result = a.result.now;
+      result = a.res.now;
     } in
-    let rooms = product-rooms a.q.end (sym at25.is_system.ensures ∙ at24.if-is_system.false) in
+    let rooms = product-rooms a.q.end (sym c.is_system.ensures ∙ c.if-is_system.false) in
     in-room l (a.at.index * a.at.size) (checked a.q.own) a.q.end a.q.terms a.q.read (slot_at (words_of a.pool.now) a.at.size a.at.index)
-    (words_of a.scratch.now) a.input.now a.raw.now (message_with a.q.head a.residues.now) (length a.result.now / 4)
-    (length-replicate {A = ℕ} 0 0 ∙ rooms.0) (length-replicate {A = ℕ} 3072 0) (length-replicate {A = ℕ} 1024 0 ∙ rooms.1) at14.on_call-2.ensures
+    (words_of a.scratch.now) a.input.now a.raw.now (message_with a.q.head a.residues.now) (length a.res.now / 4)
+    (length-replicate {A = ℕ} 0 0 ∙ rooms.0) (length-replicate {A = ℕ} 3072 0) (length-replicate {A = ℕ} 1024 0 ∙ rooms.1) c.on_call-2.ensures

@@ -7,51 +7,38 @@ use Rattle.host_later.proofs.calls.next_with.Goals as goal
 
 pub returns-in_default : goal.returns-in_default
 returns-in_default c =
-    let told = c in
-    let taken = c in
-    let start = c in
-    let a = start.args in
+    let a = c.args in
     let l : Lent = record {
       host = a.session.now;
       pool = a.pool.now;
       scratch = a.scratch.now;
       line = a.line.now;
-      result = a.result.now;
+      result = a.res.now;
     } in
-    next-none l a.at.size a.at.index a.message.now (taken-wrong _ _ taken.take_line-loaded.ensures told.in_default.is) c.refusal.ensures
+    next-none l a.at.size a.at.index a.message.now (taken-wrong _ _ c.take_line-loaded.ensures c.in_default.is) c.refusal.ensures
 
 pub with_room-requires : goal.with_room-requires
 with_room-requires c =
-    let lengths = c in
-    let start = c in
-    let a = start.args in
+    let a = c.args in
     let l : Lent = record {
       host = a.session.now;
       pool = a.pool.now;
       scratch = a.scratch.now;
       line = a.line.now;
-      result = a.result.now;
+      result = a.res.now;
     } in
-    later-long l lengths.check_session-own.ensures
+    later-long l c.check_session-own.ensures
 
 pub returns : goal.returns
 returns c =
-    let ran = c in
-    let cut = c in
-    let counted = c in
-    let known = c in
-    let kept = c in
-    let taken = c in
-    let lengths = c in
-    let start = c in
-    let a = start.args in
+    let a = c.args in
     let l : Lent = record {
       host = a.session.now;
       pool = a.pool.now;
       scratch = a.scratch.now;
       line = a.line.now;
-      result = a.result.now;
+      result = a.res.now;
     } in
-    next-opened l lengths.check_session-own.ensures a.at.size a.at.index
-    (taken-message _ _ taken.take_line-loaded.ensures known.in-Message.is) (kept.numbers-1.given ∙ start.requires) counted.seen_count-seen.ensures.0
-    cut.residues_in-residues.ensures ran.with_room.ensures
+    next-opened l c.check_session-own.ensures a.at.size a.at.index
+    (taken-message _ _ c.take_line-loaded.ensures c.in-Message.is) (c.numbers-1.given ∙ c.requires) c.seen_count-seen.ensures.0
+    c.residues_in-residues.ensures c.with_room.ensures

@@ -17,42 +17,31 @@ use Rattle.local.proofs.Within.{words-room, bytes-room, few_words, call-cut}
 use borrow.Author.Rules.{rules}
 use Rattle.host_later.proofs.slot.on_call.Goals as goal
 
-pub slice_bounds-on_slot-end-2 : goal.slice_bounds-on_slot-end-2
-slice_bounds-on_slot-end-2 c = search rules
-
-pub slice_bounds-on_slot-end-3 : goal.slice_bounds-on_slot-end-3
-slice_bounds-on_slot-end-3 c = sym (length-take-le _ _ (slice_bounds-on_slot-end-2 c.before))
-
 pub slice_bounds-on_slot-end-4 : goal.slice_bounds-on_slot-end-4
 slice_bounds-on_slot-end-4 c =
-    let cut = c in
-    let start = c in
-    few_words _ (length start.args.scratch.now) start.args.lent.now cut.smaller-k.ensures
+    few_words _ (length c.args.scratch.now) c.args.lent.now c.smaller-k.ensures
 
 pub slice_bounds-on_slot-end-5 : goal.slice_bounds-on_slot-end-5
-slice_bounds-on_slot-end-5 c = sym (length-take-le _ _ (slice_bounds-on_slot-end-4 c.before))
+slice_bounds-on_slot-end-5 c =
+    sym (length-take-le _ _ (few_words _ (length c.args.scratch.now) c.args.lent.now c.smaller-k.ensures))
 
 pub slice_bounds-on_slot-end-6 : goal.slice_bounds-on_slot-end-6
 slice_bounds-on_slot-end-6 c =
-    let cut = c in
-    let start = c in
-    few_words _ (length start.args.res.now) start.args.share.now cut.smaller-j.ensures
+    few_words _ (length c.args.res.now) c.args.share.now c.smaller-j.ensures
 
 pub slice_bounds-on_slot-end-7 : goal.slice_bounds-on_slot-end-7
-slice_bounds-on_slot-end-7 c = sym (length-take-le _ _ (slice_bounds-on_slot-end-6 c.before))
+slice_bounds-on_slot-end-7 c =
+    sym (length-take-le _ _ (few_words _ (length c.args.res.now) c.args.share.now c.smaller-j.ensures))
 
 pub on_slot-requires : goal.on_slot-requires
 on_slot-requires c =
-    let cut = c in
-    let placed = c in
-    let start = c in
-    let a = start.args in
-    let h = start.requires in
-    let place = placed.seen_in-seen in (
+    let a = c.args in
+    let h = c.requires in
+    let place = c.seen_in-seen in (
       h.0,
       words-room place.result.words place.result.from a.words.now a.pool.now place.ensures.2,
-      bytes-room _ (length a.lent.now) a.lent.now a.scratch.now cut.smaller-k.ensures,
-      bytes-room _ (length a.share.now) a.share.now a.result.now cut.smaller-j.ensures,
+      bytes-room _ (length a.lent.now) a.lent.now a.scratch.now c.smaller-k.ensures,
+      bytes-room _ (length a.share.now) a.share.now a.res.now c.smaller-j.ensures,
       h.5,
       h.6,
     )
@@ -60,23 +49,18 @@ on_slot-requires c =
 pub returns : goal.returns
 unfolding seen_later
 returns c =
-    let at18 = c in
-    let called = c in
-    let cut = c in
-    let lent = cut.smaller-k in
-    let share = cut.smaller-j in
-    let placed = c in
-    let place = placed.seen_in-seen in
-    let half = placed.half_in-half in
-    let start = c in
-    let a = start.args in
-    let h = start.requires in
+    let lent = c.smaller-k in
+    let share = c.smaller-j in
+    let place = c.seen_in-seen in
+    let half = c.half_in-half in
+    let a = c.args in
+    let h = c.requires in
     let l : Lent = record {
       host = a.session.now;
       pool = a.pool.now;
       scratch = a.scratch.now;
       line = a.line.now;
-      result = a.result.now;
+      result = a.res.now;
     } in
     let x = session_in a.session.now in
     let s = slot_at (words_of a.pool.now) a.at.size a.at.index in
@@ -86,7 +70,7 @@ returns c =
     (λ s ls j. (later-behaves a.q.drops x s ls m room j).proper) 0 (checked a.q.own) l a.at.size a.at.index h.4
     (role half.result.end) half.result.terms place.result.words place.result.from lent.result share.result
     a.words.now a.lent.now a.share.now half.ensures.0 half.ensures.1 place.ensures.0 place.ensures.1 place.ensures.2
-    (omega (arith, place.ensures.3, h.1)) lent.ensures share.ensures called.on_slot.ensures
+    (omega (arith, place.ensures.3, h.1)) lent.ensures share.ensures c.on_slot.ensures
     ∙ ap₂ (λ (i j : ℕ). entered_by l (a.at.index * a.at.size) (checked a.q.own) (on_done (entering 0 (behind (session_role x) (session_terms x) s))
-    (later_step a.q.drops x (seen (session_role x) (session_terms x) s) (take i (words_of a.scratch.now)) m room (least (length a.result.now / 4) j))))
+    (later_step a.q.drops x (seen (session_role x) (session_terms x) s) (take i (words_of a.scratch.now)) m room (least (length a.res.now / 4) j))))
     h.2 h.3

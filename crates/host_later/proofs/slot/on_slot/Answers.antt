@@ -21,32 +21,24 @@ use Rattle.host_later.proofs.slot.on_slot.Goals as goal
 
 pub settle-requires : goal.settle-requires
 settle-requires c =
-    let at12 = c in
-    let back = c in
-    let start = c in
-    let p = start.requires in (
+    let p = c.requires in (
       p.0,
-      omega (arith, p.1, back.words-1.given),
-      omega (arith, p.2, back.lent-1.given),
-      omega (arith, p.3, back.share-1.given),
+      omega (arith, p.1, c.words-1.given),
+      omega (arith, p.2, c.lent-1.given),
+      omega (arith, p.3, c.share-1.given),
     )
 
 pub returns : goal.returns
 returns c =
-    let at10 = c in
-    let put = c in
-    let ran = c in
-    let read = c in
-    let start = c in
-    let a = start.args in
-    let p = start.requires in
-    let x = read.session_in-x.result in
+    let a = c.args in
+    let p = c.requires in
+    let x = c.session_in-x.result in
     let l : Lent = record {
       host = a.session.now;
       pool = a.slot.now;
       scratch = a.scratch.now;
       line = a.line.now;
-      result = a.result.now;
+      result = a.res.now;
     } in
     let n = length a.words.now in
     let k = length a.lent.now in
@@ -57,7 +49,7 @@ returns c =
     let m = message_with a.q.head a.residues.now in
     let room = length a.out.now in
     let step : Session → Outcome Session = λ y. later_step a.q.drops y s lent m room j in
-    put.settle.ensures
+    c.settle.ensures
     ∙ (settled-left l p.4 p.5 n k j (omega (arith, p.2)) (omega (arith, p.3)) a.out.now (length-take-le n (words_of a.slot.now) few)
-    (solves x) 0 x a.q.own (step x) (later-behaves a.q.drops x s lent m room j) ran.run-d.result.answer ran.run-d.ensures
-    ∙ ap (λ (y : Session). entered_by l 0 (checked a.q.own) (on_done (entering 0 []) (step y))) read.session_in-x.ensures)
+    (solves x) 0 x a.q.own (step x) (later-behaves a.q.drops x s lent m room j) c.run-d.result.answer c.run-d.ensures
+    ∙ ap (λ (y : Session). entered_by l 0 (checked a.q.own) (on_done (entering 0 []) (step y))) c.session_in-x.ensures)

@@ -11,21 +11,15 @@ use Rattle.host_later.proofs.step.perform.Goals as goal
 pub returns-then-drops : goal.returns-then-drops
 unfolding later_step
 returns-then-drops c =
-    let dropped = c in
-    let taken = c in
-    let start = c in
-    let a = start.args in
+    let a = c.args in
     let s = slot_in a.pool.now a.at in
-    let drops : a.drops ≡ true = taken.if-drops.true in
+    let drops : a.drops ≡ true = c.if-drops.true in
     rw drops
-    (any-sent a.x s a.scratch.now a.result.now a.out.now (drop-no-sent a.x s a.scratch.now)
-    (any-result a.x s a.scratch.now [] a.result.now (drop-no-result a.x s a.scratch.now) dropped.drop_step.ensures))
+    (any-sent a.x s a.scratch.now a.res.now a.out.now (drop-no-sent a.x s a.scratch.now)
+    (any-result a.x s a.scratch.now [] a.res.now (drop-no-result a.x s a.scratch.now) c.drop_step.ensures))
 
 pub returns : goal.returns
 unfolding later_step
 returns c =
-    let stepped = c in
-    let left = c in
-    let start = c in
-    let drops : start.args.drops ≡ false = left.if-drops.false in
-    rw drops stepped.next_step.ensures
+    let drops : c.args.drops ≡ false = c.if-drops.false in
+    rw drops c.next_step.ensures

@@ -13,14 +13,10 @@ returns-in_default-answer c = rw (c.in-Refused.is, c.in_default-answer.is) c.ref
 pub returns-in_default-worst : goal.returns-in_default-worst
 returns-in_default-worst c =
     let worst = c.worst in
-    let own = c.own-1.given in
-    let step = c.answer-1.given in
-    lower-none worst.result own.0.0 step.0.0 worst.ensures c.in_default-worst.is
+    lower-none worst.result c.in-Refused.r c.in-Refused-answer.step worst.ensures c.in_default-worst.is
 
 pub returns : goal.returns
 returns c =
     let worst = c.worst in
-    let own = c.own-1.given in
-    let step = c.answer-1.given in
     c.refusal-2.ensures
-    ∙ ap refusal_report (lower-told worst.result own.0.0 step.0.0 worst.ensures own.1 step.1 c.in-Refused-worst.is)
+    ∙ ap refusal_report (lower-told worst.result c.in-Refused.r c.in-Refused-answer.step worst.ensures c.in-Refused.is c.in-Refused-answer.is c.in-Refused-worst.is)

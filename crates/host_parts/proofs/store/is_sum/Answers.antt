@@ -1,14 +1,13 @@
 -- `host_parts::store::is_sum` meets its contract. Assumes nothing.
-use borrow.Author.Tests.{not-true, not-false}
 use Rattle.algebra.specs.Count.{both}
 use Rattle.local.proofs.Recorded.{singular-number}
 use Rattle.host_parts.proofs.store.is_sum.Goals as goal
 
 pub returns-then-not-sums : goal.returns-then-not-sums
 unfolding both
-returns-then-not-sums c = rw (not-true c.args.sums c.if-not-sums.true)
+returns-then-not-sums c = rw c.if-not-sums.true
 
 pub returns : goal.returns
 unfolding both
 returns c =
-    rw (not-false c.args.sums c.if-not-sums.false, c.number_of_lem.ensures) (singular-number c.args.r)
+    rw (c.if-not-sums.false, c.number_of.ensures) (singular-number c.args.r)

@@ -8,5 +8,5 @@ returns c =
       session_after = c.put_session.ensures;
       slot_after = all_words a.words.now a.slot.now c.put_words.ensures;
       scratch_after = all_words a.lent.now a.scratch.now c.put_words-2.ensures;
-      res_after = all_words a.share.now a.result.now c.put_words-3.ensures;
+      res_after = all_words a.share.now a.res.now c.put_words-3.ensures;
     }

@@ -6,13 +6,13 @@ pub returns-then-line-bytes : goal.returns-then-line-bytes
 returns-then-line-bytes c =
     let a = c.args in
     sent-full a.read a.x a.h a.words.now a.lent.now a.sent.now a.share.now
-    (record { host = a.session.now; pool = a.slot.now; scratch = a.scratch.now; line = a.line.now; result = a.result.now })
+    (record { host = a.session.now; pool = a.slot.now; scratch = a.scratch.now; line = a.line.now; result = a.res.now })
     c.line_size-bytes.ensures c.if-line-bytes.true c.refusal.ensures
 
 pub returns : goal.returns
 returns c =
     let a = c.args in
-    let put = c.put_all_lem.ensures in
+    let put = c.put_all.ensures in
     sent-stored a.read a.x a.h a.words.now a.lent.now a.sent.now a.share.now
-    (record { host = a.session.now; pool = a.slot.now; scratch = a.scratch.now; line = a.line.now; result = a.result.now })
-    c.line_size-bytes.ensures c.if-line-bytes.false put.0 put.1.0 put.1.1.0 c.put_line.ensures put.1.1.1
+    (record { host = a.session.now; pool = a.slot.now; scratch = a.scratch.now; line = a.line.now; result = a.res.now })
+    c.line_size-bytes.ensures c.if-line-bytes.false put.session_after put.slot_after put.scratch_after c.put_line.ensures put.res_after

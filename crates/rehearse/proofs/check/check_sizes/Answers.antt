@@ -1,5 +1,4 @@
 -- `rehearse::check::check_sizes` meets its contract. Assumes nothing.
-use Prim.Native.Nat.{◌-◌}
 use Rattle.judging.proofs.Join.{also}
 use mathlib.Core.List.{[], ◌∷◌}
 use Rattle.rehearse.specs.Order.{size_tests}

@@ -1,5 +1,4 @@
 -- `rehearse::check::numbers` meets its contract. Assumes nothing.
-use Prim.Native.Nat.{◌-◌}
 use Rattle.judging.proofs.Join.{also}
 use Rattle.rehearse.specs.Order.{number_tests}
 use Rattle.rehearse.proofs.check.numbers.Goals as goal

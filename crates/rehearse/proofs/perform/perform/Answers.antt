@@ -1,15 +1,16 @@
 -- `rehearse::perform::perform` meets its contract. Assumes nothing.
 use mathlib.Core.Path.{sym}
 use mathlib.Core.List.{List}
-use Prim.Native.Nat.{ℕ, ◌≤◌}
+use Prim.Native.Nat.{ℕ, ◌+◌, ◌≤◌}
 use native.Mathlib.Omega.{arith}
 use lib.ListN.{drop, replicate, length-append, length-replicate}
 use lib.Seq.{length-take-le}
+use Rattle.protocol.specs.Tape.{header_size}
 use Rattle.rehearse.proofs.Runs.{fits, pool-taken, came-back, dealt-again, dealt-for}
 use Rattle.rehearse.proofs.perform.perform.Goals as goal
 
-few : (c : goal.After-slot_size-size) → c.slot_size-size.result ≤ 4096
-few c = omega (arith, c.slot_size-size.ensures.1)
+few : (n : ℕ) → n ≤ header_size + 3072 → n ≤ 4096
+few n h = omega (arith, h)
 
 pub slot_size-size-requires : goal.slot_size-size-requires
 slot_size-size-requires c =
@@ -17,33 +18,33 @@ slot_size-size-requires c =
     (fits a.t a.x.now a.y.now a.dealer.now a.coins.now c.requires.0).terms.sides
 
 pub slice_bounds-deal_product-end : goal.slice_bounds-deal_product-end
-slice_bounds-deal_product-end c = sym (length-take-le _ _ (omega (arith, few c.before, length-replicate {A = ℕ} 4096 0)))
+slice_bounds-deal_product-end c = sym (length-take-le _ _ (omega (arith, few _ c.slot_size-size.ensures.1, length-replicate {A = ℕ} 4096 0)))
 
 pub slice_bounds-deal_product-end-2 : goal.slice_bounds-deal_product-end-2
-slice_bounds-deal_product-end-2 c = sym (length-take-le _ _ (omega (arith, few c.before.before, length-replicate {A = ℕ} 4096 0)))
+slice_bounds-deal_product-end-2 c = sym (length-take-le _ _ (omega (arith, few _ c.slot_size-size.ensures.1, length-replicate {A = ℕ} 4096 0)))
 
 pub slice_bounds-first-end-2 : goal.slice_bounds-first-end-2
 slice_bounds-first-end-2 c =
     let sized = c in
-    let e = came-back sized.slot_size-size.result 4096 _ (few c.before.before.before.before.before) c.first-2-1.given in
+    let e = came-back sized.slot_size-size.result 4096 _ (few _ c.slot_size-size.ensures.1) c.first-2-1.given in
     simp length-append (omega (arith, e))
 
 pub slice_bounds-play-end : goal.slice_bounds-play-end
 slice_bounds-play-end c =
     let sized = c in
-    let e = came-back sized.slot_size-size.result 4096 _ (few c.before.before.before.before.before.before) c.first-2-1.given in
+    let e = came-back sized.slot_size-size.result 4096 _ (few _ c.slot_size-size.ensures.1) c.first-2-1.given in
     sym (length-take-le _ _ (simp length-append (omega (arith, e))))
 
 pub slice_bounds-second-end-2 : goal.slice_bounds-second-end-2
 slice_bounds-second-end-2 c =
     let sized = c in
-    let e = came-back sized.slot_size-size.result 4096 _ (few c.before.before.before.before.before.before) c.second-2-1.given in
+    let e = came-back sized.slot_size-size.result 4096 _ (few _ c.slot_size-size.ensures.1) c.second-2-1.given in
     simp length-append (omega (arith, e))
 
 pub slice_bounds-play-end-2 : goal.slice_bounds-play-end-2
 slice_bounds-play-end-2 c =
     let sized = c in
-    let e = came-back sized.slot_size-size.result 4096 _ (few c.before.before.before.before.before.before.before) c.second-2-1.given in
+    let e = came-back sized.slot_size-size.result 4096 _ (few _ c.slot_size-size.ensures.1) c.second-2-1.given in
     sym (length-take-le _ _ (simp length-append (omega (arith, e))))
 
 pub play-requires : goal.play-requires
@@ -60,9 +61,9 @@ returns c =
     let whole = c in
     let a = whole.args in
     let n = sized.slot_size-size in
-    let empty = pool-taken a.t n.result 4096 (few c.before.before.before.before.before.before.before.before.before.before.before.before.before) n.ensures.0 in
-    let in-first = came-back n.result 4096 _ (few c.before.before.before.before.before.before.before.before.before.before.before.before.before) c.first-2-1.given in
-    let in-second = came-back n.result 4096 _ (few c.before.before.before.before.before.before.before.before.before.before.before.before.before) c.second-2-1.given in
+    let empty = pool-taken a.t n.result 4096 (few _ c.slot_size-size.ensures.1) n.ensures.0 in
+    let in-first = came-back n.result 4096 _ (few _ c.slot_size-size.ensures.1) c.first-2-1.given in
+    let in-second = came-back n.result 4096 _ (few _ c.slot_size-size.ensures.1) c.second-2-1.given in
     let behind : List ℕ = drop n.result (replicate 4096 0) in
     c.play.ensures a.dealer.now
     (dealt-again behind behind in-first in-second

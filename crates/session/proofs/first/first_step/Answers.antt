@@ -25,10 +25,10 @@ returns-in-1 c =
     let m = message_with a.a a.residues.now in
     let l = a.input.now in
     let room = length a.out.now in
-    let share = length a.result.now in
+    let share = length a.res.now in
     let none = left-no-scratch a.t s l a.words.now m room share (λ _. of_left a.t) in
-    let which = first-left a.t s a.scratch.now l a.words.now m room share at10.match.keys1 in
-    rw (which, unopened-left a.t at10.match.keys1) (any-scratch (of_left a.t) s a.out.now a.result.now a.scratch.now none at6.left.ensures)
+    let which = first-left a.t s a.scratch.now l a.words.now m room share c.in-1.is in
+    rw (which, unopened-left a.t c.in-1.is) (any-scratch (of_left a.t) s a.out.now a.res.now a.scratch.now none at6.left.ensures)
 
 pub returns-in-2 : goal.returns-in-2
 returns-in-2 c =
@@ -40,13 +40,13 @@ returns-in-2 c =
     let m = message_with a.a a.residues.now in
     let l = a.input.now in
     let room = length a.out.now in
-    let share = length a.result.now in
+    let share = length a.res.now in
     let no-scratch = right-first-no-scratch a.t s l room of_right in
     let no_result = right-first-no-result a.t s l room of_right in
-    let which = first-right a.t s a.scratch.now l a.words.now m room share at7.match.keys2 in
-    rw (which, unopened-right a.t at7.match.keys2)
-    (any-scratch (of_right no_right) s a.out.now a.result.now a.scratch.now no-scratch
-    (any-result (of_right no_right) s [] a.out.now a.result.now no_result at4.right.ensures))
+    let which = first-right a.t s a.scratch.now l a.words.now m room share c.in-2.is in
+    rw (which, unopened-right a.t c.in-2.is)
+    (any-scratch (of_right no_right) s a.out.now a.res.now a.scratch.now no-scratch
+    (any-result (of_right no_right) s [] a.out.now a.res.now no_result at4.right.ensures))
 
 pub returns-in-3 : goal.returns-in-3
 returns-in-3 c =
@@ -58,11 +58,11 @@ returns-in-3 c =
     let m = message_with a.a a.residues.now in
     let l = a.input.now in
     let room = length a.out.now in
-    let share = length a.result.now in
+    let share = length a.res.now in
     let n = a.t.m * a.t.m in
     let none = blinder-first-no-result a.t s (length a.scratch.now) (take n l) (drop n l) a.words.now m room of_blinder in
-    let which = first-blinder a.t s a.scratch.now l a.words.now m room share at10.match.keys3 in
-    rw (which, unopened-blinder a.t at10.match.keys3) (any-result (of_blinder no_blinder) s a.scratch.now a.out.now a.result.now none at6.blinder.ensures)
+    let which = first-blinder a.t s a.scratch.now l a.words.now m room share c.in-3.is in
+    rw (which, unopened-blinder a.t c.in-3.is) (any-result (of_blinder no_blinder) s a.scratch.now a.out.now a.res.now none at6.blinder.ensures)
 
 pub returns-in-4 : goal.returns-in-4
 returns-in-4 c =
@@ -74,14 +74,14 @@ returns-in-4 c =
     let m = message_with a.a a.residues.now in
     let l = a.input.now in
     let room = length a.out.now in
-    let share = length a.result.now in
+    let share = length a.res.now in
     let n = a.t.m * a.t.m in
     let no-scratch = solver-first-no-scratch a.t s (take n l) (drop n l) room of_solver in
     let no_result = solver-first-no-result a.t s (take n l) (drop n l) room of_solver in
-    let which = first-solver a.t s a.scratch.now l a.words.now m room share at7.match.keys4 in
-    rw (which, unopened-solver a.t at7.match.keys4)
-    (any-scratch (of_solver no_solver) s a.out.now a.result.now a.scratch.now no-scratch
-    (any-result (of_solver no_solver) s [] a.out.now a.result.now no_result at4.solver.ensures))
+    let which = first-solver a.t s a.scratch.now l a.words.now m room share c.in-4.is in
+    rw (which, unopened-solver a.t c.in-4.is)
+    (any-scratch (of_solver no_solver) s a.out.now a.res.now a.scratch.now no-scratch
+    (any-result (of_solver no_solver) s [] a.out.now a.res.now no_result at4.solver.ensures))
 
 pub returns-in_default : goal.returns-in_default
 unfolding over
@@ -92,6 +92,6 @@ returns-in_default c =
     let m = message_with a.a a.residues.now in
     let l = a.input.now in
     let room = length a.out.now in
-    let share = length a.result.now in
-    let h = c.match.rest in
+    let share = length a.res.now in
+    let h = c.in_default.in_default-own.rest in
     rw (c.refused.ensures, c.of_left.ensures, unopened-other a.t h.0.0.1 h.0.1 h.1, first-other a.t s a.scratch.now l a.words.now m room share h.0.0.0.1 h.0.0.1 h.0.1 h.1)

@@ -17,5 +17,5 @@ returns c =
     let m = message_with a.a a.residues.now in
     let e = at10.left_step-done.ensures in
     rw c.of_left.ensures
-    (carried-leaves (λ _. of_left a.t) tt s [] a.out.now a.result.now
-    (left_step a.t s a.input.now a.words.now m (length a.out.now) (length a.result.now)) at10.left_step-done.result.answer e)
+    (carried-leaves (λ _. of_left a.t) tt s [] a.out.now a.res.now
+    (left_step a.t s a.input.now a.words.now m (length a.out.now) (length a.res.now)) at10.left_step-done.result.answer e)

@@ -18,12 +18,12 @@ returns-then-x-eq-SOLVER c =
     let s = slot_at a.pool.now a.at.size a.at.index in
     let m = message_with a.a a.residues.now in
     let room = length a.out.now in
-    let which = next-solver a.x s a.scratch.now m room (length a.result.now) at7.if-x-eq-SOLVER.true in
+    let which = next-solver a.x s a.scratch.now m room (length a.res.now) at7.if-x-eq-SOLVER.true in
     let no-scratch = solver-next-no-scratch (solver_of a.x) s m room a.x.due of_solver in
     let no_result = solver-next-no-result (solver_of a.x) s m room a.x.due of_solver in
     rw which
-    (any-scratch a.x s a.out.now a.result.now a.scratch.now no-scratch
-    (any-result a.x s [] a.out.now a.result.now no_result at4.solver.ensures))
+    (any-scratch a.x s a.out.now a.res.now a.scratch.now no-scratch
+    (any-result a.x s [] a.out.now a.res.now no_result at4.solver.ensures))
 
 pub returns-then-x-eq-BLINDER : goal.returns-then-x-eq-BLINDER
 returns-then-x-eq-BLINDER c =
@@ -34,7 +34,7 @@ returns-then-x-eq-BLINDER c =
     let a = at22.args in
     let s = slot_at a.pool.now a.at.size a.at.index in
     let m = message_with a.a a.residues.now in
-    let which = next-blinder a.x s a.scratch.now m (length a.out.now) (length a.result.now) at15.if-x-eq-SOLVER.false at13.if-x-eq-BLINDER.true in
+    let which = next-blinder a.x s a.scratch.now m (length a.out.now) (length a.res.now) at15.if-x-eq-SOLVER.false at13.if-x-eq-BLINDER.true in
     rw which at8.blinder.ensures
 
 pub returns : goal.returns
@@ -46,10 +46,10 @@ returns c =
     let a = at16.args in
     let s = slot_at a.pool.now a.at.size a.at.index in
     let m = message_with a.a a.residues.now in
-    let share = length a.result.now in
+    let share = length a.res.now in
     let which = next-right a.x s a.scratch.now m (length a.out.now) share at9.if-x-eq-SOLVER.false at7.if-x-eq-BLINDER.false in
     let no-scratch = right-last-no-scratch (right_of a.x) s m share of_right in
     let no-sent = right-last-no-sent (right_of a.x) s m share of_right in
     rw which
-    (any-scratch a.x s a.out.now a.result.now a.scratch.now no-scratch
-    (any-sent a.x s [] a.result.now a.out.now no-sent at4.right.ensures))
+    (any-scratch a.x s a.out.now a.res.now a.scratch.now no-scratch
+    (any-sent a.x s [] a.res.now a.out.now no-sent at4.right.ensures))

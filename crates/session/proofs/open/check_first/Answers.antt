@@ -27,7 +27,7 @@ returns-in-1 c =
     let s = slot_at a.pool.now a.at.size a.at.index in
     let m = message_with a.a a.residues.now in
     let x = a.input.now in
-    rw (first-left a.t s a.scratch.now a.input.now a.words.now m a.room a.share c.match.keys1)
+    rw (first-left a.t s a.scratch.now a.input.now a.words.now m a.room a.share c.in-1.is)
     (recorded_tells (λ _. of_left a.t) (left_tests a.t s x a.words.now m a.room a.share) (left_effect a.t s x a.words.now m)
     c.check.ensures)
 
@@ -39,7 +39,7 @@ returns-in-2 c =
     let s = slot_at a.pool.now a.at.size a.at.index in
     let m = message_with a.a a.residues.now in
     let y = a.input.now in
-    rw (first-right a.t s a.scratch.now a.input.now a.words.now m a.room a.share c.match.keys2)
+    rw (first-right a.t s a.scratch.now a.input.now a.words.now m a.room a.share c.in-2.is)
     (recorded_tells of_right (right_first_tests a.t s y a.room) (right_first_effect a.t s y) c.check-in-2.ensures)
 
 pub returns-in-3 : goal.returns-in-3
@@ -54,7 +54,7 @@ returns-in-3 c =
     let l = a.input.now in
     let cut = at4.square_of-n.ensures in
     let e = rw (tail-part at4.square_of-n.result l, cut.1, cut.2) at c.check-in-3.ensures in
-    rw (first-blinder a.t s a.scratch.now a.input.now a.words.now m a.room a.share c.match.keys3)
+    rw (first-blinder a.t s a.scratch.now a.input.now a.words.now m a.room a.share c.in-3.is)
     (recorded_tells of_blinder (blinder_first_tests a.t s (length a.scratch.now) (take n l) (drop n l) a.words.now m a.room)
     (blinder_first_effect a.t s (take n l) (drop n l) a.words.now m) e)
 
@@ -70,7 +70,7 @@ returns-in-4 c =
     let l = a.input.now in
     let cut = at4.square_of-n.ensures in
     let e = rw (tail-part at4.square_of-n.result l, cut.1, cut.2) at c.check-in-4.ensures in
-    rw (first-solver a.t s a.scratch.now a.input.now a.words.now m a.room a.share c.match.keys4)
+    rw (first-solver a.t s a.scratch.now a.input.now a.words.now m a.room a.share c.in-4.is)
     (recorded_tells of_solver (solver_first_tests a.t s (take n l) (drop n l) a.room) (solver_first_effect a.t s (take n l) (drop n l)) e)
 
 pub returns-in_default : goal.returns-in_default
@@ -79,5 +79,5 @@ returns-in_default c =
     let a = at7.args in
     let s = slot_at a.pool.now a.at.size a.at.index in
     let m = message_with a.a a.residues.now in
-    let h = c.match.rest in
+    let h = c.in_default.in_default-own.rest in
     rw (first-other a.t s a.scratch.now a.input.now a.words.now m a.room a.share h.0.0.0.1 h.0.0.1 h.0.1 h.1)

@@ -23,14 +23,14 @@ returns-then-x-eq0 c =
     let m = message_with a.a a.residues.now in
     let l = a.input.now in
     let room = length a.out.now in
-    let share = length a.result.now in
+    let share = length a.res.now in
     let told = first-told a.end a.t s a.scratch.now l a.words.now m room share in
     rw (
       over-free a.x a.end a.t s a.scratch.now l a.words.now m room share at17.if-x-eq0.true,
       c.with_record.ensures,
       c.is_accepted.ensures,
     )
-    (over-record a.x (unopened a.end a.t) s a.scratch.now a.out.now a.result.now told at12.first_step-d.result.answer
+    (over-record a.x (unopened a.end a.t) s a.scratch.now a.out.now a.res.now told at12.first_step-d.result.answer
     at12.first_step-d.ensures)
 
 pub returns : goal.returns
@@ -43,10 +43,10 @@ returns c =
     let m = message_with a.a a.residues.now in
     let l = a.input.now in
     let room = length a.out.now in
-    let share = length a.result.now in
+    let share = length a.res.now in
     let step = first_step a.end a.t s a.scratch.now l a.words.now m room share in
     let turn = c.need-open.ensures ∙ sym (judged-false Turn refl) in
     let told = c.worst.ensures ∙ ap₂ lower turn at4.check_first-checked.ensures in
     let which = over-open a.x a.end a.t s a.scratch.now l a.words.now m room share at7.if-x-eq0.false in
     rw (c.refused.ensures, c.answer_of.ensures, which)
-    (open-leaves a.x s a.scratch.now a.out.now a.result.now Turn step c.worst.result told)
+    (open-leaves a.x s a.scratch.now a.out.now a.res.now Turn step c.worst.result told)

@@ -1,19 +1,18 @@
 -- `session::record::of_solver` meets its contract. Assumes nothing.
 use native.Mathlib.Omega.{arith}
 use Rattle.entry.specs.Record.{of_solver}
-use Rattle.local.proofs.Lists.{same_count}
 use Rattle.session.proofs.Arrays.{kept-start}
 use Rattle.session.proofs.record.of_solver.Goals as goal
 
 pub write_copy-requires : goal.write_copy-requires
 write_copy-requires c =
     let at4 = c in
-    let n = same_count at4.args.x.s at4.well-formed.0.1.1.1.1.0.1.0.1 in
+    let n = at4.well_formed.0.1.1.1.1.0.1.0.1 in
     (omega arith, omega arith)
 
 pub returns : goal.returns
 unfolding of_solver
 returns c =
     let at6 = c in
-    let n = same_count at6.args.x.s at6.well-formed.0.1.1.1.1.0.1.0.1 in
+    let n = at6.well_formed.0.1.1.1.1.0.1.0.1 in
     rw (kept-start 16 272 at6.args.x.s _ n c.write_copy.ensures)

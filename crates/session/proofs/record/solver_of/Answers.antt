@@ -1,19 +1,18 @@
 -- `session::record::solver_of` meets its contract. Assumes nothing.
 use native.Mathlib.Omega.{arith}
 use Rattle.entry.specs.Record.{solver_of}
-use Rattle.local.proofs.Lists.{same_count}
 use Rattle.session.proofs.Arrays.{copied-start}
 use Rattle.session.proofs.record.solver_of.Goals as goal
 
 pub write_copy-requires : goal.write_copy-requires
 write_copy-requires c =
     let at4 = c in
-    let n = same_count at4.args.x.kept at4.well-formed.0.1.1.1.1.1.0.1.0.1 in
+    let n = at4.well_formed.0.1.1.1.1.1.0.1.0.1 in
     (omega arith, omega arith)
 
 pub returns : goal.returns
 unfolding solver_of
 returns c =
     let at6 = c in
-    let n = same_count at6.args.x.kept at6.well-formed.0.1.1.1.1.1.0.1.0.1 in
+    let n = at6.well_formed.0.1.1.1.1.1.0.1.0.1 in
     rw (copied-start 16 at6.args.x.kept _ _ (omega arith) (omega arith) c.write_copy.ensures)

@@ -10,11 +10,7 @@ use Rattle.judging.proofs.Leaving.{refused-leaves, step-leaves, as-taken}
 use Rattle.judging.proofs.Fits.{open-placed as placed}
 use Rattle.solver.specs.Groups.{sort_tests, receiving}
 use Rattle.solver.proofs.Known.{determinant-known}
-use borrow.Author.Rules.{rules}
 use Rattle.solver.proofs.det.solver_determinant.Goals as goal
-
-pub enum_told-1 : goal.enum_told-1
-enum_told-1 c = search rules
 
 pub returns-in_default : goal.returns-in_default
 unfolding solver_determinant solver_determinant_tests receiving sort_tests last_tests last_fits
@@ -40,10 +36,9 @@ pub spend_at-requires : goal.spend_at-requires
 unfolding solver_determinant_tests receiving sort_tests last_tests last_fits
 spend_at-requires c =
     let check = c.check-checked in
-    let enum_told-1 = c.enum_told-1 in
     let a = c.args in
     let s = slot_at a.pool.now a.at.size a.at.index in
-    let passed = sym check.ensures ∙ ap checked enum_told-1.given.1 in
+    let passed = sym check.ensures ∙ ap checked c.in-Passed.is in
     let k = determinant-known a.s s (message_with a.a a.residues.now) (length a.out.now) passed in
     placed solver a.s.terms s k.fits.later.session-open
 
@@ -52,11 +47,10 @@ unfolding solver_determinant solver_determinant_tests solver_determinant_effect 
 returns c =
     let far = c in
     let check = far.check-checked in
-    let enum_told-1 = c.enum_told-1 in
     let compute = c.compute-done in
     let spend-at = c.spend_at in
     let a = far.args in
     let s = slot_at a.pool.now a.at.size a.at.index in
-    let passed = sym check.ensures ∙ ap checked enum_told-1.given.1 in
+    let passed = sym check.ensures ∙ ap checked c.in-Passed.is in
     let effect = solver_determinant_effect a.s s (message_with a.a a.residues.now) in
     step-leaves a.s s [] a.out.now [] _ effect passed compute.ensures spend-at.ensures

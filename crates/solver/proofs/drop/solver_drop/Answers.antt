@@ -10,11 +10,7 @@ use Rattle.protocol.proofs.Tests.{open-tests}
 use Rattle.judging.specs.InOrder.{checked}
 use Rattle.judging.proofs.Leaving.{refused-leaves, step-leaves}
 use Rattle.judging.proofs.Fits.{open-placed}
-use borrow.Author.Rules.{rules}
 use Rattle.solver.proofs.drop.solver_drop.Goals as goal
-
-pub enum_told-1 : goal.enum_told-1
-enum_told-1 c = search rules
 
 pub returns-in_default : goal.returns-in_default
 unfolding drop_solver over
@@ -37,9 +33,8 @@ pub returns : goal.returns
 unfolding drop_solver over
 returns c =
     let check-open = c.check_open-checked in
-    let enum_told-1 = c.enum_told-1 in
     let a = c.args in
     let s = slot_at a.pool.now a.at.size a.at.index in
-    let e = sym check-open.ensures ∙ ap checked enum_told-1.given.1 in
+    let e = sym check-open.ensures ∙ ap checked c.in-Passed.is in
     let effect = dropped (closed_solver a.s) (words_spent solver a.s.terms (slot_words s)) [] in
     rw c.session_of.ensures (step-leaves a.s s [] [] [] _ effect e refl c.spend_at.ensures)

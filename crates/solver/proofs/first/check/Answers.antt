@@ -8,11 +8,7 @@ use Rattle.judging.specs.InOrder.{checked}
 use Rattle.judging.proofs.Join.{hands_on, goes-past}
 use Rattle.solver.proofs.Known.{few, inputs-known}
 use Rattle.solver.proofs.Order.{first-phases}
-use borrow.Author.Rules.{rules}
 use Rattle.solver.proofs.first.check.Goals as goal
-
-pub enum_told-1 : goal.enum_told-1
-enum_told-1 c = search rules
 
 pub returns-in_default : goal.returns-in_default
 returns-in_default c =
@@ -33,8 +29,7 @@ pub returns : goal.returns
 unfolding regular_tests
 returns c =
     let check-inputs = c.check_inputs-inputs in
-    let enum_told-1 = c.enum_told-1 in
     let a = c.args in
     (rw c.has_inverse.ensures at c.need.ensures)
     ∙ sym (first-phases a.t (slot_at a.pool.now a.at.size a.at.index) a.l.now a.x.now a.room
-    ∙ goes-past check-inputs.result check-inputs.ensures enum_told-1.given.1)
+    ∙ goes-past check-inputs.result check-inputs.ensures c.in-Passed.is)

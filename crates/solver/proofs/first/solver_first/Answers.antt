@@ -8,11 +8,7 @@ use Rattle.judging.specs.InOrder.{checked}
 use Rattle.judging.proofs.Leaving.{refused-leaves, step-leaves}
 use Rattle.judging.proofs.Fits.{first-placed as placed}
 use Rattle.solver.proofs.Known.{first-known}
-use borrow.Author.Rules.{rules}
 use Rattle.solver.proofs.first.solver_first.Goals as goal
-
-pub enum_told-1 : goal.enum_told-1
-enum_told-1 c = search rules
 
 pub returns-in_default : goal.returns-in_default
 unfolding solver_first
@@ -31,10 +27,9 @@ pub take_up_at-requires : goal.take_up_at-requires
 take_up_at-requires c =
     let far = c in
     let check = c.check-checked in
-    let enum_told-1 = c.enum_told-1 in
     let a = far.args in
     let s = slot_at a.pool.now a.at.size a.at.index in
-    let passed = sym check.ensures ∙ ap checked enum_told-1.given.1 in
+    let passed = sym check.ensures ∙ ap checked c.in-Passed.is in
     placed solver a.t s (first-known a.t s a.l.now a.x.now (length a.out.now) passed).first
 
 pub returns : goal.returns
@@ -42,10 +37,9 @@ unfolding solver_first solver_first_effect
 returns c =
     let far = c in
     let check = far.check-checked in
-    let enum_told-1 = c.enum_told-1 in
     let compute = c.compute-done in
     let take-up-at = c.take_up_at in
     let a = far.args in
     let s = slot_at a.pool.now a.at.size a.at.index in
-    let passed = sym check.ensures ∙ ap checked enum_told-1.given.1 in
+    let passed = sym check.ensures ∙ ap checked c.in-Passed.is in
     step-leaves no_solver s [] a.out.now [] _ (solver_first_effect a.t s a.l.now a.x.now) passed compute.ensures take-up-at.ensures

@@ -1,2 +1,0 @@
--- Apart   the answer of a call by value, taken apart
-pub mod Apart
