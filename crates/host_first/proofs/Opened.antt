@@ -24,7 +24,6 @@ use Rattle.drawing.specs.Sift.{kept_words}
 use Rattle.judging.specs.InOrder.{judged}
 use Rattle.judging.specs.Lowest.{lower}
 use Rattle.judging.proofs.Join.{also, first-passed}
-use Rattle.entry.specs.declared.Session.{Session}
 use Rattle.entry.specs.declared.Report.{Report}
 use Rattle.entry.specs.Bytes.{words_of}
 use Rattle.entry.specs.Steps.{free_tests}

@@ -1,10 +1,7 @@
 -- `host_first::call::first_on` meets its contract. Assumes nothing.
-use mathlib.Core.Path.{sym}
 use lib.ListN.{length}
-use lib.Seq.{length-take-le}
 use Rattle.entry.specs.Entry.{Lent}
 use Rattle.host_first.proofs.Opened.{record-long, first-opened}
-use borrow.Author.Rules.{rules}
 use Rattle.host_first.proofs.call.first_on.Goals as goal
 
 pub with_room-requires : goal.with_room-requires

@@ -40,10 +40,6 @@ pub first_on-requires-2 : goal.first_on-requires-2
 first_on-requires-2 c =
     (c.requires.1, c.requires.2)
 
-pub shape_of-numbers : goal.shape_of-numbers
-shape_of-numbers c =
-    c.numbers-1.given
-
 pub returns : goal.returns
 returns c =
     let a = c.args in

@@ -12,7 +12,6 @@ use Rattle.local.specs.Seen.{end_role}
 use Rattle.local.specs.Entered.{seen_first}
 use Rattle.local.proofs.Proper.{first-proper}
 use Rattle.local.proofs.Within.{words-room, bytes-room, few_words, call-cut}
-use borrow.Author.Rules.{rules}
 use Rattle.host_first.proofs.slot.on_call.Goals as goal
 
 pub slice_bounds-on_slot-end-4 : goal.slice_bounds-on_slot-end-4

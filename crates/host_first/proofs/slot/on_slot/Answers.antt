@@ -19,7 +19,7 @@ use Rattle.host_first.proofs.slot.on_slot.Goals as goal
 pub settle-requires : goal.settle-requires
 settle-requires c =
     let p = c.requires in
-    (p.0, omega (arith, p.1, c.words-1.given), omega (arith, p.2, c.lent-1.given), omega (arith, p.3, c.share-1.given))
+    (p.0, omega (arith, p.1), omega (arith, p.2), omega (arith, p.3))
 
 pub returns : goal.returns
 returns c =

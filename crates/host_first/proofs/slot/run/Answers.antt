@@ -1,19 +1,10 @@
 -- `host_first::slot::run` meets its contract. Assumes nothing.
-use mathlib.Core.Path.{◌∙◌}
 use lib.ListN.{length}
 use Rattle.protocol.specs.Message.{message_with}
 use Rattle.local.specs.Settled.{unopened}
 use Rattle.entry.specs.Steps.{first_step}
 use Rattle.local.proofs.Brought.{run_on}
 use Rattle.host_first.proofs.slot.run.Goals as goal
-
-pub shape_of-words : goal.shape_of-words
-shape_of-words c =
-    c.words-2-1.given ∙ c.words-1.given
-
-pub shape_of-lent : goal.shape_of-lent
-shape_of-lent c =
-    c.lent-2-1.given ∙ c.lent-1.given
 
 pub returns : goal.returns
 returns c =

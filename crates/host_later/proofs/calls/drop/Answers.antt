@@ -1,6 +1,7 @@
 -- `host_later::calls::drop` meets its contract. Assumes nothing.
+use native.Mathlib.Omega.{arith}
 use Rattle.host_later.proofs.Dropped.{nothing_lent}
 use Rattle.host_later.proofs.calls.drop.Goals as goal
 
 pub returns : goal.returns
-returns c = nothing_lent c.line-2-1.given c.result-2-1.given c.drop_with.ensures
+returns c = nothing_lent (omega arith) (omega arith) c.drop_with.ensures

@@ -1,5 +1,5 @@
 -- `host_later::calls::next_with` meets its contract. Assumes nothing.
-use mathlib.Core.Path.{◌∙◌}
+use native.Mathlib.Omega.{arith}
 use Rattle.entry.specs.Entry.{Lent}
 use Rattle.host_parts.proofs.TakenLaws.{taken-message, taken-wrong}
 use Rattle.host_later.proofs.Opened.{later-long, next-opened, next-none}
@@ -40,5 +40,5 @@ returns c =
       result = a.res.now;
     } in
     next-opened l c.check_session-own.ensures a.at.size a.at.index
-    (taken-message _ _ c.take_line-loaded.ensures c.in-Message.is) (c.numbers-1.given ∙ c.requires) c.seen_count-seen.ensures.0
+    (taken-message _ _ c.take_line-loaded.ensures c.in-Message.is) (omega (arith, c.requires)) c.seen_count-seen.ensures.0
     c.residues_in-residues.ensures c.with_room.ensures

@@ -14,7 +14,6 @@ use Rattle.local.specs.Seen.{least, seen, behind, session_role, session_terms, o
 use Rattle.local.specs.Entered.{entered_by, later_step, seen_later}
 use Rattle.local.proofs.Told.{later-behaves}
 use Rattle.local.proofs.Within.{words-room, bytes-room, few_words, call-cut}
-use borrow.Author.Rules.{rules}
 use Rattle.host_later.proofs.slot.on_call.Goals as goal
 
 pub slice_bounds-on_slot-end-4 : goal.slice_bounds-on_slot-end-4

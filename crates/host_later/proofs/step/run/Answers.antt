@@ -1,14 +1,9 @@
 -- `host_later::step::run` meets its contract. Assumes nothing.
-use mathlib.Core.Path.{◌∙◌}
 use lib.ListN.{length}
 use Rattle.protocol.specs.Message.{message_with}
 use Rattle.local.specs.Entered.{later_step}
 use Rattle.local.proofs.Brought.{run_on}
 use Rattle.host_later.proofs.step.run.Goals as goal
-
-pub shape_of-words : goal.shape_of-words
-shape_of-words c =
-    c.words-2-1.given ∙ c.words-1.given
 
 pub returns : goal.returns
 returns c =
