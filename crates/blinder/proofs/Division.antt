@@ -25,7 +25,7 @@ use Rattle.determinant.specs.Session.{div_mod, answer}
 use Rattle.determinant.proofs.Determinant.{det-regular}
 use Rattle.determinant.proofs.Session.{blinding-unit}
 use Rattle.protocol.specs.declared.BlinderSession.{BlinderSession}
-use Rattle.protocol.specs.declared.Answer.TheVariants.{Accepted}
+use Rattle.std.specs.Prelude.{Ok}
 use Rattle.protocol.specs.declared.Refusal.TheVariants.{Singular}
 use Rattle.protocol.specs.Judge.{needs, clear, Judged, refused, done, judge_by, judge}
 use Rattle.protocol.specs.Bounds.{field_fits, all_below}
@@ -113,7 +113,7 @@ first_taken [] = refl
 first_taken (d ∷ l) = refl
 
 pub determinant-computed : (x : BlinderSession) (s : Slot) (scratch out : List ℕ) (a : Message) {by : ℕ} → by ≡ divisor_of x.terms s scratch
-    → computing (Accepted 0) (closed_blinder x) no_message.head (over (zeros (scratch_size x.terms)) scratch) []
+    → computing (Ok 0) (closed_blinder x) no_message.head (over (zeros (scratch_size x.terms)) scratch) []
     (over (mul_mod x.terms.q (get_or a.residues 0 0) (inverse x.terms.q by) ∷ []) out)
     ≡ computed scratch [] out (blinder_determinant_effect x s scratch a)
 unfolding blinder_determinant_effect answer div_mod divisor_of mul_mod over message_parts message_layout parts

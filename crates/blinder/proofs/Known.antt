@@ -20,7 +20,7 @@ use Rattle.algebra.specs.Matrix.{Residues}
 use Rattle.algebra.specs.Words.{over}
 use Rattle.protocol.specs.declared.Terms.{Terms}
 use Rattle.protocol.specs.declared.BlinderSession.{BlinderSession}
-use Rattle.protocol.specs.declared.Answer.TheVariants.{Accepted}
+use Rattle.std.specs.Prelude.{Ok}
 use Rattle.protocol.specs.declared.Refusal.TheVariants.{Size}
 use Rattle.protocol.specs.Judge.{needs, given, done}
 use Rattle.protocol.specs.Bounds.{field_fits, input_tests, room_tests}
@@ -107,7 +107,7 @@ module _ (t : Terms) (s : Slot) (d mm y words : List ℕ) (a : Message) (room : 
 
     pub first-computed : {count : ℕ} {x : BlinderSession} {o : List ℕ} (out : List ℕ) → count ≡ words_read t.q n words
         → x ≡ record { terms = t; due = 3; mm = padded 256 mm; y = padded 16 y } → o ≡ over (first_sent t a.residues l x0 a0) out
-        → computing (Accepted count) x (record { kind = 2; terms = t }) l o [] ≡ computed d out [] (blinder_first_effect t s mm y words a)
+        → computing (Ok count) x (record { kind = 2; terms = t }) l o [] ≡ computed d out [] (blinder_first_effect t s mm y words a)
     unfolding first_sent blinder_first_effect scratch_parts scratch_size join over
     first-computed out e f g =
         rw (e, f, g, size, is_x, is-a, is-l, parts-over (scratch_layout t) d coins-residues)
@@ -174,7 +174,7 @@ module _ (x : BlinderSession) (s : Slot) (a : Message) {scratch : List ℕ} {roo
 
   pub second-computed : {n r due : ℕ} {o : List ℕ} (out : List ℕ) → due ≡ last_kind x.terms.m x.terms.p → n ≡ x.terms.m * x.terms.m → r ≡ side_size x.terms
       → o ≡ over (second_sent x.terms (take n x.mm) (take r x.y) a.residues scratch qm g) out
-      → computing (Accepted 0) (record { terms = x.terms; due = due; mm = x.mm; y = x.y }) (record { kind = 4; terms = x.terms }) scratch o []
+      → computing (Ok 0) (record { terms = x.terms; due = due; mm = x.mm; y = x.y }) (record { kind = 4; terms = x.terms }) scratch o []
       ≡ computed scratch out [] (blinder_second_effect x s scratch a)
   unfolding second_sent blinder_second_effect kept_m kept_y join over
   second-computed out d e f h =

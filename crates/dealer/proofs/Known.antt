@@ -26,8 +26,8 @@ use Rattle.protocol.specs.Deal.{first_role, second_role, draw_size, deal_tests, 
 use Rattle.protocol.proofs.Judge.{passed}
 use Rattle.protocol.proofs.Dealing.{DealFits, deal-step}
 use Rattle.protocol.proofs.Residues.{residues-drawn}
-use Rattle.judging.specs.declared.Check.{Check}
-use Rattle.judging.specs.declared.Check.TheVariants.{Passed}
+use Rattle.judging.specs.InOrder.{Check}
+use Rattle.std.specs.Prelude.{Ok}
 use Rattle.judging.specs.InOrder.{checked, judged}
 use Rattle.judging.specs.Groups.{modulus_tests, number_tests, place_tests}
 use Rattle.judging.proofs.InOrder.{accepted-by}
@@ -46,7 +46,7 @@ use Rattle.dealer.specs.Shape.{Fits, Numbers, Masks, Unknowns, Room}
 
 -- ---- numbers
 
-pub numbers_fit : (s : Sort) (t : Terms) (first second size index : ℕ) {x : Check} → checked x ≡ judged (deal_numbers s t first second size index) → x ≡ Passed
+pub numbers_fit : (s : Sort) (t : Terms) (first second size index : ℕ) {x : Check} → checked x ≡ judged (deal_numbers s t first second size index) → x ≡ Ok tt
     → Numbers s t first second size index
 unfolding deal_numbers size_tests modulus_tests number_tests place_tests tape_size
 numbers_fit s t first second size index told e =
@@ -73,7 +73,7 @@ pub record Known (s : Sort) (t : Terms) (first second : List ℕ) (size index : 
   pub second-inside : index * size + size ≤ length second
 
 pub deal-known : (s : Sort) (t : Terms) (first second : List ℕ) (size index : ℕ) (words : List ℕ) {x : Check}
-    → checked x ≡ judged (deal_tests (slot_at first size index) (slot_at second size index) (request s t words)) → x ≡ Passed
+    → checked x ≡ judged (deal_tests (slot_at first size index) (slot_at second size index) (request s t words)) → x ≡ Ok tt
     → Known s t first second size index words
 unfolding deal draw_size draw_count
 deal-known s t first second size index words told e =
@@ -161,7 +161,7 @@ square-few n h = mul-le-mul {n₁ = n} {m₁ = n} {n₂ = 16} {m₂ = 16} h h
 
 -- ---- raw words
 
-pub coins-enough : (q n : ℕ) (words : List ℕ) {x : Check} → checked x ≡ judged (draw_tests q n words) → x ≡ Passed → n ≤ length (residues_of q words)
+pub coins-enough : (q n : ℕ) (words : List ℕ) {x : Check} → checked x ≡ judged (draw_tests q n words) → x ≡ Ok tt → n ≤ length (residues_of q words)
 unfolding draw_tests
 coins-enough q n words told e = leb-true _ _ (passed (draw_tests q n words) (sym told ∙ ap checked e)).0.0
 

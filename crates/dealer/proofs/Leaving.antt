@@ -10,7 +10,7 @@ use lib.ListN.{length, take, drop}
 use borrow.Rule.Slice.PartMut.{put_mid}
 use Rattle.algebra.specs.Words.{over}
 use Rattle.protocol.specs.declared.Refusal.{Refusal}
-use Rattle.protocol.specs.declared.Answer.TheVariants as answer
+use Rattle.std.specs.Prelude.{Ok, Err}
 use Rattle.protocol.specs.Judge.{refused, done}
 use Rattle.protocol.specs.Drawing.{words_read}
 use Rattle.protocol.specs.Tape.{slot_at, slot_words, pool_with}
@@ -29,7 +29,7 @@ half_back pool ys half size index n e =
 
 module _ (first second : List ℕ) (size index : ℕ) (r : Request) where
   pub deal-refused : {e : Refusal} → judged (deal_tests (slot_at first size index) (slot_at second size index) r) ≡ refused e
-      → ◌≡◌ {A = Pools} (record { answer = answer_reply (answer.Refused e); first = first; second = second })
+      → ◌≡◌ {A = Pools} (record { answer = answer_reply (Err e); first = first; second = second })
       (pools first second (deal first second size index r))
   unfolding deal
   deal-refused h = ap (pools first second) (sym (refused-by _ _ h))
@@ -38,7 +38,7 @@ module _ (first second : List ℕ) (size index : ℕ) (r : Request) where
       → read ≡ words_read r.q (draw_size r) r.words
       → first' ≡ pool_with (slot_at first size index) (over (first_half_words r) (slot_words (slot_at first size index)))
       → second' ≡ pool_with (slot_at second size index) (over (second_half_words r) (slot_words (slot_at second size index)))
-      → ◌≡◌ {A = Pools} (record { answer = answer_reply (answer.Accepted read); first = first'; second = second' })
+      → ◌≡◌ {A = Pools} (record { answer = answer_reply (Ok read); first = first'; second = second' })
       (pools first second (deal first second size index r))
   unfolding deal dealt_effect dealt_over first_half_words second_half_words
   deal-done h e f s = rw (e, f, s) (sym (ap (pools first second) (accepted-by _ _ h)))

@@ -14,7 +14,7 @@ use lib.ListN.{length}
 use Rattle.algebra.specs.Matrix.{Residues, zeros}
 use Rattle.algebra.specs.Count.{parts, total}
 use Rattle.protocol.specs.declared.Terms.{Terms}
-use Rattle.protocol.specs.declared.Answer.TheVariants.{Refused}
+use Rattle.std.specs.Prelude.{Err}
 use Rattle.protocol.specs.declared.Refusal.TheVariants.{Singular}
 use Rattle.protocol.specs.Judge.{refused, done}
 use Rattle.protocol.specs.Drawing.{residues_of, drawn}
@@ -83,7 +83,7 @@ left_by e = record {
 
 -- a message of the row's kind; none where the row has none, or it answered 10
 abbrev pub Sends : StepKind → Effect Session → Type 0
-Sends k e = ((e.sent ≡ no_message) × (((row k).sends ≡ 0) ⊎ (e.answer ≡ Refused Singular))) ⊎ MessageFits (row k).sends (terms_in e.session) e.sent
+Sends k e = ((e.sent ≡ no_message) × (((row k).sends ≡ 0) ⊎ (e.answer ≡ Err Singular))) ⊎ MessageFits (row k).sends (terms_in e.session) e.sent
 
 -- the message that it took fits; in a product the facing end sends no other
 abbrev pub Hears : Row → Terms → List Message → Type 0

@@ -13,8 +13,8 @@ use Rattle.algebra.specs.Elimination.{regular}
 use Rattle.protocol.specs.declared.Terms.{Terms}
 use Rattle.protocol.specs.declared.SolverSession.{SolverSession}
 use Rattle.protocol.specs.declared.BlinderSession.{BlinderSession}
-use Rattle.protocol.specs.declared.Answer.{Answer}
-use Rattle.protocol.specs.declared.Answer.TheVariants.{Accepted, Refused}
+use Rattle.protocol.specs.Answer.{Answer}
+use Rattle.std.specs.Prelude.{Ok, Err}
 use Rattle.protocol.specs.declared.Refusal.TheVariants.{Singular}
 use Rattle.protocol.specs.Drawing.{words_for}
 use Rattle.protocol.specs.Bounds.{all_below}
@@ -129,18 +129,18 @@ f-stage y v s m room seen o e (s-over d) = absurd (omega (arith, o.later.due-is,
 
 -- its last step accepts message 4, or refuses it by 10 and closes the session
 module _ (y : SolverSession) (s : Slot) (m : Message) where
-  takes : regular y.terms.q y.terms.m (joint_sum y s m) ≡ true → (solver_last_effect y s m).answer ≡ Accepted 0
+  takes : regular y.terms.q y.terms.m (joint_sum y s m) ≡ true → (solver_last_effect y s m).answer ≡ Ok 0
   unfolding solver_last_effect
   takes r = rw r
 
-  refuses : regular y.terms.q y.terms.m (joint_sum y s m) ≡ false → ((solver_last_effect y s m).answer ≡ Refused Singular) × ((solver_last_effect y s m).sent ≡ no_message)
+  refuses : regular y.terms.q y.terms.m (joint_sum y s m) ≡ false → ((solver_last_effect y s m).answer ≡ Err Singular) × ((solver_last_effect y s m).sent ≡ no_message)
   unfolding solver_last_effect
   refuses r = (rw r, rw r)
 
 -- where it accepts message 4, by the stage before it: of either sort
 module _ {kind : ℕ} (y : SolverSession) (v : View) (s : Slot) (m : Message) (room : ℕ) (seen : SolverSeen y v) (last : LastStep y.terms (suc kind))
     (o : tests.SolverFits 4 y s m (message_size (suc kind) y.terms) room) (e : matrices solver y.terms (slot_words s) ≡ v.half)
-    (own : MessageFits (suc kind) y.terms (last.effect y s m).sent) (taken : (last.effect y s m).answer ≡ Accepted 0) where
+    (own : MessageFits (suc kind) y.terms (last.effect y s m).sent) (taken : (last.effect y s m).answer ≡ Ok 0) where
   pub last-stage : SolverStage y.terms v.half seen.l seen.x y v.received
       → Known solver y.terms (view_with v (v.sent ++ said (last.effect y s m).sent) (v.received ++ heard (last.effect y s m).answer (m ∷ [])))
   unfolding solver_first_effect solver_second_effect

@@ -21,7 +21,7 @@ use Rattle.algebra.proofs.Lists.{residues-none}
 use Rattle.determinant.specs.Session.{answer}
 use Rattle.protocol.specs.declared.Terms.{Terms}
 use Rattle.protocol.specs.declared.SolverSession.{SolverSession}
-use Rattle.protocol.specs.declared.Answer.TheVariants.{Refused}
+use Rattle.std.specs.Prelude.{Err}
 use Rattle.protocol.specs.declared.Refusal.TheVariants.{Singular}
 use Rattle.protocol.specs.Judge.{done}
 use Rattle.protocol.specs.Bounds.{system, columns}
@@ -226,7 +226,7 @@ first_goes o handed t k s u terms held f = let law = first-law t k s u in (law.e
 -- t, or nothing where W + V is singular
 t-sends : (y : SolverSession) (s : Slot) (m : Message) → TermsFit system y.terms → last_kind y.terms.m y.terms.p ≡ 5 → (b : Bool) → regular y.terms.q y.terms.m (joint_sum y s m) ≡ b
     → let e = solver_last_effect y s m in
-    ((e.sent ≡ no_message) × ((◌≡◌ {A = ℕ} 5 0) ⊎ (e.answer ≡ Refused Singular))) ⊎ MessageFits 5 y.terms e.sent
+    ((e.sent ≡ no_message) × ((◌≡◌ {A = ℕ} 5 0) ⊎ (e.answer ≡ Err Singular))) ⊎ MessageFits 5 y.terms e.sent
 t-sends y s m t k true e = inr (t-sent y s m t k e)
 t-sends y s m t k false e = inl (unfold solver_last_effect in (rw e, inr (rw e)))
 

@@ -7,8 +7,8 @@
 use Rattle.std.specs.Prelude.{◌≡◌, List, [], ◌∷◌, ◌++◌, ℕ}
 use Rattle.std.proofs.Math.Decide.{ℕ_discrete}
 use Rattle.protocol.specs.declared.Terms.{Terms}
-use Rattle.protocol.specs.declared.Answer.{Answer}
-use Rattle.protocol.specs.declared.Answer.TheVariants.{Accepted, Refused}
+use Rattle.protocol.specs.Answer.{Answer}
+use Rattle.std.specs.Prelude.{Ok, Err}
 use Rattle.protocol.specs.Bounds.{product}
 use Rattle.protocol.specs.Tape.{left, sort_of}
 use Rattle.protocol.specs.Message.{Message, no_terms}
@@ -35,9 +35,9 @@ taken_later k = (going k).taken
 
 -- a message that a step refuses, be it by 10, isn't accepted
 abbrev pub heard : Answer → List Message → List (List ℕ)
-heard (Accepted n) [] = []
-heard (Accepted n) (a ∷ ms) = a.residues ∷ []
-heard (Refused r) ms = []
+heard (Ok n) [] = []
+heard (Ok n) (a ∷ ms) = a.residues ∷ []
+heard (Err r) ms = []
 
 -- the party's half as it was dealt there
 abbrev pub half_at : Party → Place → List (List ℕ)

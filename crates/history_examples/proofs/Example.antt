@@ -14,7 +14,7 @@ use Rattle.algebra.specs.Count.{both, eq_list, sum_lists, count}
 use Rattle.algebra.specs.Inverse.{id_mat, are_inverse, has_inverse}
 use Rattle.algebra.specs.Elimination.{step, solution}
 use Rattle.protocol.specs.declared.Terms.{Terms}
-use Rattle.protocol.specs.declared.Answer.TheVariants.{Accepted, Refused}
+use Rattle.std.specs.Prelude.{Ok, Err}
 use Rattle.protocol.specs.declared.Refusal.TheVariants.{Singular}
 use Rattle.protocol.specs.Bounds.{product}
 use Rattle.protocol.specs.Tape.{header_size, EMPTY, READY, SPENT, is_slot, slot_words, header_words, status_of, spent, Role, sort_of, left, right, blinder, solver}
@@ -422,14 +422,14 @@ singular-step : (step_in (newest end.log 0) ≡ some (goes_on (solver-last (msg 
 unfolding list-rules sum_lists count eq_list id_mat are_inverse has_inverse
 singular-step = (refl, refl)
 
-pub singular-here : (e : Did) × (newest end.log 0 ≡ some e) × (e.effect.answer ≡ Refused Singular)
+pub singular-here : (e : Did) × (newest end.log 0 ≡ some e) × (e.effect.answer ≡ Err Singular)
 singular-here = go (newest end.log 0) refl singular-step.0
   where
     same : {k k' : Step} → some k ≡ some k' → k ≡ k'
     same h = cc
 
     go : (x : Option Did) → newest end.log 0 ≡ x → step_in x ≡ some (goes_on (solver-last (msg 4 (system-terms 5) (3 ∷ 4 ∷ [])) 1))
-        → (e : Did) × (newest end.log 0 ≡ some e) × (e.effect.answer ≡ Refused Singular)
+        → (e : Did) × (newest end.log 0 ≡ some e) × (e.effect.answer ≡ Err Singular)
     go none q h = none≢ h
     go (some e) q h = (
       e,
@@ -437,5 +437,5 @@ singular-here = go (newest end.log 0) refl singular-step.0
       right-here.singular 1 0 (paired end blinder 1 0 5 _ _ _ _ singular-met) e (msg 4 (system-terms 5) (3 ∷ 4 ∷ [])) 1 q (same h)
           (ap (take 2) singular-met.6 ∙ sym (ap (take 2) singular-met.7))
           (ap (λ (z : List (List ℕ)). take 1 z ++ ((3 ∷ 4 ∷ []) ∷ [])) singular-met.8 ∙ sym singular-met.9)
-          ∙ ap (λ (b : Bool). cond b (Accepted 0) (Refused Singular)) singular-step.1,
+          ∙ ap (λ (b : Bool). cond b (Ok 0) (Err Singular)) singular-step.1,
     )

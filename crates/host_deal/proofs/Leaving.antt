@@ -20,8 +20,8 @@ use Rattle.algebra.specs.Words.{over, written_at}
 use Rattle.protocol.specs.declared.Terms.{Terms}
 use Rattle.protocol.specs.declared.Refusal.{Refusal}
 use Rattle.protocol.specs.declared.Refusal.TheVariants.{Size}
-use Rattle.protocol.specs.declared.Answer.{Answer}
-use Rattle.protocol.specs.declared.Answer.TheVariants.{Accepted, Refused}
+use Rattle.protocol.specs.Answer.{Answer}
+use Rattle.std.specs.Prelude.{Ok, Err}
 use Rattle.protocol.specs.Judge.{refusal_number, Reply, needs, clear, Judged, refused, done, judge, judge_by}
 use Rattle.protocol.specs.Bounds.{Sort, product, system, sides_fit}
 use Rattle.protocol.specs.Step.{answer_reply}
@@ -104,7 +104,7 @@ abbrev leaving : Answer → (first second : List ℕ) → Pools
 leaving a first second = record { answer = answer_reply a; first = first; second = second }
 
 module _ (at : Part) (first second v w x y : List ℕ) (a : Answer) where
-  back-refused : (o : Judged Dealt) {r : Refusal} → leaving a x y ≡ pools v w o → a ≡ Refused r
+  back-refused : (o : Judged Dealt) {r : Refusal} → leaving a x y ≡ pools v w o → a ≡ Err r
       → leaving a first second ≡ back at first second o
   back-refused (refused z) h e = ap (λ (p : Pools). record { answer = p.answer; first = first; second = second }) h
   back-refused (done d) {r} h e =
@@ -112,7 +112,7 @@ module _ (at : Part) (first second v w x y : List ℕ) (a : Answer) where
       absurd (omega (arith, not-zero r, n))
 
   back_done : (o : Judged Dealt) {n : ℕ} {l m : List ℕ} → leaving a x y ≡ pools v w o
-      → a ≡ Accepted n → l ≡ written_at (at.from * 4) (bytes_of x) first → m ≡ written_at (at.from * 4) (bytes_of y) second
+      → a ≡ Ok n → l ≡ written_at (at.from * 4) (bytes_of x) first → m ≡ written_at (at.from * 4) (bytes_of y) second
       → leaving a l m ≡ back at first second o
   back_done (refused z) h e p q =
       let n : 0 ≡ refusal_number z = ap (λ (p : Pools). p.answer.number) (rw e at h) in
@@ -132,12 +132,12 @@ module _ (at : Part) (s : Sort) (t : Terms) (first second words v w : List ℕ) 
   unfolding dealt_copies
   same = rw (e, f) at h
 
-  pub copied-refused : {r : Refusal} → a ≡ Refused r → leaving a first second ≡ copied at s t first second words
+  pub copied-refused : {r : Refusal} → a ≡ Err r → leaving a first second ≡ copied at s t first second words
   unfolding copied
   copied-refused z =
       back-refused at first second (part_words at first) (part_words at second) x y a (dealt_copies at s t first second words) same z
 
-  pub copied-done : {n : ℕ} {l m : List ℕ} → a ≡ Accepted n → l ≡ written_at (at.from * 4) (bytes_of x) first
+  pub copied-done : {n : ℕ} {l m : List ℕ} → a ≡ Ok n → l ≡ written_at (at.from * 4) (bytes_of x) first
       → m ≡ written_at (at.from * 4) (bytes_of y) second → leaving a l m ≡ copied at s t first second words
   unfolding copied
   copied-done z p q =
@@ -147,14 +147,14 @@ module _ (at : Part) (s : Sort) (t : Terms) (first second words v w : List ℕ) 
 report-told : (at : Part) (read : ℕ) (first second x y : List ℕ) (a : Answer) (o : Judged Dealt)
     → leaving a x y ≡ back at first second o
     → ◌≡◌ {A = Dealing} (record { report = report_of a read; first = x; second = y }) (reported at read first second o)
-report-told at read first second x y (Accepted n) (done d) h =
+report-told at read first second x y (Ok n) (done d) h =
     ap (λ (p : Pools). record { report = record { number = 0; read = read; bytes = 0 }; first = p.first; second = p.second }) h
-report-told at read first second x y (Accepted n) (refused z) h =
+report-told at read first second x y (Ok n) (refused z) h =
     let e : 0 ≡ refusal_number z = ap (λ (p : Pools). p.answer.number) h in
     absurd (omega (arith, not-zero z, e))
-report-told at read first second x y (Refused r) (refused z) h =
+report-told at read first second x y (Err r) (refused z) h =
     ap (λ (p : Pools). record { report = record { number = p.answer.number; read = 0; bytes = 0 }; first = p.first; second = p.second }) h
-report-told at read first second x y (Refused r) (done d) h =
+report-told at read first second x y (Err r) (done d) h =
     let e : refusal_number r ≡ 0 = ap (λ (p : Pools). p.answer.number) h in
     absurd (omega (arith, not-zero r, e))
 
@@ -178,7 +178,7 @@ module _ (first second : List ℕ) (size index : ℕ) (words : List ℕ) where
   none-refused = own-refused (record { read = 0; first = []; second = [] })
 
   pub other-sort : (sort tape q m k p : ℕ) → 1 < sort
-      → ◌≡◌ {A = Dealing} (record { report = report_of (Refused Size) 0; first = first; second = second })
+      → ◌≡◌ {A = Dealing} (record { report = report_of (Err Size) 0; first = first; second = second })
       (deal_on sort first second size index tape q m k p words)
   unfolding deal_on
   other-sort sort tape q m k p h =

@@ -8,8 +8,8 @@
 use Rattle.std.specs.Prelude.{◌≡◌, cond, List, [], ℕ, ◌*◌, ◌≤◌, eqb, take, drop}
 use Rattle.algebra.specs.Words.{written_at}
 use Rattle.protocol.specs.declared.Terms.{Terms}
-use Rattle.protocol.specs.declared.Answer.{Answer}
-use Rattle.protocol.specs.declared.Answer.TheVariants.{Accepted, Refused}
+use Rattle.protocol.specs.Answer.{Answer}
+use Rattle.std.specs.Prelude.{Ok, Err}
 use Rattle.protocol.specs.Judge.{Judged, refused, done}
 use Rattle.protocol.specs.Bounds.{Sort}
 use Rattle.protocol.specs.Drawing.{words_read}
@@ -40,9 +40,9 @@ dealt_copies at s t first second words = deal (part_words at first) (part_words 
 
 -- from the bytes of both pools as they were
 abbrev pub back : Part → (first second : List ℕ) → Judged Dealt → Pools
-back at first second (refused r) = record { answer = answer_reply (Refused r); first = first; second = second }
+back at first second (refused r) = record { answer = answer_reply (Err r); first = first; second = second }
 back at first second (done d) = record {
-  answer = answer_reply (Accepted d.read);
+  answer = answer_reply (Ok d.read);
   first = written_at (at.from * 4) (bytes_of d.first) first;
   second = written_at (at.from * 4) (bytes_of d.second) second;
 }
@@ -51,8 +51,8 @@ unfoldable pub copied : Part → Sort → Terms → (first second words : List �
 copied at s t first second words = back at first second (dealt_copies at s t first second words)
 
 abbrev pub report_of : Answer → (read : ℕ) → Report
-report_of (Accepted n) read = record { number = 0; read = read; bytes = 0 }
-report_of (Refused r) read = refusal_report r
+report_of (Ok n) read = record { number = 0; read = read; bytes = 0 }
+report_of (Err r) read = refusal_report r
 
 -- of all raw words `read` were read
 abbrev pub reported : Part → (read : ℕ) → (first second : List ℕ) → Judged Dealt → Dealing

@@ -18,8 +18,8 @@ use borrow.Author.Tests.{ne_eqb, eq-eqb, le-leb, lt-leb}
 use Rattle.algebra.specs.Words.{over}
 use Rattle.algebra.specs.Count.{both}
 use Rattle.protocol.specs.declared.Head.{Head}
-use Rattle.protocol.specs.declared.Answer.{Answer}
-use Rattle.protocol.specs.declared.Answer.TheVariants.{Accepted, Refused}
+use Rattle.protocol.specs.Answer.{Answer}
+use Rattle.std.specs.Prelude.{Ok, Err}
 use Rattle.protocol.specs.declared.Refusal.{Refusal}
 use Rattle.protocol.specs.declared.Refusal.TheVariants.{Size}
 use Rattle.protocol.specs.Bounds.{product, sides_fit}
@@ -113,11 +113,11 @@ module _ (read : ℕ) (x : Session) (h : Head) (ws ls rs us : List ℕ) (l : Len
 -- ---- by the answer
 
 module _ (sums : Bool) (read : ℕ) (answer : Answer) (x : Session) (h : Head) (ws ls rs us : List ℕ) (l : Lent) where
-  pub stored-accepted : {n : ℕ} {after : Left} → answer ≡ Accepted n → after ≡ stored_sent read x h ws ls rs us l
+  pub stored-accepted : {n : ℕ} {after : Left} → answer ≡ Ok n → after ≡ stored_sent read x h ws ls rs us l
       → after ≡ stored sums read answer x h ws ls rs us l
   stored-accepted e is = rw e is
 
-  module _ {r : Refusal} (e : answer ≡ Refused r) {report : Report} (is : report ≡ refusal_report r) where
+  module _ {r : Refusal} (e : answer ≡ Err r) {report : Report} (is : report ≡ refusal_report r) where
     pub stored-sum : {host pool scratch result : List ℕ} → both sums (is_singular r) ≡ true
         → host ≡ over (bytes_of (record_words x)) l.host
         → pool ≡ over (bytes_of ws) l.pool

@@ -19,8 +19,9 @@ use Rattle.algebra.specs.Count.{both}
 use Rattle.protocol.specs.declared.Refusal.{Refusal}
 use Rattle.protocol.specs.Judge.{place_of, Test, needs, clear, Judged, refused, done}
 use Rattle.protocol.proofs.Judge.{accepts, passed, all_append, all_split, lowest, stops, Lowest, clear-append, all-clear, one-fails}
-use Rattle.judging.specs.declared.Check.{Check}
-use Rattle.judging.specs.declared.Check.TheVariants.{Passed, Refused}
+use Rattle.judging.specs.InOrder.{Check}
+use Rattle.std.specs.Prelude.{IsErrAnd}
+use Rattle.std.proofs.lemmas.Result.{err_from_is_err_and}
 use Rattle.judging.specs.InOrder.{checked, in_order, verdict, sorted, judged, after}
 use Rattle.judging.proofs.InOrder.{judge-sorted, verdict-then}
 use Rattle.judging.specs.Lowest.{lower, in_phases}
@@ -129,8 +130,8 @@ last-phase r ts us h k = judged-join ts us ∙ go (judged ts) refl
 
 -- ---- an inner answer, handed on or passed
 
-pub hands_on : (x : Check) {r : Refusal} {v : Judged Unit} (w : Judged Unit) → checked x ≡ v → x ≡ Refused r → checked x ≡ after v w
-hands_on x {r} {v} w told e = let is : v ≡ refused r = sym told ∙ ap checked e in rw (e, is)
+pub hands_on : (x : Check) {r : Refusal} {v : Judged Unit} (w : Judged Unit) → IsErrAnd x (λ s. s ≡ r) → refused r ≡ v → checked x ≡ after v w
+hands_on x {r} {v} w gives e = let p = err_from_is_err_and x gives in rw (p.1, p.2, sym e) refl
 
-pub goes-past : (x : Check) {v w : Judged Unit} → checked x ≡ v → x ≡ Passed → after v w ≡ w
-goes-past x {v} {w} told e = let is : v ≡ done tt = sym told ∙ ap checked e in rw is
+pub goes-past : {v w : Judged Unit} → done tt ≡ v → after v w ≡ w
+goes-past {v} {w} e = rw (sym e) refl

@@ -10,7 +10,7 @@ use Rattle.algebra.specs.Words.{over}
 use Rattle.protocol.specs.declared.Head.{Head}
 use Rattle.protocol.specs.declared.Terms.{Terms}
 use Rattle.protocol.specs.declared.Refusal.{Refusal}
-use Rattle.protocol.specs.declared.Answer.TheVariants.{Refused}
+use Rattle.std.specs.Prelude.{Err}
 use Rattle.protocol.specs.Judge.{Test, refused, done, judge}
 use Rattle.protocol.specs.Tape.{Slot, pool_with}
 use Rattle.protocol.specs.Message.{Message, message_with, no_message}
@@ -23,7 +23,7 @@ use Rattle.judging.specs.Leaves.{Leaves, leaves, Computed, computed, taken}
 -- everything is as it was
 abbrev pub kept : {S : Type 0} → Refusal → S → Slot → (scratch sent result : List ℕ) → Leaves S
 kept r x s scratch sent result = record {
-  answer = answer_reply (Refused r);
+  answer = answer_reply (Err r);
   session = x;
   head = no_message.head;
   pool = s.pool;

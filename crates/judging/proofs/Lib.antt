@@ -10,6 +10,7 @@
 -- Leaving  what a step leaves, refused and accepted
 pub mod InOrder
 pub mod Flags
+pub mod Places
 pub mod Join
 pub mod KindLaws
 pub mod Header

@@ -1,21 +1,23 @@
 -- Tests made one after the other: how code checks. The laws in proofs/InOrder tie this to `judge`. Assumes nothing.
-use Rattle.std.specs.Prelude.{cond, List, [], ◌∷◌, ◌++◌, eqb}
+use Rattle.std.specs.Prelude.{cond, List, [], ◌∷◌, ◌++◌, eqb, Ok, Err}
+use Rattle.std.specs.declared.result.Result.{Result}
 use Rattle.protocol.specs.declared.Refusal.{Refusal}
-use Rattle.protocol.specs.declared.Answer.{Answer}
-use Rattle.protocol.specs.declared.Answer.TheVariants as answer
+use Rattle.protocol.specs.Answer.{Answer}
 use Rattle.protocol.specs.Judge.{refusal_number, refusals, Test, needs, Judged, refused, done, judge}
-use Rattle.judging.specs.declared.Check.{Check}
-use Rattle.judging.specs.declared.Check.TheVariants.{Passed, Refused}
 
--- what a check function answers, as a judgement
+-- what a check function answers
+abbrev pub Check : Type 0
+Check = Result Unit Refusal
+
+-- the same as a judgement
 abbrev pub checked : Check → Judged Unit
-checked Passed = done tt
-checked (Refused r) = refused r
+checked (Ok u) = done tt
+checked (Err r) = refused r
 
 -- the answer of a call that draws nothing
 abbrev pub answer_of : Check → Answer
-answer_of Passed = answer.Accepted 0
-answer_of (Refused r) = answer.Refused r
+answer_of (Ok u) = Ok 0
+answer_of (Err r) = Err r
 
 -- the first test that fails gives its refusal
 unfoldable pub in_order : {A : Type 0} → List Test → A → Judged A

@@ -7,7 +7,7 @@ use Rattle.std.specs.Prelude.{List, ℕ}
 use Rattle.algebra.specs.Words.{over}
 use Rattle.protocol.specs.declared.Head.{Head}
 use Rattle.protocol.specs.declared.Terms.{Terms}
-use Rattle.protocol.specs.declared.Answer.{Answer}
+use Rattle.protocol.specs.Answer.{Answer}
 use Rattle.protocol.specs.Judge.{Reply}
 use Rattle.protocol.specs.Tape.{Slot}
 use Rattle.protocol.specs.Message.{Message}

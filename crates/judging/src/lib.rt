@@ -1,5 +1,5 @@
-// Judging: the tests that calls share. A check function answers an enum, which its caller takes apart by `let else` and hands on; its contract says
-// that it judges the tests of a group (specs/Groups, specs/Received).
+// Judging: the tests that calls share. A check function answers a `Check`, which its caller hands on by `?`; its contract says that it judges the
+// tests of a group (specs/Groups, specs/Received).
 //   Check, answer_of   what a group of tests answers, and the same as a call's answer
 //   order              one test, and the worse of two checks: the order in which refusals are given
 //   message            a message's kind and size
@@ -20,23 +20,17 @@ pub mod step;
 ghost use Rattle.std.specs.Prelude.{◌≡◌};
 ghost use Rattle.judging.specs.InOrder.{answer_of};
 
-pub use order::{need, number_of, worst};
+pub use order::{need, worst};
 use protocol::{Answer, Refusal};
 pub use step::check_input;
 
 // What a group of tests answers.
-#[derive(Clone, Copy)]
-pub enum Check {
-    Passed,
-    Refused(Refusal),
-}
+pub type Check = Result<(), Refusal>;
 
 // A check, as the answer of a call that draws nothing.
 pub fn answer_of(c: Check) -> Answer
     ensures { result ≡ answer_of c }
 {
-    match c {
-        Check::Passed => Answer::Accepted(0),
-        Check::Refused(r) => Answer::Refused(r),
-    }
+    c?;
+    Ok(0)
 }

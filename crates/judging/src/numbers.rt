@@ -35,9 +35,9 @@ fn check_field(answer: FieldAnswer) -> Check
     ensures { checked result ≡ field_judged answer }
 {
     let FieldAnswer::Ready(_) = answer else {
-        return Check::Refused(refusal_in(answer));
+        return Err(refusal_in(answer));
     };
-    Check::Passed
+    Ok(())
 }
 
 pub fn check_modulus(end: End, q: u32) -> Check
@@ -107,10 +107,7 @@ fn check_ids(t: Terms, fits: bool) -> Check
 pub fn check_sizes(end: End, t: Terms, pool: usize, at: Place) -> Check
     ensures { checked result ≡ judged (number_tests (sort end) t ++ place_tests (role end) t pool at.size at.index) }
 {
-    let numbers = check_ids(t, sides_fit(end, t.m, t.k, t.p));
-    let Check::Passed = numbers else {
-        return numbers;
-    };
+    check_ids(t, sides_fit(end, t.m, t.k, t.p))?;
     let slot = need(Refusal::Size, is_slot(pool, at));
     let half = need(Refusal::Size, half_size(end, t) <= at.size);
     worst(slot, half)
@@ -123,10 +120,7 @@ pub fn check_head(a: Head, count: usize) -> Check
     let t = a.terms;
     let last = need(Refusal::Size, last_fits(a.kind, t));
     let numbers = check_ids(t, kind_sides_fit(a.kind, t.m, t.k, t.p));
-    let head = worst(last, numbers);
-    let Check::Passed = head else {
-        return head;
-    };
+    worst(last, numbers)?;
     need(Refusal::Size, count == message_size(a.kind, t))
 }
 

@@ -42,7 +42,7 @@ pub fn check_coins(q: u32, n: usize, words: &[u32]) -> Check
     ensures { checked result ≡ judged (draw_tests q n words.now) }
 {
     match read(q, n, words) {
-        Reading::Enough(_) => Check::Passed,
-        Reading::Dry => Check::Refused(Refusal::Dry),
+        Reading::Enough(_) => Ok(()),
+        Reading::Dry => Err(Refusal::Dry),
     }
 }

@@ -51,10 +51,7 @@ fn check_ready(end: End, t: Terms, slot: &[u32]) -> Check
 pub fn check_first(end: End, t: Terms, pool: &[u32], at: Place) -> Check
     ensures { checked result ≡ judged (first_tests (role end) t (slot_in pool.now at)) }
 {
-    let numbers = check_numbers(end, t, pool.len(), at);
-    let Check::Passed = numbers else {
-        return numbers;
-    };
+    check_numbers(end, t, pool.len(), at)?;
     check_ready(end, t, slot(pool, at))
 }
 
@@ -73,10 +70,7 @@ pub fn check_open(end: End, due: u32, t: Terms, pool: &[u32], at: Place) -> Chec
     if due == 0 {
         return check_none_due(pool.len(), at);
     }
-    let numbers = check_numbers(end, t, pool.len(), at);
-    let Check::Passed = numbers else {
-        return numbers;
-    };
+    check_numbers(end, t, pool.len(), at)?;
     check_tape(end, IN_USE, t, slot(pool, at))
 }
 
@@ -110,10 +104,7 @@ pub fn check_first_received(
 ) -> Check
     ensures { checked result ≡ judged (message_tests (message_with a residues.now) ++ (first_tests (role end) t (slot_in pool.now at) ++ due_tests kind t (message_with a residues.now))) }
 {
-    let numbers = check_first_numbers(end, kind, t, a, residues.len(), pool.len(), at);
-    let Check::Passed = numbers else {
-        return numbers;
-    };
+    check_first_numbers(end, kind, t, a, residues.len(), pool.len(), at)?;
     check_arrived(end, READY, t, a, residues, slot(pool, at))
 }
 
@@ -152,10 +143,7 @@ pub fn check_later(
     if due == 0 {
         return received::check_closed(a, count, pool.len(), at);
     }
-    let numbers = check_later_numbers(end, kind, due, t, a, count, pool.len(), at);
-    let Check::Passed = numbers else {
-        return numbers;
-    };
+    check_later_numbers(end, kind, due, t, a, count, pool.len(), at)?;
     check_arrived(end, IN_USE, t, a, residues, slot(pool, at))
 }
 
@@ -164,7 +152,7 @@ pub fn check_room(due: u32, fits: bool) -> Check
     ensures { checked result ≡ judged (given (is_open due) (needs Size fits ∷ [])) }
 {
     if due == 0 {
-        return Check::Passed;
+        return Ok(());
     }
     need(Refusal::Size, fits)
 }

@@ -13,7 +13,7 @@ use Rattle.protocol.specs.declared.Terms.{Terms}
 use Rattle.protocol.specs.declared.RightSession.{RightSession}
 use Rattle.protocol.specs.declared.SolverSession.{SolverSession}
 use Rattle.protocol.specs.declared.BlinderSession.{BlinderSession}
-use Rattle.protocol.specs.declared.Answer.TheVariants.{Accepted, Refused}
+use Rattle.std.specs.Prelude.{Ok, Err}
 use Rattle.protocol.specs.declared.Refusal.TheVariants.{Singular}
 use Rattle.protocol.specs.Judge.{clear, given}
 use Rattle.protocol.specs.Bounds.{shape_tests, terms_tests, input_tests, room_tests}
@@ -149,7 +149,7 @@ module _ (x : SolverSession) (s : Slot) (a : Message) (room : ℕ) where
   solver-second-no-result f = no_result f _ _ refl
 
   -- regular or not, the answer is settled
-  either-settled : (c : Bool) → is_settled (cond c (Accepted 0) (Refused Singular)) ≡ true
+  either-settled : (c : Bool) → is_settled (cond c (Ok 0) (Err Singular)) ≡ true
   either-settled true = refl
   either-settled false = refl
 

@@ -15,8 +15,8 @@ use lib.Seq.{take_at}
 use borrow.Author.Tests.{le-leb, le-ltb}
 use Rattle.algebra.specs.Words.{over, written_at}
 use Rattle.algebra.specs.Count.{both}
-use Rattle.protocol.specs.declared.Answer.{Answer}
-use Rattle.protocol.specs.declared.Answer.TheVariants.{Accepted, Refused}
+use Rattle.protocol.specs.Answer.{Answer}
+use Rattle.std.specs.Prelude.{Ok, Err}
 use Rattle.protocol.specs.declared.Head.{Head}
 use Rattle.protocol.specs.declared.Refusal.{Refusal}
 use Rattle.protocol.specs.declared.Refusal.TheVariants.{Form, Modulus, Composite, Size, Turn, Mark, Stranger, Residue, Dry, Singular}
@@ -26,8 +26,8 @@ use Rattle.protocol.specs.Message.{message_with, no_message}
 use Rattle.protocol.specs.Step.{Effect, Outcome, answer_after, session_after, pool_after, scratch_after, sent_after, result_after}
 use Rattle.protocol.proofs.Replies.{answer-determines}
 use Rattle.judging.specs.Leaves.{Leaves, leaves, leaving}
-use Rattle.judging.specs.declared.Check.{Check}
-use Rattle.judging.specs.declared.Check.TheVariants as check
+use Rattle.judging.specs.InOrder.{Check}
+use Rattle.std.specs.Prelude.{Ok, Err}
 use Rattle.judging.specs.InOrder.{checked}
 use Rattle.local.specs.Settled.{is_singular}
 use Rattle.entry.specs.declared.Session.{Session}
@@ -47,7 +47,7 @@ use Rattle.local.specs.Entered.{settled, entered_by}
 -- `sums`: an answer that a sum is singular is that of a step which was done
 pub record Behaves (sums : Bool) (c : Slot) (o : Outcome Session) : Type 0 where
   pub refuses : (r : Refusal) → o ≡ refused r → both sums (is_singular r) ≡ false
-  pub answers : (e : Effect Session) (r : Refusal) → o ≡ done e → e.answer ≡ Refused r → both sums (is_singular r) ≡ true
+  pub answers : (e : Effect Session) (r : Refusal) → o ≡ done e → e.answer ≡ Err r → both sums (is_singular r) ≡ true
   pub proper : (e : Effect Session) → o ≡ done e → Proper c e
 
 -- ---- lists written over others
@@ -122,21 +122,21 @@ module _ (l : Lent) (scratch-bytes : Below 256 l.scratch) (result-bytes : Below 
     storing a v = stored sums read a v.session v.head v.pool v.scratch v.sent v.result l
 
     fits-or-not : (e : Effect Session) → Proper slot e → (a : ℕ) → (b : Bool) → leb (length (line_of e.sent)) (length l.line) ≡ b
-        → e.answer ≡ Accepted a → storing (Accepted a) (gone x (done e)) ≡ left 0 l (in_room (length l.line) (done (entering read [] e)))
+        → e.answer ≡ Ok a → storing (Ok a) (gone x (done e)) ≡ left 0 l (in_room (length l.line) (done (entering read [] e)))
     unfolding in_room
     fits-or-not e p a true h f = rw (sent-line e p, h, f, put-done e p (line_of e.sent)) refl
     fits-or-not e p a false h f = rw (sent-line e p, h) refl
 
     -- a sum that is singular sends nothing
-    sum_left : (e : Effect Session) → Proper slot e → (r : Refusal) → both sums (is_singular r) ≡ true → e.answer ≡ Refused r
-        → storing (Refused r) (gone x (done e)) ≡ left 0 l (in_room (length l.line) (done (entering read [] e)))
+    sum_left : (e : Effect Session) → Proper slot e → (r : Refusal) → both sums (is_singular r) ≡ true → e.answer ≡ Err r
+        → storing (Err r) (gone x (done e)) ≡ left 0 l (in_room (length l.line) (done (entering read [] e)))
     unfolding in_room line_of
     sum_left e p r b f = rw (b, f, p.refused-sends r f, le-leb 0 (length l.line) (omega arith), put-done e p []) refl
 
-    done-left : (e : Effect Session) → Proper slot e → ((r : Refusal) → e.answer ≡ Refused r → both sums (is_singular r) ≡ true) → (a : Answer) → e.answer ≡ a
+    done-left : (e : Effect Session) → Proper slot e → ((r : Refusal) → e.answer ≡ Err r → both sums (is_singular r) ≡ true) → (a : Answer) → e.answer ≡ a
         → storing a (gone x (done e)) ≡ left 0 l (in_room (length l.line) (done (entering read [] e)))
-    done-left e p s (Accepted a) f = fits-or-not e p a (leb (length (line_of e.sent)) (length l.line)) refl f
-    done-left e p s (Refused r) f = sum_left e p r (s r f) f
+    done-left e p s (Ok a) f = fits-or-not e p a (leb (length (line_of e.sent)) (length l.line)) refl f
+    done-left e p s (Err r) f = sum_left e p r (s r f) f
 
     outcome-left : (o : Outcome Session) → Behaves sums slot o
         → storing (answer_after o) (gone x o) ≡ left 0 l (in_room (length l.line) (on_done (entering read []) o))
@@ -171,13 +171,13 @@ right_of_lem true b e = e
 right_of_lem false b e = absurd (false≢true e)
 
 module _ (sums : Bool) (c : Slot) (f : Effect Session → Effect Session) (own : Refusal) where
-  answered : (e : Effect Session) → ((r : Refusal) → e.answer ≡ Refused r → both sums (is_singular r) ≡ true) → (a : Answer) → e.answer ≡ a
-      → lower_of (check.Refused own) a ≡ own
-  answered e h (Accepted n) g = refl
-  answered e h (Refused r) g = rw (is-singular r (right_of_lem sums (is_singular r) (h r g)), singular-last own) refl
+  answered : (e : Effect Session) → ((r : Refusal) → e.answer ≡ Err r → both sums (is_singular r) ≡ true) → (a : Answer) → e.answer ≡ a
+      → lower_of (Err own) a ≡ own
+  answered e h (Ok n) g = refl
+  answered e h (Err r) g = rw (is-singular r (right_of_lem sums (is_singular r) (h r g)), singular-last own) refl
 
   pub refused-left : (l : Lent) (o : Outcome Session) → Behaves sums c o → (a : Answer) → a ≡ answer_after o
-      → ◌≡◌ {A = Left} (record { report = refusal_report (lower_of (check.Refused own) a); lent = l })
+      → ◌≡◌ {A = Left} (record { report = refusal_report (lower_of (Err own) a); lent = l })
       (entered_by l 0 (refused own) (on_done f o))
   unfolding entered_by in_room
   refused-left l (refused s) b a e = rw e (pick (ltb (place_of s) (place_of own)))
@@ -199,8 +199,8 @@ module _ (l : Lent) (scratch-bytes : Below 256 l.scratch) (result-bytes : Below 
       ≡ leaves x (slot_at (take n (words_of l.pool)) n 0) (take k (words_of l.scratch)) sent₀ (take j (words_of l.result)) o
       → settled own sums read a session head pool scratch sent result l ≡ entered_by l 0 (checked own) (on_done (entering read []) o)
   unfolding entered_by
-  settled-left check.Passed o b a e =
+  settled-left (Ok u) o b a e =
       stored-left l scratch-bytes result-bytes n k j k-fits j-fits sent₀ n-is sums read x o b a e
-  settled-left (check.Refused r) o b a e =
+  settled-left (Err r) o b a e =
       refused-left sums (slot_at (take n (words_of l.pool)) n 0) (entering read []) r l o b a
       (answer-determines a (answer_after o) (ap (λ (v : Leaves Session). v.answer) e))

@@ -21,7 +21,7 @@ use Rattle.algebra.proofs.Elimination.{solution-solves}
 use Rattle.protocol.specs.declared.Terms.{Terms}
 use Rattle.protocol.specs.declared.Refusal.{Refusal}
 use Rattle.protocol.specs.declared.Refusal.TheVariants.{Size}
-use Rattle.protocol.specs.declared.Answer.TheVariants.{Accepted, Refused}
+use Rattle.std.specs.Prelude.{Ok, Err}
 use Rattle.protocol.specs.declared.RightSession.{RightSession}
 use Rattle.protocol.specs.declared.SolverSession.{SolverSession}
 use Rattle.protocol.specs.declared.BlinderSession.{BlinderSession}
@@ -56,7 +56,7 @@ pub record Proper {S : Type 0} (c : Slot) (e : Effect S) : Type 0 where
   -- the message has as many residues as its head tells
   pub count : length e.sent.residues ≡ sent_size e.sent.head
   -- an answer that is a refusal sends nothing
-  pub refused-sends : (r : Refusal) → e.answer ≡ Refused r → e.sent ≡ no_message
+  pub refused-sends : (r : Refusal) → e.answer ≡ Err r → e.sent ≡ no_message
 
 -- of every effect of an outcome
 abbrev Propers : {S : Type 0} → Slot → Outcome S → Type 0
@@ -106,12 +106,12 @@ no-count = refl
 
 module _ {S : Type 0} {role : Role} {t : Terms} {s : Slot} (p : Placed role t s) (e : Effect S) where
   -- an effect that is no refusal
-  accepted : (n : ℕ) → e.answer ≡ Accepted n → length e.slot ≡ s.size → length e.sent.residues ≡ sent_size e.sent.head → Proper s e
+  accepted : (n : ℕ) → e.answer ≡ Ok n → length e.slot ≡ s.size → length e.sent.residues ≡ sent_size e.sent.head → Proper s e
   accepted n a l c =
       record { inside = p.inside; slot = l; count = c; refused-sends = λ r h. absurd (omega (arith, not-zero r, ap answer_number (sym a ∙ h))) }
 
   -- one that spends the half and sends nothing
-  ends : e.answer ≡ Accepted 0 → e.slot ≡ words_spent role t (slot_words s) → e.sent ≡ no_message → Proper s e
+  ends : e.answer ≡ Ok 0 → e.slot ≡ words_spent role t (slot_words s) → e.sent ≡ no_message → Proper s e
   ends a l m = accepted 0 a (ap length l ∙ gone p) (rw m no-count)
 
 -- ---- a product

@@ -15,7 +15,7 @@ use lib.Dec.{eqb}
 use Rattle.algebra.specs.Words.{over}
 use Rattle.algebra.proofs.Tests.{and_both}
 use Rattle.protocol.specs.declared.Head.{Head}
-use Rattle.protocol.specs.declared.Answer.{Answer}
+use Rattle.protocol.specs.Answer.{Answer}
 use Rattle.protocol.specs.declared.Refusal.{Refusal}
 use Rattle.protocol.specs.declared.Refusal.TheVariants.{Form, Modulus, Composite, Size, Turn, Mark, Stranger, Residue, Dry, Singular}
 use Rattle.protocol.specs.Judge.{refusal_number, Test, clear, Judged, refused, done, judge}

@@ -12,7 +12,7 @@ use Rattle.algebra.specs.Count.{both}
 use Rattle.protocol.specs.declared.Terms.{Terms}
 use Rattle.protocol.specs.declared.SolverSession.{SolverSession}
 use Rattle.algebra.specs.Elimination.{regular}
-use Rattle.protocol.specs.declared.Answer.TheVariants.{Accepted, Refused}
+use Rattle.std.specs.Prelude.{Ok, Err}
 use Rattle.protocol.specs.declared.Refusal.TheVariants.{Singular}
 use Rattle.protocol.specs.Judge.{Test, given, clear, done}
 use Rattle.protocol.specs.Bounds.{system, sides_fit, shape_tests, terms_tests, input_tests, room_tests, most_residues}
@@ -89,7 +89,7 @@ module _ (t : Terms) (s : Slot) (input : List ℕ) (room : ℕ) where
 -- ---- steps 3 and 5
 
 -- a singular sum, too, reads no words
-read_none : (b : Bool) → read_as 0 (cond b (Accepted 0) (Refused Singular)) ≡ cond b (Accepted 0) (Refused Singular)
+read_none : (b : Bool) → read_as 0 (cond b (Ok 0) (Err Singular)) ≡ cond b (Ok 0) (Err Singular)
 read_none true = refl
 read_none false = refl
 

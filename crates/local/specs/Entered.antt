@@ -6,13 +6,13 @@
 use Rattle.std.specs.Prelude.{Bool, cond, List, ℕ, ◌<◌, length, take, get_or}
 use Rattle.protocol.specs.declared.Terms.{Terms}
 use Rattle.protocol.specs.declared.Head.{Head}
-use Rattle.protocol.specs.declared.Answer.{Answer}
+use Rattle.protocol.specs.Answer.{Answer}
 use Rattle.protocol.specs.Judge.{Judged}
 use Rattle.protocol.specs.Tape.{Slot}
 use Rattle.protocol.specs.Message.{Message}
 use Rattle.protocol.specs.Step.{Outcome}
-use Rattle.judging.specs.declared.Check.{Check}
-use Rattle.judging.specs.declared.Check.TheVariants.{Passed, Refused}
+use Rattle.judging.specs.InOrder.{Check}
+use Rattle.std.specs.Prelude.{Ok, Err}
 use Rattle.entry.specs.declared.Session.{Session}
 use Rattle.entry.specs.Steps.{lower_than, first_step, next_step, drop_step}
 use Rattle.entry.specs.Entry.{Lent, Left, left, in_room, refusal_report}
@@ -41,5 +41,5 @@ abbrev pub Below : ℕ → List ℕ → Type 0
 Below b l = (i : ℕ) → get_or l i 0 < b
 
 abbrev pub settled : Check → (sums : Bool) (read : ℕ) → Answer → Session → Head → (words scratch sent result : List ℕ) → Lent → Left
-settled Passed sums read a x h ws ls rs us l = stored sums read a x h ws ls rs us l
-settled (Refused r) sums read a x h ws ls rs us l = record { report = refusal_report (lower_of (Refused r) a); lent = l }
+settled (Ok u) sums read a x h ws ls rs us l = stored sums read a x h ws ls rs us l
+settled (Err r) sums read a x h ws ls rs us l = record { report = refusal_report (lower_of (Err r) a); lent = l }

@@ -13,8 +13,8 @@ use Rattle.std.specs.Prelude.{Bool, true, cond, List, [], ◌++◌, ℕ, ◌*◌
 use Rattle.algebra.specs.Count.{both}
 use Rattle.protocol.specs.declared.Terms.{Terms}
 use Rattle.protocol.specs.declared.Head.{Head}
-use Rattle.protocol.specs.declared.Answer.{Answer}
-use Rattle.protocol.specs.declared.Answer.TheVariants.{Accepted, Refused}
+use Rattle.protocol.specs.Answer.{Answer}
+use Rattle.std.specs.Prelude.{Ok, Err}
 use Rattle.protocol.specs.Judge.{Judged, refused, done}
 use Rattle.protocol.specs.Step.{Effect}
 use Rattle.protocol.specs.Bounds.{product, sides_fit, most_residues}
@@ -133,8 +133,8 @@ on_done f (done a) = done (f a)
 
 -- an answer with another count of words read
 abbrev pub read_as : ℕ → Answer → Answer
-read_as n (Accepted k) = Accepted n
-read_as n (Refused r) = Refused r
+read_as n (Ok k) = Ok n
+read_as n (Err r) = Err r
 
 -- an effect with n words read, and with more words behind its slot's
 abbrev pub entering : {S : Type 0} → ℕ → List ℕ → Effect S → Effect S

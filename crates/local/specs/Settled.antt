@@ -1,8 +1,8 @@
 -- How code sees by its answer that a call was done, and what a call's tests alone tell. Assumes nothing.
 use Rattle.std.specs.Prelude.{Bool, true, false, cond, ℕ, eqb}
 use Rattle.protocol.specs.declared.Terms.{Terms}
-use Rattle.protocol.specs.declared.Answer.{Answer}
-use Rattle.protocol.specs.declared.Answer.TheVariants.{Accepted, Refused}
+use Rattle.protocol.specs.Answer.{Answer}
+use Rattle.std.specs.Prelude.{Ok, Err}
 use Rattle.protocol.specs.declared.Refusal.{Refusal}
 use Rattle.protocol.specs.Judge.{Judged, refused, done}
 use Rattle.protocol.specs.Product.{no_right}
@@ -13,8 +13,8 @@ use Rattle.protocol.specs.declared.Refusal.TheVariants.{Form, Modulus, Composite
 
 -- a call that is done is accepted
 abbrev pub is_accepted : Answer → Bool
-is_accepted (Accepted n) = true
-is_accepted (Refused r) = false
+is_accepted (Ok n) = true
+is_accepted (Err r) = false
 
 abbrev pub is_singular : Refusal → Bool
 is_singular Form = false
@@ -30,8 +30,8 @@ is_singular Singular = true
 
 -- a later step or a drop of the solver: one that answers a singular sum is done, too. At any other end, that is a refusal
 abbrev pub is_settled : Answer → Bool
-is_settled (Accepted n) = true
-is_settled (Refused r) = is_singular r
+is_settled (Ok n) = true
+is_settled (Err r) = is_singular r
 
 -- `sums`: it is the solver's
 abbrev pub is_done_by : (sums : Bool) → Answer → Bool

@@ -9,8 +9,8 @@ use Rattle.algebra.specs.Words.{over}
 use Rattle.algebra.specs.Count.{both}
 use Rattle.protocol.specs.declared.Head.{Head}
 use Rattle.protocol.specs.declared.Terms.{Terms}
-use Rattle.protocol.specs.declared.Answer.{Answer}
-use Rattle.protocol.specs.declared.Answer.TheVariants.{Accepted, Refused}
+use Rattle.protocol.specs.Answer.{Answer}
+use Rattle.std.specs.Prelude.{Ok, Err}
 use Rattle.protocol.specs.declared.Refusal.{Refusal}
 use Rattle.protocol.specs.declared.Refusal.TheVariants.{Form, Size}
 use Rattle.protocol.specs.Judge.{place_of}
@@ -20,9 +20,9 @@ use Rattle.entry.specs.declared.Session.{Session}
 use Rattle.entry.specs.Bytes.{bytes_of}
 use Rattle.entry.specs.Record.{record_words}
 use Rattle.entry.specs.Entry.{Lent, Left, line_of, refusal_report}
-use Rattle.judging.specs.declared.Check.{Check}
-use Rattle.judging.specs.declared.Check.TheVariants.{Passed}
-use Rattle.judging.specs.declared.Check.TheVariants as check
+use Rattle.judging.specs.InOrder.{Check}
+use Rattle.std.specs.Prelude.{Ok}
+use Rattle.std.specs.Prelude.{Ok, Err}
 use Rattle.local.specs.Settled.{is_singular}
 use Rattle.local.specs.Seen.{least, half_size, sent_size}
 
@@ -51,8 +51,8 @@ stored_sent read x h ws ls rs us l =
 
 -- `sums`: a singular sum is no refusal that changes nothing
 abbrev pub stored : (sums : Bool) (read : ℕ) → Answer → Session → Head → (words scratch sent result : List ℕ) → Lent → Left
-stored sums read (Accepted n) x h ws ls rs us l = stored_sent read x h ws ls rs us l
-stored sums read (Refused r) x h ws ls rs us l =
+stored sums read (Ok n) x h ws ls rs us l = stored_sent read x h ws ls rs us l
+stored sums read (Err r) x h ws ls rs us l =
     record { report = refusal_report r; lent = cond (both sums (is_singular r)) (put_all x ws ls [] us l) l }
 
 -- a record's words before what is kept
@@ -63,9 +63,9 @@ start_words x =
 
 -- the lower of an entry's own refusal and of its step's; `own` is one
 abbrev pub lower_of : Check → Answer → Refusal
-lower_of Passed a = Form
-lower_of (check.Refused r) (Accepted n) = r
-lower_of (check.Refused r) (Refused s) = cond (ltb (place_of s) (place_of r)) s r
+lower_of (Ok u) a = Form
+lower_of (Err r) (Ok n) = r
+lower_of (Err r) (Err s) = cond (ltb (place_of s) (place_of r)) s r
 
 -- how many words of a slot are looked at, by the numbers of pool and slot
 unfoldable pub seen_in : Role → Terms → (pool size index : ℕ) → ℕ

@@ -6,8 +6,8 @@ use mathlib.Core.Path.{◌≡◌, refl, sym, ap, ◌∙◌}
 use Prim.Native.Nat.{ℕ}
 use native.Mathlib.Omega.{arith}
 use Rattle.protocol.specs.declared.Refusal.{Refusal}
-use Rattle.protocol.specs.declared.Answer.{Answer}
-use Rattle.protocol.specs.declared.Answer.TheVariants.{Accepted, Refused}
+use Rattle.protocol.specs.Answer.{Answer}
+use Rattle.std.specs.Prelude.{Ok, Err}
 use Rattle.protocol.specs.Judge.{refusal_number, Judged, refused, done, Reply, reply_of}
 use Rattle.protocol.specs.Step.{answer_reply}
 use Rattle.protocol.proofs.Judge.{same-refusal, not-zero}
@@ -20,20 +20,20 @@ reply-determines {A} zero (done a) (done b) e = ap done (ap (λ (x : Reply A). x
 
 -- an answer, as a judged call that gives the words read, and back
 abbrev judged_as : Answer → Judged ℕ
-judged_as (Accepted n) = done n
-judged_as (Refused r) = refused r
+judged_as (Ok n) = done n
+judged_as (Err r) = refused r
 
 abbrev answer_as : Judged ℕ → Answer
-answer_as (done n) = Accepted n
-answer_as (refused r) = Refused r
+answer_as (done n) = Ok n
+answer_as (refused r) = Err r
 
 answer_back : (a : Answer) → answer_as (judged_as a) ≡ a
-answer_back (Accepted n) = refl
-answer_back (Refused r) = refl
+answer_back (Ok n) = refl
+answer_back (Err r) = refl
 
 answer-reply : (a : Answer) → answer_reply a ≡ reply_of 0 (judged_as a)
-answer-reply (Accepted n) = refl
-answer-reply (Refused r) = refl
+answer-reply (Ok n) = refl
+answer-reply (Err r) = refl
 
 pub answer-determines : (a b : Answer) → answer_reply a ≡ answer_reply b → a ≡ b
 answer-determines a b e =

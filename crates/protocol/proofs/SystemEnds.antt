@@ -34,7 +34,7 @@ use Rattle.protocol.specs.declared.TapeId.{TapeId}
 use Rattle.protocol.specs.declared.Terms.{Terms}
 use Rattle.protocol.specs.declared.SolverSession.{SolverSession}
 use Rattle.protocol.specs.declared.BlinderSession.{BlinderSession}
-use Rattle.protocol.specs.declared.Answer.TheVariants.{Accepted, Refused}
+use Rattle.std.specs.Prelude.{Ok, Err}
 use Rattle.protocol.specs.declared.Refusal.TheVariants.{Singular}
 use Rattle.protocol.specs.Judge.{done}
 use Rattle.protocol.specs.Drawing.{residues_of}
@@ -284,7 +284,7 @@ module _ {rhs : ℕ} (E : SolverEnd rhs) where
     unfolding solver_last_effect target sum_vector solver3
     sent5 = rw (joint-is, columns-is, message-parts 4 t c4 f4, kept-s)
 
-    pub answer5 : (solver_last_effect (solver3 c2) slot3 (message_of 4 t c4)).answer ≡ cond (regular q n (sum c4)) (Accepted 0) (Refused Singular)
+    pub answer5 : (solver_last_effect (solver3 c2) slot3 (message_of 4 t c4)).answer ≡ cond (regular q n (sum c4)) (Ok 0) (Err Singular)
     unfolding solver_last_effect solver3
     answer5 = rw joint-is
 

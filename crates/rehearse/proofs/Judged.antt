@@ -22,8 +22,8 @@ use Rattle.protocol.specs.Drawing.{draw_tests}
 use Rattle.protocol.specs.Deal.{draw_size}
 use Rattle.protocol.specs.Rehearsal.{Input, Run, request, rehearsal_tests, run, printed, rehearse}
 use Rattle.protocol.proofs.Judge.{passed}
-use Rattle.judging.specs.declared.Check.{Check}
-use Rattle.judging.specs.declared.Check.TheVariants.{Passed, Refused}
+use Rattle.judging.specs.InOrder.{Check}
+use Rattle.std.specs.Prelude.{Ok, Err}
 use Rattle.judging.specs.InOrder.{checked, only, sorted_by, sorted, judged, after}
 use Rattle.judging.proofs.InOrder.{refused-by, accepted-by, after_last}
 use Rattle.tape.proofs.Sides.{sides, modulus}
@@ -61,7 +61,7 @@ numbers_fit t x y e =
     }
 
 -- the counts taken of words that have room for them
-module _ (t : Terms) (m n : ℕ) (x y : List ℕ) (c : Check) (told : checked c ≡ judged (number_tests t m n)) (e : c ≡ Passed)
+module _ (t : Terms) (m n : ℕ) (x y : List ℕ) (c : Check) (told : checked c ≡ judged (number_tests t m n)) (e : c ≡ Ok tt)
     (long-x : length x ≡ 2048) (long-y : length y ≡ 2048) where
   fit : NumbersFit t m n
   fit = numbers_fit t m n (sym told ∙ ap checked e)
@@ -94,18 +94,18 @@ module _ (t : Terms) (x y d l : List ℕ) where
     in_two : judged (rehearsal_tests i) ≡ after (judged (number_tests t m n)) (judged (word_tests t x y d l))
     in_two = two-phases ∙ ap₂ (λ (a b : ℕ). after (judged (number_tests t a b)) (judged (word_tests t x y d l))) (sym em) (sym en)
 
-    pub numbers-refused : (c : Check) {r : Refusal} → checked c ≡ judged (number_tests t m n) → c ≡ Refused r → judge (rehearsal_tests i) (run i) ≡ refused r
+    pub numbers-refused : (c : Check) {r : Refusal} → checked c ≡ judged (number_tests t m n) → c ≡ Err r → judge (rehearsal_tests i) (run i) ≡ refused r
     numbers-refused c told e =
         refused-by (rehearsal_tests i) (run i) (in_two ∙ sym (hands_on c (judged (word_tests t x y d l)) told e) ∙ ap checked e)
 
   module _ (fit : judged (number_tests t (length x) (length y)) ≡ done tt) (w : Check) (words : checked w ≡ judged (word_tests t x y d l)) where
     past : judged (rehearsal_tests i) ≡ checked w
-    past = two-phases ∙ goes-past Passed (sym fit) refl ∙ sym words
+    past = two-phases ∙ goes-past (Ok tt) (sym fit) refl ∙ sym words
 
-    pub words-refused : {r : Refusal} → w ≡ Refused r → judge (rehearsal_tests i) (run i) ≡ refused r
+    pub words-refused : {r : Refusal} → w ≡ Err r → judge (rehearsal_tests i) (run i) ≡ refused r
     words-refused e = refused-by (rehearsal_tests i) (run i) (past ∙ ap checked e)
 
-    pub all-passed : w ≡ Passed → judged (rehearsal_tests i) ≡ done tt
+    pub all-passed : w ≡ Ok tt → judged (rehearsal_tests i) ≡ done tt
     all-passed e = past ∙ ap checked e
 
   pub judged-run : judged (rehearsal_tests i) ≡ done tt → judge (rehearsal_tests i) (run i) ≡ done (run i)
@@ -113,7 +113,7 @@ module _ (t : Terms) (x y d l : List ℕ) where
 
 -- ---- what is printed
 
-pub refused-printed : (j : Judged Run) (c : Check) {r : Refusal} (s : Refusal) (n : ℕ) (before after : List ℕ) → j ≡ refused r → c ≡ Refused r → s ≡ refusal_in c
+pub refused-printed : (j : Judged Run) (c : Check) {r : Refusal} (s : Refusal) (n : ℕ) (before after : List ℕ) → j ≡ refused r → c ≡ Err r → s ≡ refusal_in c
     → n ≡ length (printed (refused s)) → n ≤ MOST → after ≡ over (printed (refused s)) before → Prints j n before after
 refused-printed j c {r} s n before after e f g place few contents =
     let same : printed (refused s) ≡ printed j = ap (λ (z : Refusal). printed (refused z)) (g ∙ ap refusal_in f) ∙ ap printed (sym e) in

@@ -13,8 +13,8 @@ use Rattle.protocol.specs.Bounds.{product, sides_fit, all_below}
 use Rattle.protocol.specs.Drawing.{draw_tests}
 use Rattle.protocol.specs.Deal.{draw_size}
 use Rattle.protocol.specs.Rehearsal.{Input, request, Run, printed}
-use Rattle.judging.specs.declared.Check.{Check}
-use Rattle.judging.specs.declared.Check.TheVariants.{Passed, Refused}
+use Rattle.judging.specs.InOrder.{Check}
+use Rattle.std.specs.Prelude.{Ok, Err}
 use Rattle.judging.specs.Groups.{modulus_tests}
 use Rattle.rehearse_lines.specs.Prints.{MOST}
 
@@ -44,8 +44,8 @@ word_tests t x y d l =
 
 -- a check's refusal; one that passed has none
 abbrev pub refusal_in : Check → Refusal
-refusal_in Passed = Form
-refusal_in (Refused r) = r
+refusal_in (Ok u) = Form
+refusal_in (Err r) = r
 
 -- n bytes over the start of what was there
 pub record PrintsAll (bytes : List ℕ) (n : ℕ) (before after : List ℕ) : Type 0 where

@@ -17,8 +17,8 @@ use Rattle.protocol.specs.Tape.{Slot}
 use Rattle.protocol.specs.Message.{Message, no_message}
 use Rattle.protocol.specs.Step.{Effect, Outcome}
 use Rattle.protocol.proofs.Judge.{refused≢done}
-use Rattle.judging.specs.declared.Check.{Check}
-use Rattle.judging.specs.declared.Check.TheVariants.{Passed, Refused}
+use Rattle.judging.specs.InOrder.{Check}
+use Rattle.std.specs.Prelude.{Ok, Err}
 use Rattle.judging.specs.InOrder.{checked, answer_of, judged}
 use Rattle.judging.specs.Lowest.{lower}
 use Rattle.judging.specs.Leaves.{leaves, leaving}
@@ -66,8 +66,8 @@ pub open-leaves : (x : Session) (s : Slot) (scratch sent result : List ℕ) (r :
     → checked w ≡ lower (refused r) (judgement o)
     → leaving (answer_of w) x no_message.head s.pool scratch sent result ≡ leaves x s scratch sent result (lower_than (refused r) o)
 unfolding over
-open-leaves x s scratch sent result r o Passed e = absurd (never-passes r o e)
-open-leaves x s scratch sent result r o (Refused p) e = rw (same-lower r o e)
+open-leaves x s scratch sent result r o (Ok u) e = absurd (never-passes r o e)
+open-leaves x s scratch sent result r o (Err p) e = rw (same-lower r o e)
 
 -- ---- a first step over a record
 

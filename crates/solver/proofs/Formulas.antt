@@ -23,7 +23,7 @@ use Rattle.algebra.specs.Words.{over}
 use Rattle.algebra.proofs.Lists.{length-tabulate, add-residues}
 use Rattle.determinant.specs.Determinant.{det}
 use Rattle.protocol.specs.declared.Terms.{Terms}
-use Rattle.protocol.specs.declared.Answer.TheVariants.{Accepted}
+use Rattle.std.specs.Prelude.{Ok}
 use Rattle.protocol.specs.declared.SolverSession.{SolverSession}
 use Rattle.protocol.specs.Bounds.{columns}
 use Rattle.protocol.specs.Tape.{Slot, slot_words, solver, matrices}
@@ -161,6 +161,6 @@ module _ (x : SolverSession) (s : Slot) (a : Message) (out : List ℕ) where
   last-left false r o = rw (o, sym r) (simp append-nil)
 
   pub determinant-left : {sent : List ℕ} → sent ≡ over (det x.terms.q x.terms.m (sum_of x.terms s a.residues) ∷ []) out
-      → computing (Accepted 0) (closed_terms x.terms) (record { kind = 6; terms = x.terms }) [] sent [] ≡ computed [] out [] (solver_determinant_effect x s a)
+      → computing (Ok 0) (closed_terms x.terms) (record { kind = 6; terms = x.terms }) [] sent [] ≡ computed [] out [] (solver_determinant_effect x s a)
   unfolding solver_determinant_effect joint_sum sum_of sent_part message_parts join over
   determinant-left o = rw o refl

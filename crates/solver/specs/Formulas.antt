@@ -8,8 +8,8 @@ use Rattle.algebra.specs.Count.{part, parts}
 use Rattle.algebra.specs.System.{sum_matrix}
 use Rattle.protocol.specs.declared.Terms.{Terms}
 use Rattle.protocol.specs.declared.Head.{Head}
-use Rattle.protocol.specs.declared.Answer.{Answer}
-use Rattle.protocol.specs.declared.Answer.TheVariants.{Accepted, Refused}
+use Rattle.protocol.specs.Answer.{Answer}
+use Rattle.std.specs.Prelude.{Ok, Err}
 use Rattle.protocol.specs.declared.Refusal.TheVariants.{Singular}
 use Rattle.protocol.specs.declared.SolverSession.{SolverSession}
 use Rattle.protocol.specs.Tape.{Slot, slot_words, solver, matrices}
@@ -26,7 +26,7 @@ unfoldable pub side_of : Terms → (residues kept : List ℕ) → List ℕ
 side_of t residues kept = mat_add t.q (side_size t) (sent_part 4 t 1 residues) (take (side_size t) kept)
 
 abbrev pub last_answer : Bool → Answer
-last_answer found = cond found (Accepted 0) (Refused Singular)
+last_answer found = cond found (Ok 0) (Err Singular)
 
 abbrev pub last_head : Terms → Bool → Head
 last_head t found = cond found (record { kind = 5; terms = t }) no_message.head

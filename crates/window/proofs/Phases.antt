@@ -21,8 +21,8 @@ use Rattle.protocol.specs.Bounds.{largest_modulus, within, all_below}
 use Rattle.protocol.specs.Window.{window_fits, window_tests, share_tests, flags_tests, flags_fit}
 use Rattle.protocol.proofs.Judge.{all_split, accepts, passed, one-fails}
 use Rattle.protocol.proofs.Window.{Fits, fits-known, positive}
-use Rattle.judging.specs.declared.Check.{Check}
-use Rattle.judging.specs.declared.Check.TheVariants.{Passed, Refused}
+use Rattle.judging.specs.InOrder.{Check}
+use Rattle.std.specs.Prelude.{Ok, Err}
 use Rattle.judging.specs.InOrder.{checked, only, sorted_by, sorted, judged, after}
 use Rattle.judging.proofs.InOrder.{after_last}
 use Rattle.judging.proofs.Join.{sorted_phases, judged-phases}
@@ -92,19 +92,19 @@ module _ (own : List Test) (x : Check) {fits : Bool} (q run first w : ℕ) (earl
   unfolding window_tests
   checks = told ∙ ap (λ (b : Bool). judged (own ++ (needs Modulus (within 2 largest_modulus q) ∷ needs Size b ∷ []))) is
 
-  pub known : x ≡ Passed → Known q run first w
+  pub known : x ≡ Ok tt → Known q run first w
   unfolding window_tests
   known e =
       let a = (all_split own (window_tests q run first w) (passed (own ++ window_tests q run first w) (sym checks ∙ ap checked e)).0).1 in
       record { positive-q = positive a.0; small-q = small a.0; fits = fits-known q run first w a.1.0 }
 
   -- what is left to judge
-  pub taken : (used : List ℕ) (v : ℕ) → x ≡ Passed → judge (own ++ (window_tests q run first w ++ share_tests q used)) v ≡ judge (share_tests q used) v
+  pub taken : (used : List ℕ) (v : ℕ) → x ≡ Ok tt → judge (own ++ (window_tests q run first w ++ share_tests q used)) v ≡ judge (share_tests q used) v
   taken used v e =
       phases own q run first w early used v
       ∙ (ap (λ (j : Judged Unit). on_done (λ (u : Unit). v) (after j (judged (share_tests q used)))) (sym checks ∙ ap checked e) ∙ sym (by-verdict (share_tests q used) v))
 
-  pub handed : (used : List ℕ) (v : ℕ) (r : Refusal) → x ≡ Refused r → judge (own ++ (window_tests q run first w ++ share_tests q used)) v ≡ refused r
+  pub handed : (used : List ℕ) (v : ℕ) (r : Refusal) → x ≡ Err r → judge (own ++ (window_tests q run first w ++ share_tests q used)) v ≡ refused r
   handed used v r e =
       phases own q run first w early used v
       ∙ ap (λ (j : Judged Unit). on_done (λ (u : Unit). v) (after j (judged (share_tests q used)))) (sym checks ∙ ap checked e)

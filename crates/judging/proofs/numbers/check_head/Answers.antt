@@ -1,4 +1,4 @@
--- `session::numbers::check_head` meets its contract. Assumes nothing.
+-- `judging::numbers::check_head` meets its contract. Assumes nothing.
 use mathlib.Core.Path.{◌≡◌, refl, sym, ap, ◌∙◌}
 use mathlib.Core.List.{[], ◌∷◌}
 use Rattle.protocol.specs.declared.Refusal.TheVariants.{Size}
@@ -14,33 +14,32 @@ use Rattle.judging.proofs.numbers.check_head.Tie
 use Rattle.judging.proofs.numbers.check_head.Reads
 use Rattle.judging.proofs.numbers.check_head.Goals as goal
 
-abbrev After-worst-head : Type 0
-After-worst-head = Lts.After-worst Tie.the-claims Reads.Pre Reads.Post
+abbrev After-worst : Type 0
+After-worst = Lts.After-worst Tie.the-claims Reads.Pre Reads.Post
 
 -- the head without the count of residues
-judged-head : (c : After-worst-head) → checked c.worst-head.result ≡ judged (head_tests c.args.a)
+judged-head : (c : After-worst) → checked c.worst.result ≡ judged (head_tests c.args.a)
 unfolding head_tests number_tests id_tests
 judged-head c =
     let a = c.args.a in
-    also (tests.needs Size (last_fits a.kind a.terms.m a.terms.p) ∷ []) (number_tests (kind_sort a.kind) a.terms) c.worst-head.ensures
+    also (tests.needs Size (last_fits a.kind a.terms.m a.terms.p) ∷ []) (number_tests (kind_sort a.kind) a.terms) c.worst.ensures
     (c.need-last.ensures ∙ rw c.last_fits.ensures)
     (rw c.kind_sides_fit.ensures at c.check_ids-numbers.ensures)
 
-pub returns-in_default : goal.returns-in_default
-returns-in_default c =
+pub returns-in_err-worst : goal.returns-in_err-worst
+returns-in_err-worst c =
     let a = c.args in
-    hands_on c.worst-head.result _ (judged-head c.before) c.in_default.is ∙ sym (head-phases a.a a.count)
+    hands_on c.from_residual.result _ c.from_residual.ensures.1 (sym (ap checked c.in_err-worst.was) ∙ judged-head c.before.before.before) ∙ sym (head-phases a.a a.count)
 
 pub message_size-requires : goal.message_size-requires
 message_size-requires c =
     let a = c.args.a in
     let t = a.terms in
-    few (kind_sort a.kind) t.m t.k t.p (head-sides a (sym (judged-head c.before) ∙ ap checked c.in-Passed.is))
+    few (kind_sort a.kind) t.m t.k t.p (head-sides a (sym (judged-head c.before.before) ∙ ap checked c.in_ok-worst.was))
 
 pub returns : goal.returns
 unfolding count_tests
 returns c =
-    let before = c in
-    let a = before.args in
+    let a = c.args in
     simp (c.need.ensures, c.message_size.ensures) refl ∙ sym
-    (head-phases a.a a.count ∙ goes-past before.worst-head.result (judged-head c.before.before.before) c.in-Passed.is)
+    (head-phases a.a a.count ∙ goes-past (sym (ap checked c.in_ok-worst.was) ∙ judged-head c.before.before.before.before))

@@ -5,5 +5,5 @@ use Rattle.judging.proofs.order.need.Goals as goal
 pub returns-then-holds : goal.returns-then-holds
 returns-then-holds c = judged-true c.args.r c.if-holds.true
 
-pub returns : goal.returns
-returns c = judged-false c.args.r c.if-holds.false
+pub returns-else-holds : goal.returns-else-holds
+returns-else-holds c = judged-false c.args.r c.if-holds.false

@@ -1,19 +1,17 @@
 -- `judging::step::check_first_received` meets its contract. Assumes nothing.
-use mathlib.Core.Path.{sym, ap, ◌∙◌}
+use mathlib.Core.Path.{sym, ◌∙◌}
 use Rattle.protocol.specs.Tape.{slot_at}
 use Rattle.tape.specs.Ends.{role}
-use Rattle.judging.specs.InOrder.{checked}
 use Rattle.judging.proofs.Join.{hands_on, goes-past}
 use Rattle.judging.specs.Received.{first_received}
 use Rattle.judging.proofs.Fits.{turn-placed, half-fits}
 use Rattle.judging.proofs.Steps.{received-phases}
 use Rattle.judging.proofs.step.check_first_received.Goals as goal
 
-pub returns-in_default : goal.returns-in_default
-returns-in_default c =
+pub returns-in_err-check_first_numbers : goal.returns-in_err-check_first_numbers
+returns-in_err-check_first_numbers c =
     let a = c.args in
-    let n = c.check_first_numbers-numbers in
-    hands_on n.result _ n.ensures c.in_default.is ∙ sym
+    hands_on c.from_residual.result _ c.from_residual.ensures.1 c.in_err-check_first_numbers.ensures ∙ sym
     (received-phases (role a.end) a.t (slot_at a.pool.now a.at.size a.at.index) a.kind a.a a.residues.now)
 
 pub slot-requires : goal.slot-requires
@@ -21,20 +19,19 @@ unfolding first_received
 slot-requires c =
     let a = c.args in
     (turn-placed (role a.end) a.t a.a _ a.pool.now a.at.size a.at.index _
-    (sym c.check_first_numbers-numbers.ensures ∙ ap checked c.in-Passed.is)).inside
+    (sym c.in_ok-check_first_numbers.ensures)).inside
 
 pub check_arrived-requires : goal.check_arrived-requires
 unfolding first_received
 check_arrived-requires c =
     let a = c.args in
     let p = turn-placed (role a.end) a.t a.a _ a.pool.now a.at.size a.at.index _
-    (sym c.check_first_numbers-numbers.ensures ∙ ap checked c.in-Passed.is) in
+    (sym c.in_ok-check_first_numbers.ensures) in
     half-fits (role a.end) a.t (slot_at a.pool.now a.at.size a.at.index) p c.slot.ensures
 
 pub returns : goal.returns
 returns c =
     let a = c.args in
-    let n = c.check_first_numbers-numbers in
     (rw c.slot.ensures at c.check_arrived.ensures) ∙ sym
     (received-phases (role a.end) a.t (slot_at a.pool.now a.at.size a.at.index) a.kind a.a a.residues.now
-    ∙ goes-past n.result n.ensures c.in-Passed.is)
+    ∙ goes-past c.in_ok-check_first_numbers.ensures)
