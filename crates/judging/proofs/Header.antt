@@ -1,5 +1,5 @@
 -- Tests of one refusal, made together: of a tape's header, and of a message's head.
---   tape-as-two, same-as-two
+--   tape-as-two, same-as-one
 -- Assumes nothing.
 use mathlib.Core.Path.{◌≡◌, refl, sym, ap, ◌∙◌}
 use mathlib.Core.Bool.{Bool, true, false, cond}
@@ -15,7 +15,7 @@ use Rattle.protocol.specs.Tape.{Role, status_of, tape_tests}
 use Rattle.protocol.proofs.Judge.{same-judge}
 use Rattle.tape.specs.Bears.{numbers_are, bears}
 use Rattle.judging.specs.InOrder.{judged}
-use Rattle.judging.specs.Groups.{same_tests, same_ids, same_sides}
+use Rattle.judging.specs.Groups.{same_tests, same_terms}
 
 -- tests of one refusal, one after the other: `all` joins their facts
 merge : (e a b : Bool) {x : Bool} → x ≡ cond e b true → both (cond e a true) x ≡ cond e (both a b) true
@@ -39,14 +39,9 @@ tape-as-two role status t ws =
     ap (both (cond (is_same r Mark) (eqb (status_of ws) status) true))
     (merge e _ _ (merge e _ _ (merge e _ _ (merge e _ _ (merge e _ _ (last e _))))) ∙ sym (last e _)))
 
-pub same-as-two : (a : Head) (t : Terms) → judged (same_tests a t) ≡ judged (needs Stranger (same_ids a.terms t) ∷ needs Stranger (same_sides a.terms t) ∷ [])
-unfolding judge same_tests same_ids same_sides clear
-same-as-two a t =
+pub same-as-one : (a : Head) (t : Terms) → judged (same_tests a t) ≡ judged (needs Stranger (same_terms a.terms t) ∷ [])
+unfolding judge same_tests same_terms clear
+same-as-one a t =
     same-judge refusals _ _ tt (λ r.
     let e = is_same r Stranger in
-    split e _ _ (merge e _ _ (merge e _ _ (merge e _ _ (last e _))) ∙ sym (last e _)))
-  where
-    split : (e a b : Bool) {x y : Bool} → x ≡ y → both (cond e a true) (both (cond e b true) x) ≡ both (cond e (both a b) true) y
-    split true true b h = unfold both in ap (both b) h
-    split true false b h = unfold both in refl
-    split false a b h = unfold both in h
+    merge e _ _ (merge e _ _ (merge e _ _ (merge e _ _ (merge e _ _ (last e _))))) ∙ sym (last e _))

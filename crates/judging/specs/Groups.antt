@@ -63,9 +63,8 @@ same_tests a t =
     ∷ needs Stranger (eqb a.terms.p t.p)
     ∷ []
 
--- the same in two tests
-unfoldable pub same_ids : (sent own : Terms) → Bool
-same_ids a t = both (eqb a.session.0 t.session.0) (eqb a.tape.0 t.tape.0)
-
-unfoldable pub same_sides : (sent own : Terms) → Bool
-same_sides a t = both (eqb a.q t.q) (both (eqb a.m t.m) (both (eqb a.k t.k) (eqb a.p t.p)))
+-- the same in one test
+unfoldable pub same_terms : (sent own : Terms) → Bool
+same_terms a t =
+    both (eqb a.session.0 t.session.0)
+    (both (eqb a.tape.0 t.tape.0) (both (eqb a.q t.q) (both (eqb a.m t.m) (both (eqb a.k t.k) (eqb a.p t.p)))))

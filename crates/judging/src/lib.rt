@@ -7,6 +7,7 @@
 //   held               the words of a half, in its slot
 //   received           what every step checks that takes a message
 //   step               what steps and drops check, whatever their end
+//   Stepped, Dropped   what they answer (stepped)
 // No function here is for hosts.
 #![tactic(auto)]
 
@@ -16,6 +17,7 @@ pub mod numbers;
 pub mod order;
 pub mod received;
 pub mod step;
+mod stepped;
 
 ghost use Rattle.std.specs.Prelude.{◌≡◌};
 ghost use Rattle.judging.specs.InOrder.{answer_of};
@@ -23,6 +25,7 @@ ghost use Rattle.judging.specs.InOrder.{answer_of};
 pub use order::{need, worst};
 use protocol::{Answer, Refusal};
 pub use step::check_input;
+pub use stepped::{Dropped, Stepped};
 
 // What a group of tests answers.
 pub type Check = Result<(), Refusal>;

@@ -9,25 +9,19 @@ ghost use Rattle.protocol.specs.Message.{kind_known, kind_sort, last_kind, last_
 ghost use Rattle.protocol.specs.System.{side_size};
 ghost use Rattle.field.specs.Field.{made, sort_field_of};
 
-use field::{Field, FieldAnswer};
-use protocol::{Head, SessionId, TapeId, Terms};
+use field::Field;
+use protocol::{Head, Refusal, SessionId, TapeId, Terms};
 use sides::Matrix;
 use vectors::times;
 
 pub fn kind_known(kind: u32) -> bool
     ensures { result ≡ kind_known kind }
 {
-    if kind < 1 {
-        return false;
-    }
-    if 6 < kind {
-        return false;
-    }
-    true
+    (1..=6).contains(&kind)
 }
 
 // The field of a message's modulus. Kinds 3 to 6 are of systems, whose modulus is prime.
-pub fn kind_field(kind: u32, q: u32) -> FieldAnswer
+pub fn kind_field(kind: u32, q: u32) -> Result<Field, Refusal>
     ensures { made result ≡ sort_field_of (kind_sort kind) q }
 {
     if kind <= 2 {
@@ -49,10 +43,7 @@ pub fn kind_sides_fit(kind: u32, m: u32, k: u32, p: u32) -> bool
 pub fn last_kind(t: Terms) -> u32
     ensures { result ≡ last_kind t.m t.p }
 {
-    if t.p == t.m {
-        return 6;
-    }
-    5
+    if t.p == t.m { 6 } else { 5 }
 }
 
 // Kinds 5 and 6 each have their own sides.
@@ -69,44 +60,29 @@ pub fn last_fits(kind: u32, t: Terms) -> bool
 pub fn side_size(t: Terms) -> usize
     ensures { result ≡ side_size t }
 {
-    if t.p < t.m {
-        return 0;
-    }
-    times(t.m, t.p - t.m)
+    times(t.m, t.p.saturating_sub(t.m))
 }
 
 // The first and the second part of a message.
 fn first_part(kind: u32, t: Terms) -> usize
     ensures { result ≡ get_or (message_layout kind t.m t.k t.p) 0 0 }
 {
-    if kind == 1 {
-        return times(t.k, t.p);
+    match kind {
+        1 => times(t.k, t.p),
+        2 | 3 | 4 => times(t.m, t.k),
+        5 => side_size(t),
+        _ => 1,
     }
-    if kind == 2 {
-        return times(t.m, t.k);
-    }
-    if kind == 3 {
-        return times(t.m, t.k);
-    }
-    if kind == 4 {
-        return times(t.m, t.k);
-    }
-    if kind == 5 {
-        return side_size(t);
-    }
-    1
 }
 
 fn second_part(kind: u32, t: Terms) -> usize
     ensures { result ≡ get_or (message_layout kind t.m t.k t.p) 1 0 }
 {
-    if kind == 2 {
-        return times(t.m, t.p);
+    match kind {
+        2 => times(t.m, t.p),
+        4 => side_size(t),
+        _ => 0,
     }
-    if kind == 4 {
-        return side_size(t);
-    }
-    0
 }
 
 // How many residues a message has.

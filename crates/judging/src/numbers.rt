@@ -5,12 +5,12 @@ ghost use Rattle.protocol.specs.Message.{kind_sort};
 ghost use Rattle.field.specs.Field.{made, sort_field_of, field_judged};
 ghost use Rattle.judging.specs.InOrder.{checked, judged};
 ghost use Rattle.tape.specs.Ends.{role, sort, joint};
-ghost use Rattle.judging.specs.Groups.{modulus_tests, kind_tests, number_tests, head_tests, place_tests, id_tests, count_tests, message_numbers, same_tests, same_ids, same_sides};
+ghost use Rattle.judging.specs.Groups.{modulus_tests, kind_tests, number_tests, head_tests, place_tests, id_tests, count_tests, message_numbers, same_tests};
 
 use crate::Check;
 use crate::message::{kind_field, kind_known, kind_sides_fit, last_fits, message_size};
 use crate::order::{need, worst};
-use field::{Field, FieldAnswer, refusal_in};
+use field::Field;
 use protocol::{Head, Refusal, Terms};
 use sides::Matrix;
 use tape::half::half_size;
@@ -19,24 +19,20 @@ use tape::{End, Place, is_slot};
 // ---- the modulus
 
 // The field of a session's modulus: that of a system is prime.
-fn end_field(end: End, q: u32) -> FieldAnswer
+fn end_field(end: End, q: u32) -> Result<Field, Refusal>
     ensures { made result ≡ sort_field_of (sort end) q }
 {
     match end {
-        End::Left => Field::new(q),
-        End::Right => Field::new(q),
-        End::Blinder => Field::of_system(q),
-        End::Solver => Field::of_system(q),
+        End::Left | End::Right => Field::new(q),
+        End::Blinder | End::Solver => Field::of_system(q),
     }
 }
 
 // The refusal is handed on where no field was made.
-fn check_field(answer: FieldAnswer) -> Check
+fn check_field(answer: Result<Field, Refusal>) -> Check
     ensures { checked result ≡ field_judged answer }
 {
-    let FieldAnswer::Ready(_) = answer else {
-        return Err(refusal_in(answer));
-    };
+    answer?;
     Ok(())
 }
 
@@ -56,7 +52,7 @@ pub fn check_kind(a: Head) -> Check
 }
 
 // The field of a message and a session with one modulus.
-fn joint_field(kind: u32, end: End, q: u32) -> FieldAnswer
+fn joint_field(kind: u32, end: End, q: u32) -> Result<Field, Refusal>
     ensures { made result ≡ sort_field_of (joint (kind_sort kind) (sort end)) q }
 {
     if kind <= 2 {
@@ -80,14 +76,12 @@ pub fn check_moduli(a: Head, end: End, q: u32) -> Check
 
 // ---- sizes
 
-fn sides_fit(end: End, m: u32, k: u32, p: u32) -> bool
+pub fn sides_fit(end: End, m: u32, k: u32, p: u32) -> bool
     ensures { result ≡ sides_fit (sort end) m k p }
 {
     match end {
-        End::Left => Matrix::sides_fit(m, k, p),
-        End::Right => Matrix::sides_fit(m, k, p),
-        End::Blinder => Matrix::system_sides_fit(m, k, p),
-        End::Solver => Matrix::system_sides_fit(m, k, p),
+        End::Left | End::Right => Matrix::sides_fit(m, k, p),
+        End::Blinder | End::Solver => Matrix::system_sides_fit(m, k, p),
     }
 }
 
@@ -133,39 +127,9 @@ pub fn check_message(a: Head, count: usize) -> Check
     worst(kind, head)
 }
 
-fn same_ids(a: Terms, t: Terms) -> bool
-    ensures { result ≡ same_ids a t }
-{
-    let sent = a.session;
-    let own = t.session;
-    let sent_tape = a.tape;
-    let own_tape = t.tape;
-    if sent.0 != own.0 {
-        return false;
-    }
-    sent_tape.0 == own_tape.0
-}
-
-fn same_sides(a: Terms, t: Terms) -> bool
-    ensures { result ≡ same_sides a t }
-{
-    if a.q != t.q {
-        return false;
-    }
-    if a.m != t.m {
-        return false;
-    }
-    if a.k != t.k {
-        return false;
-    }
-    a.p == t.p
-}
-
 // The message bears the session's numbers.
 pub fn check_same(a: Head, t: Terms) -> Check
     ensures { checked result ≡ judged (same_tests a t) }
 {
-    let ids = need(Refusal::Stranger, same_ids(a.terms, t));
-    let sides = need(Refusal::Stranger, same_sides(a.terms, t));
-    worst(ids, sides)
+    need(Refusal::Stranger, a.terms == t)
 }

@@ -1,4 +1,4 @@
--- `message::last_kind` meets its contract: by the one test. Assumes nothing.
+-- `judging::message::last_kind` meets its contract. Assumes nothing.
 use Rattle.protocol.specs.Message.{last_kind}
 use Rattle.tape.proofs.Chain.{chain}
 use Rattle.judging.proofs.message.last_kind.Goals as goal
@@ -7,6 +7,6 @@ pub returns-then-t : goal.returns-then-t
 unfolding last_kind
 returns-then-t c = search chain
 
-pub returns : goal.returns
+pub returns-else-t : goal.returns-else-t
 unfolding last_kind
-returns c = search chain
+returns-else-t c = search chain

@@ -1,12 +1,12 @@
 -- `judging::numbers::check_same` meets its contract. Assumes nothing.
 use mathlib.Core.Path.{sym, ◌∙◌}
-use mathlib.Core.List.{[], ◌∷◌}
-use Rattle.judging.proofs.Join.{also}
-use Rattle.judging.proofs.Header.{same-as-two}
+use Rattle.algebra.specs.Count.{both}
+use Rattle.judging.specs.Groups.{same_terms}
+use Rattle.judging.proofs.Header.{same-as-one}
 use Rattle.judging.proofs.numbers.check_same.Goals as goal
 
 pub returns : goal.returns
+unfolding same_terms both
 returns c =
     let a = c.args in
-    also (_ ∷ []) (_ ∷ []) c.worst.ensures (rw c.same_ids.ensures at c.need-ids.ensures)
-    (rw c.same_sides.ensures at c.need-sides.ensures) ∙ sym (same-as-two a.a a.t)
+    (rw (c.eq.ensures) at c.need.ensures) ∙ sym (same-as-one a.a a.t)
