@@ -7,7 +7,7 @@ ghost use Rattle.algebra.specs.Words.{over};
 ghost use Rattle.algebra.specs.Count.{both};
 ghost use Rattle.entry.specs.Bytes.{bytes_of};
 ghost use Rattle.entry.specs.Record.{record_words};
-ghost use Rattle.entry.specs.Entry.{Lent, Left};
+ghost use Rattle.entry.specs.Entry.{lent_of, left_of};
 ghost use Rattle.local.specs.Settled.{is_singular};
 ghost use Rattle.local.specs.Seen.{sent_size};
 ghost use Rattle.local.specs.Stored.{sent_line, stored, stored_sent};
@@ -101,18 +101,9 @@ fn store_sent(
 ) -> Report
     requires { (length session.old ≡ 1120) × (length words.now * 4 ≤ length slot.old)
         × (length lent.now * 4 ≤ length scratch.old) × (length share.now * 4 ≤ length res.old) }
-    ensures { ◌≡◌ {A = Left} (record {
-      report = result;
-      lent = record {
-        host = session.new;
-        pool = slot.new;
-        scratch = scratch.new;
-        line = line.new;
-        result = res.new;
-      };
-    })
-        (stored_sent read x h words.now lent.now sent.now share.now
-        (record { host = session.old; pool = slot.old; scratch = scratch.old; line = line.old; result = res.old })) }
+    ensures { left_of result session.new slot.new scratch.new line.new res.new
+        ≡ stored_sent read x h words.now lent.now sent.now share.now
+        (lent_of session.old slot.old scratch.old line.old res.old) }
 {
     let bytes = line_size(h, sent);
     if line.len() < bytes {
@@ -155,18 +146,9 @@ pub fn store(
 ) -> Report
     requires { (length session.old ≡ 1120) × (length words.now * 4 ≤ length slot.old)
         × (length lent.now * 4 ≤ length scratch.old) × (length share.now * 4 ≤ length res.old) }
-    ensures { ◌≡◌ {A = Left} (record {
-      report = result;
-      lent = record {
-        host = session.new;
-        pool = slot.new;
-        scratch = scratch.new;
-        line = line.new;
-        result = res.new;
-      };
-    })
-        (stored sums read answer x h words.now lent.now sent.now share.now
-        (record { host = session.old; pool = slot.old; scratch = scratch.old; line = line.old; result = res.old })) }
+    ensures { left_of result session.new slot.new scratch.new line.new res.new
+        ≡ stored sums read answer x h words.now lent.now sent.now share.now
+        (lent_of session.old slot.old scratch.old line.old res.old) }
 {
     let Answer::Refused(r) = answer else {
         return store_sent(
