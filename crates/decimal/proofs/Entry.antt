@@ -27,7 +27,7 @@ use Rattle.protocol.specs.declared.Numeral.{Numeral}
 use Rattle.protocol.specs.declared.Numeral.TheVariants.{Empty, Value, Wrong}
 use Rattle.protocol.specs.Line.{with_byte, end_byte, prepend, end_number, numbers, numbers_of, numbers_into}
 use Rattle.protocol.proofs.Judge.{accepts, same-refusal, not-zero}
-use Rattle.decimal.specs.Reading.{Spelled, with_number, end_spelled, spell, numbers_in, numbers_before, count_reply, tally_of, tally_in, Ended, Stored, TalliedBehind, Tallied}
+use Rattle.decimal.specs.Reading.{Spelled, with_number, end_spelled, spell, numbers_in, numbers_before, count_reply, tally_of, tally_in, Ended, TalliedBehind}
 use Rattle.decimal.proofs.Bytes.{needs-end, whole, whole-none}
 
 -- words stored from the start on stand over what was there

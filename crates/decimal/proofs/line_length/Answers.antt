@@ -1,11 +1,9 @@
 -- `decimal::line_length` meets its contract: the numbers' bytes, summed. Assumes nothing.
 use mathlib.Core.Path.{◌≡◌, ◌∙◌}
-use Prim.Native.Nat.{ℕ, ◌+◌, ◌*◌, ◌<◌, ◌≤◌, ◌^◌}
+use Prim.Native.Nat.{◌<◌, ◌^◌}
 use native.Mathlib.Omega.{arith}
-use lib.ListN.{length}
 use Rattle.std.proofs.Common.{rules}
 use Rattle.std.specs.List.{sum_by}
-use Rattle.protocol.specs.Line.{decimal}
 use Rattle.decimal.proofs.Stores.{field-bytes, line-sum, line-few}
 use Rattle.decimal.proofs.line_length.Goals as goal
 

@@ -1,13 +1,12 @@
 -- `decimal::numbers` meets its contract: the line is read twice, the second time into the lent slice. Assumes nothing.
-use mathlib.Core.Path.{◌≡◌, refl, sym, ap, ◌∙◌}
+use mathlib.Core.Path.{refl, sym, ap, ◌∙◌}
 use Prim.Native.Nat.{ℕ, ◌≤◌}
 use native.Mathlib.Omega.{arith}
 use lib.ListN.{length}
 use lib.Seq.{sets}
 use Rattle.std.specs.Prelude.{Ok}
-use Rattle.std.proofs.lemmas.Result.{err_from_is_err_and}
+use Rattle.decimal.proofs.Exits.{err-exit, none-err}
 use Rattle.decimal.proofs.Entry.{into-none, into-short, into-done, told, told-wrong, before-all, sets_over}
-use Rattle.protocol.specs.declared.Refusal.TheVariants.{Form}
 use Rattle.protocol.specs.Line.{numbers_of}
 use Rattle.decimal.specs.Reading.{count_reply}
 use Rattle.decimal.proofs.numbers.Goals as goal
@@ -17,10 +16,8 @@ returns-in_err-n c =
     let a = c.args in
     let s = a.s.now in
     let wrong = told-wrong (numbers_of s) (sym c.load.ensures.answered ∙ c.in_err-n.ensures.ok_part) in
-    let v = rw c.in_err-n.ensures.ok_part at c.in_err-n.ensures.value in
-    let form : c.in_err-n.field-0.0 ≡ Form = cc v in
-    let p = err_from_is_err_and c.from_residual.result c.from_residual.ensures.1 in
-    rw (p.1, p.2, form, into-none (length a.out.now) s wrong) (record { answered = refl; contents = refl })
+    let e = none-err c.in_err-n.ensures.ok_part c.in_err-n.ensures.value in
+    rw (err-exit c.from_residual.result c.from_residual.ensures.1, e, into-none (length a.out.now) s wrong) (record { answered = refl; contents = refl })
 
 pub returns-then-out-n : goal.returns-then-out-n
 returns-then-out-n c =
