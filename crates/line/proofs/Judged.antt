@@ -28,14 +28,12 @@ use Rattle.protocol.specs.Line.{numbers_of, message_from, parsed_from, read_with
 use Rattle.judging.specs.InOrder.{checked, in_order, only, sorted_by, sorted, verdict, judged, after}
 use Rattle.judging.specs.Lowest.{lower}
 use Rattle.judging.specs.Groups.{kind_tests, number_tests, head_tests, count_tests, message_numbers}
-use Rattle.judging.specs.declared.Check.{Check}
-use Rattle.judging.specs.declared.Check.TheVariants as check
 use Rattle.judging.proofs.InOrder.{judge-sorted, refused-by, accepted-by}
 use Rattle.judging.proofs.Join.{judged-true, judged-join}
 use Rattle.judging.proofs.Steps.{in_two}
 use Rattle.std.specs.Prelude.{Option, Some, None, Ok, Err}
 use Rattle.line.specs.declared.Arrived.{Arrived}
-use Rattle.line.specs.Entries.{no_arrival, received_reply, arrived_of, residues_after, passed}
+use Rattle.line.specs.Entries.{no_arrival, received_reply, arrived_of, residues_after}
 use Rattle.line.specs.Reading.{Holds, NoMessage, Loads, rest_tests}
 use Rattle.line.proofs.Fits.{message-few, has_room}
 
@@ -144,22 +142,13 @@ module _ {s words : List ℕ} {h : Head} {n : ℕ} (l : Holds s h n words) (room
   unfolding read_into
   read-judged = rw l.reads
 
--- a check by its result
-pub check-refused : (x : Check) {r : Refusal} → passed x ≡ Err r → checked x ≡ refused r
-check-refused check.Passed k = cc
-check-refused (check.Refused s) k = let same : s ≡ _ = cc k in ap refused same
-
-pub check-passed : (x : Check) → passed x ≡ Ok tt → checked x ≡ done tt
-check-passed check.Passed k = refl
-check-passed (check.Refused s) k = cc
-
 module _ {s words : List ℕ} {a : Arrived} (l : Holds s a.head a.count words) (ts : List Test) {o : Judged Message} (is : o ≡ judge ts (message_from l.values))
-    (out : List ℕ) (x : Check) (e : checked x ≡ judged ts) where
-  pub refuses : {r : Refusal} → passed x ≡ Err r → (received_reply (Err r) ≡ reply_of no_arrival (arrived_of o)) × (out ≡ residues_after o out)
-  refuses k = rw (is ∙ refused-by ts (message_from l.values) (sym e ∙ check-refused x k)) (refl, refl)
+    (out : List ℕ) where
+  pub refuses : {r : Refusal} → refused r ≡ judged ts → (received_reply (Err r) ≡ reply_of no_arrival (arrived_of o)) × (out ≡ residues_after o out)
+  refuses e = rw (is ∙ refused-by ts (message_from l.values) (sym e)) (refl, refl)
 
-  pub takes : {left : List ℕ} → passed x ≡ Ok tt → left ≡ over (drop 7 l.values) out
+  pub takes : {left : List ℕ} → done tt ≡ judged ts → left ≡ over (drop 7 l.values) out
       → (received_reply (Ok a) ≡ reply_of no_arrival (arrived_of o)) × (left ≡ residues_after o out)
-  takes k f =
-      rw (is ∙ accepted-by ts (message_from l.values) (sym e ∙ check-passed x k))
+  takes e f =
+      rw (is ∙ accepted-by ts (message_from l.values) (sym e))
       (ap₂ (λ (x : Head) (m : ℕ). received_reply (Ok (record { head = x; count = m }))) l.head (sym l.count), f)

@@ -7,8 +7,6 @@ use Rattle.algebra.specs.Words.{over}
 use Rattle.protocol.specs.declared.Refusal.{Refusal}
 use Rattle.protocol.specs.Judge.{Judged, refused, done, refusal_number, Reply}
 use Rattle.protocol.specs.Message.{Message, no_message}
-use Rattle.judging.specs.declared.Check.{Check}
-use Rattle.judging.specs.declared.Check.TheVariants as check
 use Rattle.line.specs.declared.Arrived.{Arrived}
 
 -- ---- parse and read
@@ -30,11 +28,6 @@ arrived_of (done a) = done (record { head = a.head; count = length a.residues })
 abbrev pub residues_after : Judged Message → List ℕ → List ℕ
 residues_after (refused r) out = out
 residues_after (done a) out = over a.residues out
-
--- a check as a result: its refusal is handed on
-abbrev pub passed : Check → Result Unit Refusal
-passed check.Passed = Ok tt
-passed (check.Refused r) = Err r
 
 -- ---- write
 

@@ -12,7 +12,7 @@ ghost use Rattle.protocol.specs.Line.{message_from, message_line, parse_into, re
 ghost use Rattle.judging.specs.InOrder.{checked, judged};
 ghost use Rattle.protocol.specs.Message.{message_with};
 ghost use Rattle.decimal.specs.Writing.{head_numbers};
-ghost use Rattle.line.specs.Entries.{received_reply, no_arrival, arrived_of, residues_after, written_reply, bytes_of, bytes_after, passed};
+ghost use Rattle.line.specs.Entries.{received_reply, no_arrival, arrived_of, residues_after, written_reply, bytes_of, bytes_after};
 ghost use Rattle.line.specs.Reading.{Holds, Loads, rest_tests};
 
 use judging::message::kind_known;
@@ -79,16 +79,6 @@ fn store(s: &[u8], words: &[u32], count: usize, out: &mut [u32])
     decimal::load_behind(s, 7, out);
 }
 
-// A check as what `?` hands on.
-fn passed(c: Check) -> Result<(), Refusal>
-    ensures { result ≡ passed c }
-{
-    match c {
-        Check::Passed => Ok(()),
-        Check::Refused(r) => Err(r),
-    }
-}
-
 // The form of a message, and the room of its residues. Without room it is judged by itself: by 4, or by what is lower.
 fn check_form(h: Head, count: usize, room: usize) -> Check
     ensures { (s words : List ℕ) (l : Holds s h count words) → checked result ≡ judged (parse_tests room l.values) }
@@ -115,10 +105,7 @@ fn check_read(h: Head, count: usize, words: &[u32], room: usize) -> Check
     requires { length words.now ≡ 3079 }
     ensures { (s : List ℕ) (l : Holds s h count words.now) → checked result ≡ judged (read_tests room l.values) }
 {
-    let own = check_message(h, count);
-    let Check::Passed = own else {
-        return own;
-    };
+    check_message(h, count)?;
     let t = h.terms;
     let end = count + 7;
     check_rest(t.q, &words[7..end], count, room)
@@ -131,8 +118,7 @@ pub fn parse(s: &[u8], out: &mut [u32]) -> Result<Arrived, Refusal>
 {
     let mut words = [0u32; 3079];
     let message = load(s, &mut words).ok_or(Refusal::Form)?;
-    let check = check_form(message.head, message.count, out.len());
-    passed(check)?;
+    check_form(message.head, message.count, out.len())?;
     store(s, &words, message.count, out);
     Ok(message)
 }
@@ -144,8 +130,7 @@ pub fn read(s: &[u8], out: &mut [u32]) -> Result<Arrived, Refusal>
 {
     let mut words = [0u32; 3079];
     let message = load(s, &mut words).ok_or(Refusal::Form)?;
-    let check = check_read(message.head, message.count, &words, out.len());
-    passed(check)?;
+    check_read(message.head, message.count, &words, out.len())?;
     put_residues(&words, message.count, out);
     Ok(message)
 }
@@ -174,10 +159,7 @@ pub fn message_length(h: Head, residues: &[u32]) -> usize
 fn check_write(h: Head, residues: &[u32], room: usize) -> Check
     ensures { checked result ≡ judged (write_tests room (message_with h residues.now)) }
 {
-    let own = check_message(h, residues.len());
-    let Check::Passed = own else {
-        return own;
-    };
+    check_message(h, residues.len())?;
     let t = h.terms;
     check_rest(t.q, residues, message_length(h, residues), room)
 }
@@ -198,7 +180,6 @@ pub fn write(h: Head, residues: &[u32], out: &mut [u8]) -> Result<usize, Refusal
     ensures answered { written_reply result ≡ reply_of 0 (bytes_of (write_into (length out.old) (message_with h residues.now))) }
     ensures contents { out.new ≡ bytes_after (write_into (length out.old) (message_with h residues.now)) out.old }
 {
-    let check = check_write(h, residues, out.len());
-    passed(check)?;
+    check_write(h, residues, out.len())?;
     Ok(put_message(h, residues, out))
 }

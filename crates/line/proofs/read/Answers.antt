@@ -7,7 +7,7 @@ use Rattle.line.proofs.Words.{all-residues}
 use lib.ListN.{length}
 use borrow.Author.Rules.{rules}
 use Rattle.decimal.proofs.Exits.{err-exit, none-err}
-use Rattle.line.proofs.Judged.{holds, no-message, read-wrong, read-room, read-judged, check-passed, refuses, takes, read-few}
+use Rattle.line.proofs.Judged.{holds, no-message, read-wrong, read-room, read-judged, refuses, takes, read-few}
 use Rattle.line.proofs.read.Goals as goal
 
 pub returns-in_err-message : goal.returns-in_err-message
@@ -18,28 +18,25 @@ returns-in_err-message c =
     rw (err-exit c.from_residual.result c.from_residual.ensures.1, none-err none c.in_err-message.ensures.value, wrong)
     (record { answered = refl; contents = refl })
 
-pub returns-in_err-passed : goal.returns-in_err-passed
-returns-in_err-passed c =
+pub returns-in_err-check_read : goal.returns-in_err-check_read
+returns-in_err-check_read c =
     let l = holds _ _ c.load.ensures c.in_ok-message.ensures.ok_part in
-    let check = c.check_read-check in
-    let all = refuses l _ (read-judged l _) c.args.out.now check.result (check.ensures _ l) (sym c.in_err-passed.ensures) in
-    rw (err-exit c.from_residual-in_err-passed.result c.from_residual-in_err-passed.ensures.1) (record { answered = all.0; contents = all.1 })
+    let all = refuses l _ (read-judged l _) c.args.out.now (c.in_err-check_read.ensures _ l) in
+    rw (err-exit c.from_residual-in_err-check_read.result c.from_residual-in_err-check_read.ensures.1) (record { answered = all.0; contents = all.1 })
 
 pub put_residues-requires : goal.put_residues-requires
 put_residues-requires c =
     let l = holds _ _ c.load.ensures c.in_ok-message.ensures.ok_part in
-    let check = c.check_read-check in
-    let passed = sym (check.ensures _ l) ∙ check-passed check.result (sym c.in_ok-passed.ensures) in
+    let passed = sym (c.in_ok-check_read.ensures _ l) in
     let few = read-few l _ passed in
     (search rules, read-room l _ passed)
 
 pub returns : goal.returns
 returns c =
     let l = holds _ _ c.load.ensures c.in_ok-message.ensures.ok_part in
-    let check = c.check_read-check in
-    let told = sym c.in_ok-passed.ensures in
+    let told = c.in_ok-check_read.ensures _ l in
     let out = c.args.out.now in
-    let few = read-few l _ (sym (check.ensures _ l) ∙ check-passed check.result told) in
-    let all = takes l _ (read-judged l _) out check.result (check.ensures _ l) told
+    let few = read-few l _ (sym told) in
+    let all = takes l _ (read-judged l _) out told
     (c.put_residues.ensures ∙ ap (λ (r : List ℕ). over r out) (all-residues l (search rules))) in
     record { answered = all.0; contents = all.1 }

@@ -9,25 +9,21 @@ use Rattle.judging.proofs.InOrder.{refused-by, accepted-by}
 use Rattle.decimal.proofs.Exits.{err-exit}
 use Rattle.line.specs.Entries.{written_reply}
 use Rattle.line.proofs.Fits.{message-few, has_room}
-use Rattle.line.proofs.Judged.{check-refused, check-passed}
 use Rattle.line.proofs.write.Goals as goal
 
-pub returns-in_err-passed : goal.returns-in_err-passed
+pub returns-in_err-check_write : goal.returns-in_err-check_write
 unfolding write_into
-returns-in_err-passed c =
+returns-in_err-check_write c =
     let a = c.args in
     let m = message_with a.h a.residues.now in
-    let check = c.check_write-check in
-    let r = check-refused check.result (sym c.in_err-passed.ensures) in
-    rw (err-exit c.from_residual.result c.from_residual.ensures.1, refused-by (write_tests (length a.out.now) m) (message_line m) (sym check.ensures ∙ r))
+    rw (err-exit c.from_residual.result c.from_residual.ensures.1, refused-by (write_tests (length a.out.now) m) (message_line m) (sym c.in_err-check_write.ensures))
     (record { answered = refl; contents = refl })
 
 pub put_message-requires : goal.put_message-requires
 put_message-requires c =
     let a = c.args in
     let m = message_with a.h a.residues.now in
-    let check = c.check_write-check in
-    let e = sym check.ensures ∙ check-passed check.result (sym c.in_ok-passed.ensures) in
+    let e = sym c.in_ok-check_write.ensures in
     let o = has_room (message_tests m) (length (message_line m)) (length a.out.now) e in
     (message-few m o.0, o.1)
 
@@ -37,7 +33,6 @@ returns c =
     let a = c.args in
     let m = message_with a.h a.residues.now in
     let put = c.put_message.ensures in
-    let check = c.check_write-check in
-    let e = sym check.ensures ∙ check-passed check.result (sym c.in_ok-passed.ensures) in
+    let e = sym c.in_ok-check_write.ensures in
     rw (accepted-by (write_tests (length a.out.now) m) (message_line m) e)
     (record { answered = ap (λ (n : ℕ). written_reply (Ok n)) put.place; contents = put.contents })
