@@ -250,34 +250,18 @@ pub fn put_numbers(xs: &[u32], more: usize, out: &mut [u8], at: usize) -> usize
 pub fn digit_count(n: u32) -> usize
     ensures { result ≡ length (decimal n) }
 {
-    if 1000000000 <= n {
-        return 10;
+    match n {
+        1000000000.. => 10,
+        100000000.. => 9,
+        10000000.. => 8,
+        1000000.. => 7,
+        100000.. => 6,
+        10000.. => 5,
+        1000.. => 4,
+        100.. => 3,
+        10.. => 2,
+        _ => 1,
     }
-    if 100000000 <= n {
-        return 9;
-    }
-    if 10000000 <= n {
-        return 8;
-    }
-    if 1000000 <= n {
-        return 7;
-    }
-    if 100000 <= n {
-        return 6;
-    }
-    if 10000 <= n {
-        return 5;
-    }
-    if 1000 <= n {
-        return 4;
-    }
-    if 100 <= n {
-        return 3;
-    }
-    if 10 <= n {
-        return 2;
-    }
-    1
 }
 
 // How many bytes n takes with the byte that ends it.
