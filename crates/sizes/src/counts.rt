@@ -3,6 +3,8 @@
 //   scratch                  the blinder's scratch, and its coins
 //   coins                    left's coins
 //   product_draws, system_draws   a dealing
+#![tactic(auto, unfolding(crate::specs::Sizes::in_bounds, protocol::specs::System::scratch_size, protocol::specs::Deal::draw_size, protocol::specs::Bounds::sides_fit, protocol::specs::Bounds::within, algebra::specs::Count::both))]
+
 ghost use Rattle.std.specs.Prelude.{◌≡◌, [], ◌*◌};
 ghost use Rattle.protocol.specs.Bounds.{product, system, sides_fit};
 ghost use Rattle.protocol.specs.Tape.{tape_size};
@@ -19,7 +21,6 @@ use tape::half::half_size;
 use vectors::times;
 
 // Of the sides is told whether they fit.
-#[tactic(auto, unfolding(crate::specs::Sizes::in_bounds))]
 pub fn half_words(end: End, fits: bool, m: u32, k: u32, p: u32) -> usize
     requires { fits ≡ sides_fit (sort end) m k p }
     ensures { result ≡ in_bounds (sort end) m k p (tape_size (role end) m k p) }
@@ -39,7 +40,6 @@ pub fn half_words(end: End, fits: bool, m: u32, k: u32, p: u32) -> usize
 }
 
 // P and U0.
-#[tactic(auto, unfolding(crate::specs::Sizes::in_bounds, protocol::specs::System::scratch_size, protocol::specs::Bounds::sides_fit, protocol::specs::Bounds::within, algebra::specs::Count::both))]
 pub fn scratch(m: u32, k: u32, p: u32) -> usize
     ensures { result ≡ in_bounds system m k p (scratch_size (sided m k p)) }
 {
@@ -50,7 +50,6 @@ pub fn scratch(m: u32, k: u32, p: u32) -> usize
 }
 
 // U.
-#[tactic(auto, unfolding(crate::specs::Sizes::in_bounds))]
 pub fn coins(m: u32, k: u32, p: u32) -> usize
     ensures { result ≡ in_bounds product m k p (m * p) }
 {
@@ -61,7 +60,6 @@ pub fn coins(m: u32, k: u32, p: u32) -> usize
 }
 
 // X0, Y0 and A0.
-#[tactic(auto, unfolding(crate::specs::Sizes::in_bounds, protocol::specs::Deal::draw_size, protocol::specs::Bounds::sides_fit, protocol::specs::Bounds::within, algebra::specs::Count::both))]
 pub fn product_draws(m: u32, k: u32, p: u32) -> usize
     ensures { result ≡ in_bounds product m k p (draw_size (request_of product 0 0 m k p [])) }
 {
@@ -72,7 +70,6 @@ pub fn product_draws(m: u32, k: u32, p: u32) -> usize
 }
 
 // The same, and Q, R and G, each with as many residues as X0.
-#[tactic(auto, unfolding(crate::specs::Sizes::in_bounds, protocol::specs::Deal::draw_size, protocol::specs::Bounds::sides_fit, protocol::specs::Bounds::within, algebra::specs::Count::both))]
 pub fn system_draws(m: u32, k: u32, p: u32) -> usize
     ensures { result ≡ in_bounds system m k p (draw_size (request_of system 0 0 m k p [])) }
 {
