@@ -23,13 +23,8 @@ pub extern "C" fn bench_inverses(q: u32, n: u32) -> u32 {
     };
     let m = field.q;
     let mut sum: u32 = 0;
-    let mut a: u32 = 1;
-    while a <= n {
-        if m <= a {
-            return sum;
-        }
-        sum = std::num::wrapping_add_u32(sum, field::inverse_mod(m, a));
-        a += 1;
+    for a in 1..m.min(n.saturating_add(1)) {
+        sum = sum.wrapping_add(field::inverse_mod(m, a));
     }
     sum
 }
