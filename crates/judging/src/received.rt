@@ -41,5 +41,8 @@ pub fn check_coins(q: u32, n: usize, words: &[u32]) -> Check
     requires { 0 < q }
     ensures { checked result ≡ judged (draw_tests q n words.now) }
 {
-    read(q, n, words).map(|_| ()).ok_or(Refusal::Dry)
+    match read(q, n, words) {
+        Some(_) => Ok(()),
+        None => Err(Refusal::Dry),
+    }
 }
