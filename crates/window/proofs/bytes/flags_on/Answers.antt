@@ -1,19 +1,17 @@
 -- `window::bytes::flags_on` meets its contract: the number of the check. Assumes nothing.
-use mathlib.Core.Path.{sym, ap, ◌∙◌}
+use mathlib.Core.Path.{ap, ◌∙◌}
 use Prim.Native.Nat.{ℕ}
 use Rattle.protocol.specs.Judge.{Judged, reply_of}
-use Rattle.judging.specs.InOrder.{checked}
 use Rattle.window.specs.Entries.{flags_number}
 use Rattle.window.proofs.bytes.flags_on.Goals as goal
 
 abbrev number : Judged Unit → ℕ
 number j = (reply_of {A = Unit} tt j).number
 
-pub returns-in-Passed : goal.returns-in-Passed
+pub returns-in-Ok : goal.returns-in-Ok
 unfolding flags_number
-returns-in-Passed c = ap number (sym (ap checked c.in-Passed.is) ∙ c.check_all_flags.ensures)
+returns-in-Ok c = ap number c.in-Ok.ensures
 
-pub returns-in-Refused : goal.returns-in-Refused
+pub returns-in-Err : goal.returns-in-Err
 unfolding flags_number
-returns-in-Refused c =
-    c.number_of.ensures ∙ ap number (sym (ap checked c.in-Refused.is) ∙ c.check_all_flags.ensures)
+returns-in-Err c = c.from.ensures ∙ ap number c.in-Err.ensures

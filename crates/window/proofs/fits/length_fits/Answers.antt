@@ -1,24 +1,23 @@
 -- `window::fits::length_fits` meets its contract: one bound after the other. Assumes nothing.
-use borrow.Author.Tests.{lt-leb, le-leb}
+use Rattle.std.proofs.Common.{arith}
+use Rattle.std.proofs.lemmas.Bool.Decides.{nat_tests}
 use Rattle.algebra.specs.Count.{both}
 use Rattle.protocol.specs.Bounds.{within}
-use Rattle.judging.proofs.Flags.{fails, holds}
+use Rattle.window.proofs.fits.length_fits.Goals.{then-run_fits, else-run_fits}
 use Rattle.window.proofs.fits.length_fits.Goals as goal
 
-pub returns-then-not-run_fits : goal.returns-then-not-run_fits
-unfolding both
-returns-then-not-run_fits c = rw (fails c.run_fits.ensures c.if-not-run_fits.true)
-
-pub returns-then-w-lt1 : goal.returns-then-w-lt1
+pub returns-then-contains : goal.returns-then-contains
 unfolding both within
-returns-then-w-lt1 c = rw (holds c.run_fits.ensures c.if-not-run_fits.false, lt-leb _ _ c.if-w-lt1.true)
+returns-then-contains c =
+    elim c.if-run_fits.branch [
+      | then-run_fits w ↦ grind (arith, nat_tests)
+      | else-run_fits w ↦ grind (arith, nat_tests)
+    ]
 
-pub returns-then-run-w : goal.returns-then-run-w
+pub returns-else-contains : goal.returns-else-contains
 unfolding both within
-returns-then-run-w c =
-    rw (holds c.run_fits.ensures c.if-not-run_fits.false, le-leb _ _ c.if-w-lt1.false, lt-leb _ _ c.if-run-w.true)
-
-pub returns : goal.returns
-unfolding both within
-returns c =
-    rw (holds c.run_fits.ensures c.if-not-run_fits.false, le-leb _ _ c.if-w-lt1.false, le-leb _ _ c.if-run-w.false)
+returns-else-contains c =
+    elim c.if-run_fits.branch [
+      | then-run_fits w ↦ grind (arith, nat_tests)
+      | else-run_fits w ↦ grind (arith, nat_tests)
+    ]
