@@ -16,16 +16,11 @@ use vectors::{all_below, times};
 use words::get_words;
 
 // So many bytes are n × n words.
+#[tactic(auto, unfolding(crate::specs::Inverse::is_square, algebra::specs::Count::both))]
 fn is_square(n: u32, bytes: usize) -> bool
     ensures { result ≡ is_square n bytes }
 {
-    if !Matrix::unknowns_fit(n) {
-        return false;
-    }
-    if bytes % 4 != 0 {
-        return false;
-    }
-    bytes / 4 == times(n, n)
+    Matrix::unknowns_fit(n) && bytes % 4 == 0 && bytes / 4 == times(n, n)
 }
 
 fn check_square(q: u32, n: u32, bytes: usize) -> Check
