@@ -121,6 +121,7 @@ fn check_all_flags(flags: &[u8]) -> Check
 }
 
 // 0 for a run of flags; else the lowest number that applies.
+#[tactic(auto, unfolding(crate::specs::Entries::flags_number))]
 pub fn flags_on(flags: &[u8]) -> u32
     ensures { result ≡ flags_number flags.now }
 {

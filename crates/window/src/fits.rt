@@ -2,6 +2,8 @@
 //   run_fits                 1 to 2,048 days
 //   window_fits, next_fits   a window, and the one that begins a day later
 //   check_window             a window's numbers, judged
+#![tactic(auto, unfolding(algebra::specs::Count::both, protocol::specs::Bounds::within))]
+
 ghost use Rattle.std.specs.Prelude.{◌≡◌, [], ◌∷◌, suc, ltb};
 ghost use Rattle.algebra.specs.Count.{both};
 ghost use Rattle.protocol.specs.declared.Refusal.TheVariants.{Modulus, Size};
