@@ -36,10 +36,7 @@ fn check_inverse(q: u32, n: u32, words: &[u32]) -> Check
     requires { (is_prime q ≡ true) × (q < 2147483648) × (n ≤ 16) × (length words.now ≡ n * n) }
     ensures { checked result ≡ judged (matrix_tests q n words.now) }
 {
-    let residues = need(Refusal::Residue, all_below(q, words));
-    let Check::Passed = residues else {
-        return residues;
-    };
+    need(Refusal::Residue, all_below(q, words))?;
     need(Refusal::Singular, has_inverse(q, n as usize, words))
 }
 
@@ -56,9 +53,6 @@ fn check_words(q: u32, n: u32, bytes: &[u8]) -> Check
 pub fn check_matrix(q: u32, n: u32, bytes: &[u8]) -> Check
     ensures { checked result ≡ judged (inverse_tests q n bytes.now) }
 {
-    let square = check_square(q, n, bytes.len());
-    let Check::Passed = square else {
-        return square;
-    };
+    check_square(q, n, bytes.len())?;
     check_words(q, n, bytes)
 }

@@ -23,9 +23,7 @@ ghost use Rattle.sizes.specs.Words.{Told, told, refusal_word};
 
 use counts::{coins, half_words, product_draws, scratch, system_draws};
 use entry::{BLINDER, LEFT, RIGHT, SOLVER};
-use field::{ResidueAnswer, ScoreAnswer};
 use inverse::check_matrix;
-use judging::{Check, number_of};
 use line::{kind_fits, line_length};
 use sides::Matrix;
 use tape::End;
@@ -117,12 +115,13 @@ pub fn host_is_prime(n: u32) -> u32
 }
 
 // 0 for an n by n matrix of residues that has an inverse; else the lowest number that applies.
+#[tactic(auto, unfolding(crate::specs::Inverse::inverse_number))]
 pub fn host_has_inverse(q: u32, n: u32, matrix: &[u8]) -> u32
     ensures { result ≡ inverse_number q n matrix.now }
 {
     match check_matrix(q, n, matrix) {
-        Check::Passed => 0,
-        Check::Refused(r) => number_of(r),
+        Ok(()) => 0,
+        Err(r) => u32::from(r),
     }
 }
 
@@ -146,9 +145,9 @@ pub fn host_to_residue(q: u32, score: i32) -> Residue
     ensures { ◌≡◌ {A = Reply ℕ} (record { number = result.number; values = result.residue }) (reply_of 0 (to_residue q score)) }
 {
     match field::to_residue(q, score) {
-        ResidueAnswer::Taken(residue) => Residue { number: 0, residue },
-        ResidueAnswer::Refused(r) => Residue {
-            number: number_of(r),
+        Ok(residue) => Residue { number: 0, residue },
+        Err(r) => Residue {
+            number: u32::from(r),
             residue: 0,
         },
     }
@@ -158,9 +157,9 @@ pub fn host_to_score(q: u32, residue: u32) -> Score
     ensures { ◌≡◌ {A = Reply ℤ} (record { number = result.number; values = result.score }) (reply_of (pos 0) (to_score q residue)) }
 {
     match field::to_score(q, residue) {
-        ScoreAnswer::Read(score) => Score { number: 0, score },
-        ScoreAnswer::Refused(r) => Score {
-            number: number_of(r),
+        Ok(score) => Score { number: 0, score },
+        Err(r) => Score {
+            number: u32::from(r),
             score: 0,
         },
     }
