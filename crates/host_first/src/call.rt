@@ -36,10 +36,7 @@ pub struct Opening {
 fn takes_message(end: u32) -> bool
     ensures { result ≡ takes_message end }
 {
-    if end == LEFT {
-        return true;
-    }
-    end == BLINDER
+    end == LEFT || end == BLINDER
 }
 
 // `words` and `coins`: words for the input and for raw words.

@@ -19,7 +19,7 @@ ghost use Rattle.local.specs.Settled.{unopened};
 ghost use Rattle.local.specs.Entered.{Below, entered_by, seen_first};
 
 use entry::Report;
-use host_parts::seen::{Half, end_of, is_system, seen_in, smaller};
+use host_parts::seen::{Half, end_of, is_system, seen_in};
 use host_parts::settle::{Settled, settle};
 use judging::Check;
 use protocol::{Head, Terms};
@@ -144,8 +144,8 @@ fn on_call(
     let seen = seen_in(half, pool.len(), at);
     let from = seen.from;
     let n = seen.words;
-    let k = smaller(scratch.len() / 4, lent.len());
-    let j = smaller(res.len() / 4, share.len());
+    let k = (scratch.len() / 4).min(lent.len());
+    let j = (res.len() / 4).min(share.len());
     on_slot(
         q,
         residues,

@@ -16,7 +16,7 @@ ghost use Rattle.local.specs.Entered.{Below, entered_by, later_step, seen_later}
 use crate::step::run;
 use entry::{Report, SOLVER};
 use host_parts::record::session_in;
-use host_parts::seen::{half_in, seen_in, smaller};
+use host_parts::seen::{half_in, seen_in};
 use host_parts::settle::{Settled, settle};
 use judging::Check;
 use protocol::Head;
@@ -94,8 +94,8 @@ fn on_call(
     let seen = seen_in(half, pool.len(), at);
     let from = seen.from;
     let n = seen.words;
-    let k = smaller(scratch.len() / 4, lent.len());
-    let j = smaller(res.len() / 4, share.len());
+    let k = (scratch.len() / 4).min(lent.len());
+    let j = (res.len() / 4).min(share.len());
     on_slot(
         q,
         residues,

@@ -42,10 +42,9 @@ pub fn settle(
         ≡ settled q.own q.sums q.read answer x h words.now lent.now out.now share.now
         (lent_of session.old slot.old scratch.old line.old res.old) }
 {
-    let own = q.own;
-    let Check::Passed = own else {
-        return refused(own, answer);
-    };
+    if q.own.is_err() {
+        return refused(q.own, answer);
+    }
     store(
         answer, x, h, q.sums, q.read, words, lent, out, share, session, slot, scratch, line, res,
     )

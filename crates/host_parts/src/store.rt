@@ -14,10 +14,8 @@ ghost use Rattle.local.specs.Stored.{sent_line, stored, stored_sent};
 
 use crate::own::refusal;
 use crate::record::put_session;
-use crate::seen::smaller;
 use entry::{Report, Session};
 use judging::message::message_size;
-use judging::number_of;
 use line::{message_length, put_message};
 use protocol::{Answer, Head, Refusal};
 use sides::Matrix;
@@ -44,7 +42,7 @@ fn line_size(h: Head, sent: &[u32]) -> usize
     if h.kind == 0 {
         return 0;
     }
-    let n = smaller(sent_count(h), sent.len());
+    let n = sent_count(h).min(sent.len());
     message_length(h, &sent[..n])
 }
 
@@ -55,7 +53,7 @@ fn put_line(h: Head, sent: &[u32], line: &mut [u8])
     if h.kind == 0 {
         return;
     }
-    let n = smaller(sent_count(h), sent.len());
+    let n = sent_count(h).min(sent.len());
     put_message(h, &sent[..n], line);
 }
 
@@ -122,10 +120,7 @@ fn store_sent(
 fn is_sum(sums: bool, r: Refusal) -> bool
     ensures { result ≡ both sums (is_singular r) }
 {
-    if !sums {
-        return false;
-    }
-    number_of(r) == 10
+    sums && r == Refusal::Singular
 }
 
 pub fn store(
@@ -150,7 +145,7 @@ pub fn store(
         ≡ stored sums read answer x h words.now lent.now sent.now share.now
         (lent_of session.old slot.old scratch.old line.old res.old) }
 {
-    let Answer::Refused(r) = answer else {
+    let Err(r) = answer else {
         return store_sent(
             h, x, read, words, lent, sent, share, session, slot, scratch, line, res,
         );
