@@ -34,7 +34,7 @@ use Rattle.judging.proofs.InOrder.{accepted-by}
 use Rattle.judging.proofs.Join.{judged-true}
 use Rattle.tape.proofs.Sides.{sides-of, unknowns, modulus}
 use Rattle.tape.proofs.Slots.{slot-room}
-use Rattle.drawing.specs.declared.Reading.TheVariants.{Dry}
+use Rattle.std.specs.Prelude.{None}
 use Rattle.drawing.specs.Extent.{read_for}
 use Rattle.drawing.proofs.Then.{dry-few}
 use Rattle.dealer.specs.Sorts.{sort, masks_count, draw_count, request}
@@ -166,7 +166,7 @@ unfolding draw_tests
 coins-enough q n words told e = leb-true _ _ (passed (draw_tests q n words) (sym told ∙ ap checked e)).0.0
 
 -- a reading where enough words are kept
-pub never-dry : (q n : ℕ) (words : List ℕ) → read_for q n words ≡ Dry → n ≤ length (residues_of q words) → ⊥
+pub never-dry : (q n : ℕ) (words : List ℕ) → read_for q n words ≡ None → n ≤ length (residues_of q words) → ⊥
 never-dry q n words e h = let few = leb-false n (length (residues_of q words)) (dry-few q n words e) in omega arith
 
 pub drawn-residues : (q n : ℕ) (words : List ℕ) → 0 < q → n ≤ length (residues_of q words) → Residues q n (drawn q n words)
