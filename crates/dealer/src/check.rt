@@ -17,7 +17,7 @@ ghost use Rattle.dealer.specs.Groups.{deal_numbers, mark_tests, mask_tests, raw_
 ghost use Rattle.dealer.specs.Shape.{Fits, Numbers, Unknowns};
 
 use crate::sort::{Sort, draw_count, first_end, masks_count, second_end};
-use drawing::{Reading, draw, read};
+use drawing::{draw, read};
 use elimination::has_inverse;
 use judging::numbers::{check_modulus, check_sizes};
 use judging::received::check_coins;
@@ -63,7 +63,7 @@ fn mask_fits(t: Terms, words: &[u32]) -> bool
     requires { Fits system t × (draw_count system t.m t.k t.p ≤ length (residues_of t.q words.now)) }
     ensures { result ≡ regular t.q t.m (part 3 (drawn_parts (request system t words.now))) }
 {
-    let Reading::Enough(at) = read(t.q, masks_count(t), words) else {
+    let Some(at) = read(t.q, masks_count(t), words) else {
         return false;
     };
     has_inverse_at(t.q, t.m, words, at)
@@ -75,7 +75,7 @@ fn check_mask(s: Sort, t: Terms, words: &[u32]) -> Check
     ensures { checked result ≡ judged (mask_tests (sort s) t words.now) }
 {
     let Sort::System = s else {
-        return Check::Passed;
+        return Ok(());
     };
     need(Refusal::Singular, mask_fits(t, words))
 }
@@ -84,10 +84,7 @@ fn check_raw(s: Sort, t: Terms, words: &[u32]) -> Check
     requires { Fits (sort s) t }
     ensures { checked result ≡ judged (raw_tests (sort s) t words.now) }
 {
-    let coins = check_coins(t.q, draw_count(s, t), words);
-    let Check::Passed = coins else {
-        return coins;
-    };
+    check_coins(t.q, draw_count(s, t), words)?;
     check_mask(s, t, words)
 }
 
@@ -109,9 +106,6 @@ pub fn check(s: Sort, t: Terms, first: &[u32], second: &[u32], at: Place, words:
     ensures { checked result ≡ judged (deal_tests (slot_in first.now at) (slot_in second.now at)
         (request (sort s) t words.now)) }
 {
-    let numbers = check_numbers(s, t, first.len(), second.len(), at);
-    let Check::Passed = numbers else {
-        return numbers;
-    };
+    check_numbers(s, t, first.len(), second.len(), at)?;
     check_words(s, t, first, second, at, words)
 }

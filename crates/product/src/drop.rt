@@ -5,34 +5,29 @@ ghost use Rattle.protocol.specs.Drop.{drop_right};
 ghost use Rattle.tape.specs.Placed.{slot_in};
 ghost use Rattle.judging.specs.Leaves.{leaves, leaving};
 
+use crate::closed;
+use judging::Dropped;
 use judging::step::check_open;
-use judging::{Check, answer_of};
-use protocol::{Answer, RightSession};
+use protocol::RightSession;
 use tape::change::spend_at;
 use tape::{End, Place};
 
-// What a drop answers, and the session as it then is.
-#[derive(Clone, Copy)]
-pub struct RightDropped {
-    pub answer: Answer,
-    pub session: RightSession,
-}
+pub type RightDropped = Dropped<RightSession>;
 
 pub fn right_drop(pool: &mut [u32], at: Place, s: RightSession) -> RightDropped
     ensures { leaving result.answer result.session no_message.head pool.new [] [] []
         ≡ leaves s (slot_in pool.old at) [] [] [] (drop_right s (slot_in pool.old at)) }
 {
     let t = s.terms;
-    let checked = check_open(End::Right, s.due, t, pool, at);
-    let Check::Passed = checked else {
-        return RightDropped {
-            answer: answer_of(checked),
+    if let Err(r) = check_open(End::Right, s.due, t, pool, at) {
+        return Dropped {
+            answer: Err(r),
             session: s,
         };
-    };
+    }
     spend_at(End::Right, t, pool, at);
-    RightDropped {
-        answer: Answer::Accepted(0),
-        session: RightSession { terms: t, due: 0 },
+    Dropped {
+        answer: Ok(0),
+        session: closed(t),
     }
 }

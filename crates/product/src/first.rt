@@ -8,10 +8,10 @@ ghost use Rattle.tape.specs.Placed.{slot_in};
 ghost use Rattle.judging.specs.InOrder.{checked, judged};
 ghost use Rattle.judging.specs.Leaves.{leaves, leaving, computed, computing};
 
-use crate::{RightAnswer, accepted, refused};
+use crate::{RightAnswer, no_session};
 use judging::message::has_room;
 use judging::step::check_first;
-use judging::{Check, check_input, need, worst};
+use judging::{Check, Stepped, check_input, need, worst};
 use protocol::{Head, Refusal, RightSession, Terms};
 use tape::change::take_up_at;
 use tape::half::matrix;
@@ -43,7 +43,7 @@ fn compute(pool: &[u32], at: Place, t: Terms, y: &[u32], out: &mut [u32]) -> Rig
 {
     let y0 = matrix(End::Right, t, 0, pool, at);
     subtract_residues(t.q, times(t.k, t.p), y, y0, out);
-    accepted(
+    Stepped::accepted(
         RightSession { terms: t, due: 2 },
         Head { kind: 1, terms: t },
     )
@@ -55,10 +55,9 @@ pub fn right_first(pool: &mut [u32], at: Place, t: Terms, y: &[u32], out: &mut [
         ≡ leaves no_right (slot_in pool.old at) [] out.old []
         (right_first t (slot_in pool.old at) y.now (length out.old)) }
 {
-    let checked = check(pool, at, t, y, out.len());
-    let Check::Passed = checked else {
-        return refused(checked);
-    };
+    if let Err(r) = check(pool, at, t, y, out.len()) {
+        return Stepped::refused(r, no_session());
+    }
     let done = compute(pool, at, t, y, out);
     take_up_at(End::Right, t, pool, at);
     done

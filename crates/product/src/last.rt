@@ -6,10 +6,10 @@ ghost use Rattle.tape.specs.Placed.{slot_in};
 ghost use Rattle.judging.specs.InOrder.{checked, judged};
 ghost use Rattle.judging.specs.Leaves.{leaves, leaving, computed, computing, taken};
 
-use crate::{RightAnswer, accepted};
+use crate::{RightAnswer, closed};
 use judging::message::no_head;
 use judging::step::{check_later, check_room};
-use judging::{Check, answer_of, worst};
+use judging::{Check, Stepped, worst};
 use matrix::{sides_of, write_share_of};
 use protocol::{Head, RightSession};
 use tape::change::spend_at;
@@ -42,7 +42,7 @@ fn compute(
     let y0 = matrix(End::Right, t, 0, pool, at);
     let b0 = matrix(End::Right, t, 1, pool, at);
     write_share_of(sides_of(t), residues, y0, b0, share);
-    accepted(RightSession { terms: t, due: 0 }, no_head())
+    Stepped::accepted(closed(t), no_head())
 }
 
 // Step 3 (RULES 4.4): the share is X1 × Y0 + R1 − B0.
@@ -58,14 +58,9 @@ pub fn right_last(
         ≡ leaves s (slot_in pool.old at) [] [] share.old
         (right_last s (slot_in pool.old at) (record { head = a; residues = residues.now }) (length share.old)) }
 {
-    let checked = check(pool, at, s, a, residues, share.len());
-    let Check::Passed = checked else {
-        return RightAnswer {
-            answer: answer_of(checked),
-            session: s,
-            head: no_head(),
-        };
-    };
+    if let Err(r) = check(pool, at, s, a, residues, share.len()) {
+        return Stepped::refused(r, s);
+    }
     let done = compute(pool, at, s, residues, share);
     spend_at(End::Right, s.terms, pool, at);
     done

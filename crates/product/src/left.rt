@@ -13,12 +13,12 @@ ghost use Rattle.product.specs.Shape.{Answering};
 
 use crate::LeftAnswer;
 use drawing::draw;
-use judging::message::{has_room, no_head};
+use judging::message::has_room;
 use judging::received::check_coins;
 use judging::step::check_first_received;
-use judging::{Check, answer_of, check_input, need, worst};
+use judging::{Check, Stepped, check_input, need, worst};
 use matrix::{sides_of, write_reply};
-use protocol::{Answer, Head, Refusal, Terms};
+use protocol::{Head, Refusal, Terms};
 use tape::change::spend_at;
 use tape::half::matrix;
 use tape::{End, Place};
@@ -49,10 +49,7 @@ pub fn check(
 {
     let first = check_first_received(End::Left, 1, t, a, residues, pool, at);
     let own = check_own(t, x, room, share);
-    let both = worst(first, own);
-    let Check::Passed = both else {
-        return both;
-    };
+    worst(first, own)?;
     check_coins(t.q, times(t.m, t.p), words)
 }
 
@@ -96,8 +93,9 @@ fn compute(
     let mp = times(t.m, t.p);
     let count = draw(t.q, mp, words, share);
     write_message(t, x, residues, &share[..mp], x0, a0, out);
-    LeftAnswer {
-        answer: Answer::Accepted(count),
+    Stepped {
+        answer: Ok(count),
+        session: (),
         head: Head { kind: 2, terms: t },
     }
 }
@@ -121,13 +119,9 @@ pub fn left_step(
 {
     let room = out.len();
     let given = share.len();
-    let checked = check(pool, at, t, x, words, a, residues, room, given);
-    let Check::Passed = checked else {
-        return LeftAnswer {
-            answer: answer_of(checked),
-            head: no_head(),
-        };
-    };
+    if let Err(r) = check(pool, at, t, x, words, a, residues, room, given) {
+        return Stepped::refused(r, ());
+    }
     let done = compute(pool, at, t, x, words, residues, out, share);
     spend_at(End::Left, t, pool, at);
     done

@@ -14,54 +14,32 @@ mod last;
 pub mod left;
 
 ghost use Rattle.std.specs.Prelude.{◌≡◌};
-ghost use Rattle.judging.specs.InOrder.{answer_of};
-ghost use Rattle.protocol.specs.declared.Answer.TheVariants.{Accepted};
-ghost use Rattle.protocol.specs.Message.{no_message};
 ghost use Rattle.protocol.specs.Product.{no_right};
 
 pub use drop::{RightDropped, right_drop};
 pub use first::right_first;
+use judging::Stepped;
 use judging::message::no_head;
-use judging::{Check, answer_of};
 pub use last::right_last;
 pub use left::left_step;
-use protocol::{Answer, Head, RightSession};
+use protocol::{RightSession, Terms};
 
-// What a step of the right end answers: besides the answer its session, and the head of the message that it sends.
-#[derive(Clone, Copy)]
-pub struct RightAnswer {
-    pub answer: Answer,
-    pub session: RightSession,
-    pub head: Head,
-}
+// What a step of the right end answers.
+pub type RightAnswer = Stepped<RightSession>;
 
 // What left's step answers. Left keeps no session.
-#[derive(Clone, Copy)]
-pub struct LeftAnswer {
-    pub answer: Answer,
-    pub head: Head,
+pub type LeftAnswer = Stepped<()>;
+
+// A session that is closed.
+fn closed(terms: Terms) -> RightSession
+    ensures { result ≡ record { terms = terms; due = 0 } }
+{
+    RightSession { terms, due: 0 }
 }
 
-// A refused first step: there is no session, and nothing is sent.
-fn refused(c: Check) -> RightAnswer
-    ensures { result ≡ record { answer = answer_of c; session = no_right; head = no_message.head } }
+// There is no session: what a refused first step hands back.
+fn no_session() -> RightSession
+    ensures { result ≡ no_right }
 {
-    let none = no_head();
-    let terms = none.terms;
-    RightAnswer {
-        answer: answer_of(c),
-        session: RightSession { terms, due: 0 },
-        head: none,
-    }
-}
-
-// A step that is taken: its next session, and the head of the message that it sends.
-fn accepted(session: RightSession, head: Head) -> RightAnswer
-    ensures { result ≡ record { answer = Accepted 0; session = session; head = head } }
-{
-    RightAnswer {
-        answer: Answer::Accepted(0),
-        session: session,
-        head: head,
-    }
+    closed(no_head().terms)
 }

@@ -10,9 +10,9 @@ ghost use Rattle.judging.specs.Leaves.{leaves, leaving, computed, computing, tak
 
 use crate::joint::write_joint;
 use crate::later::check;
-use crate::{SolverAnswer, accepted, refused, session_of};
+use crate::{SolverAnswer, session_of};
 use elimination::determinant;
-use judging::Check;
+use judging::Stepped;
 use protocol::{Head, SolverSession};
 use tape::change::spend_at;
 use tape::{End, Place};
@@ -35,7 +35,7 @@ fn compute(
     let mut sum = [0u32; 256];
     write_joint(pool, at, t, residues, &mut sum);
     out[0] = determinant(t.q, t.m as usize, &sum[..n]);
-    accepted(session_of(t, 0), Head { kind: 6, terms: t })
+    Stepped::accepted(session_of(t, 0), Head { kind: 6, terms: t })
 }
 
 // Step 5 of a determinant (RULES 5.10): the determinant of W + V.
@@ -51,10 +51,9 @@ pub fn solver_determinant(
         ≡ leaves s (slot_in pool.old at) [] out.old []
         (solver_determinant s (slot_in pool.old at) (record { head = a; residues = residues.now }) (length out.old)) }
 {
-    let checked = check(pool, at, 4, 6, s, a, residues, out.len());
-    let Check::Passed = checked else {
-        return refused(checked, s);
-    };
+    if let Err(r) = check(pool, at, 4, 6, s, a, residues, out.len()) {
+        return Stepped::refused(r, s);
+    }
     let done = compute(pool, at, s, residues, out);
     spend_at(End::Solver, s.terms, pool, at);
     done

@@ -6,9 +6,9 @@ ghost use Rattle.tape.specs.Placed.{slot_in};
 ghost use Rattle.judging.specs.Leaves.{leaves, leaving};
 
 use crate::{SolverDropped, session_of};
+use judging::Dropped;
 use judging::step::check_open;
-use judging::{Check, answer_of};
-use protocol::{Answer, SolverSession};
+use protocol::SolverSession;
 use tape::change::spend_at;
 use tape::{End, Place};
 
@@ -17,16 +17,15 @@ pub fn solver_drop(pool: &mut [u32], at: Place, s: SolverSession) -> SolverDropp
         ≡ leaves s (slot_in pool.old at) [] [] [] (drop_solver s (slot_in pool.old at)) }
 {
     let t = s.terms;
-    let checked = check_open(End::Solver, s.due, t, pool, at);
-    let Check::Passed = checked else {
-        return SolverDropped {
-            answer: answer_of(checked),
+    if let Err(r) = check_open(End::Solver, s.due, t, pool, at) {
+        return Dropped {
+            answer: Err(r),
             session: s,
         };
-    };
+    }
     spend_at(End::Solver, t, pool, at);
-    SolverDropped {
-        answer: Answer::Accepted(0),
+    Dropped {
+        answer: Ok(0),
         session: session_of(t, 0),
     }
 }

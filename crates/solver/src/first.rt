@@ -16,11 +16,11 @@ ghost use Rattle.tape.specs.Placed.{slot_in};
 ghost use Rattle.judging.specs.InOrder.{checked, judged};
 ghost use Rattle.judging.specs.Leaves.{leaves, leaving, computed, computing};
 
-use crate::{SolverAnswer, accepted, no_session, refused, session_of};
+use crate::{SolverAnswer, no_session, session_of};
 use elimination::has_inverse;
 use judging::message::{has_room, side_size};
 use judging::step::check_first;
-use judging::{Check, check_input, need, worst};
+use judging::{Check, Stepped, check_input, need, worst};
 use protocol::{Head, Refusal, SolverSession, Terms};
 use tape::change::take_up_at;
 use tape::half::matrix;
@@ -42,10 +42,7 @@ fn check_inputs(pool: &[u32], at: Place, t: Terms, l: &[u32], x: &[u32], room: u
 pub fn check(pool: &[u32], at: Place, t: Terms, l: &[u32], x: &[u32], room: usize) -> Check
     ensures { checked result ≡ judged (solver_first_tests t (slot_in pool.now at) l.now x.now room) }
 {
-    let inputs = check_inputs(pool, at, t, l, x, room);
-    let Check::Passed = inputs else {
-        return inputs;
-    };
+    check_inputs(pool, at, t, l, x, room)?;
     need(Refusal::Singular, has_inverse(t.q, t.m as usize, l))
 }
 
@@ -71,7 +68,7 @@ fn compute(pool: &[u32], at: Place, t: Terms, l: &[u32], x: &[u32], out: &mut [u
 {
     let y0 = matrix(End::Solver, t, 0, pool, at);
     write_y1(t, l, x, y0, out);
-    accepted(session_of(t, 2), Head { kind: 1, terms: t })
+    Stepped::accepted(session_of(t, 2), Head { kind: 1, terms: t })
 }
 
 // Step 1 (RULES 5.3): Y1 = [L, x] − Y0.
@@ -87,10 +84,9 @@ pub fn solver_first(
         ≡ leaves no_solver (slot_in pool.old at) [] out.old []
         (solver_first t (slot_in pool.old at) l.now x.now (length out.old)) }
 {
-    let checked = check(pool, at, t, l, x, out.len());
-    let Check::Passed = checked else {
-        return refused(checked, no_session());
-    };
+    if let Err(r) = check(pool, at, t, l, x, out.len()) {
+        return Stepped::refused(r, no_session());
+    }
     let done = compute(pool, at, t, l, x, out);
     take_up_at(End::Solver, t, pool, at);
     done

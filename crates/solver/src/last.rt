@@ -17,11 +17,11 @@ ghost use Rattle.solver.specs.Formulas.{side_of, last_answer, last_head, closed_
 
 use crate::joint::write_joint;
 use crate::later::check;
-use crate::{SolverAnswer, accepted, refused, session_of};
+use crate::{SolverAnswer, session_of};
 use elimination::solve;
-use judging::Check;
-use judging::message::{no_head, side_size};
-use protocol::{Answer, Head, Refusal, SolverSession, Terms};
+use judging::Stepped;
+use judging::message::side_size;
+use protocol::{Head, Refusal, SolverSession, Terms};
 use tape::change::spend_at;
 use tape::{End, Place};
 use vectors::{times, write_sum};
@@ -57,12 +57,9 @@ fn answer(t: Terms, found: bool) -> SolverAnswer
 {
     let session = session_of(t, 0);
     if found {
-        return accepted(session, Head { kind: 5, terms: t });
-    }
-    SolverAnswer {
-        answer: Answer::Refused(Refusal::Singular),
-        session: session,
-        head: no_head(),
+        Stepped::accepted(session, Head { kind: 5, terms: t })
+    } else {
+        Stepped::refused(Refusal::Singular, session)
     }
 }
 
@@ -99,10 +96,9 @@ pub fn solver_last(
         ≡ leaves s (slot_in pool.old at) [] out.old []
         (solver_last s (slot_in pool.old at) (record { head = a; residues = residues.now }) (length out.old)) }
 {
-    let checked = check(pool, at, 4, 5, s, a, residues, out.len());
-    let Check::Passed = checked else {
-        return refused(checked, s);
-    };
+    if let Err(r) = check(pool, at, 4, 5, s, a, residues, out.len()) {
+        return Stepped::refused(r, s);
+    }
     let done = compute(pool, at, s, residues, out);
     spend_at(End::Solver, s.terms, pool, at);
     done

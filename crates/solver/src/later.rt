@@ -42,9 +42,6 @@ pub fn check(
     let shared = check_later(End::Solver, kind, s.due, t, a, residues, pool, at);
     let sent = check_room(s.due, has_room(sends, t, room));
     let sort = need(Refusal::Turn, last_fits(sends, t));
-    let arrived = worst(shared, worst(sent, sort));
-    let Check::Passed = arrived else {
-        return arrived;
-    };
+    worst(shared, worst(sent, sort))?;
     check_kept(s)
 }

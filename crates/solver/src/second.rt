@@ -1,10 +1,9 @@
 // Step 3: the solver finds S = X1 × Y0 + R1 − B0, keeps its last column s, and sends F = R − S', S' being its other columns.
 //   compute         the message and the session, by write_share_of and finish
 //   solver_second   the step
-ghost use Rattle.std.specs.Prelude.{◌≡◌, true, [], ◌*◌, ◌≤◌, ◌<◌, length};
+ghost use Rattle.std.specs.Prelude.{◌≡◌, true, [], ◌*◌, ◌≤◌, ◌<◌, length, Ok};
 ghost use Rattle.algebra.specs.System.{last_cols, send_f};
 ghost use Rattle.algebra.specs.Words.{over};
-ghost use Rattle.protocol.specs.declared.Answer.TheVariants.{Accepted};
 ghost use Rattle.protocol.specs.Judge.{done};
 ghost use Rattle.protocol.specs.Bounds.{columns, sides_fit, system};
 ghost use Rattle.protocol.specs.System.{padded, solver_second_effect, solver_second_tests, solver_second};
@@ -12,9 +11,9 @@ ghost use Rattle.tape.specs.Placed.{slot_in};
 ghost use Rattle.judging.specs.InOrder.{judged};
 ghost use Rattle.judging.specs.Leaves.{leaves, leaving, computed, computing, taken};
 
+use crate::SolverAnswer;
 use crate::later::check;
-use crate::{SolverAnswer, accepted, refused};
-use judging::Check;
+use judging::Stepped;
 use matrix::{sides_of, write_share_of};
 use protocol::{Head, SolverSession, Terms};
 use tape::half::matrix;
@@ -50,7 +49,7 @@ fn finish(t: Terms, r: &[u32], share: &[u32], out: &mut [u32]) -> SolverAnswer
     requires { (0 < t.q) × (sides_fit system t.m t.k t.p ≡ true) × (length r.now ≡ t.m * t.k)
         × (length share.now ≡ t.m * t.p) × (t.m * t.k ≤ length out.old) }
     ensures value { result ≡ record {
-      answer = Accepted 0;
+      answer = Ok 0;
       session = record { terms = t; due = 4; s = padded 16 (last_cols t.m (columns t.m t.p) share.now) };
       head = record { kind = 3; terms = t };
     } }
@@ -61,9 +60,9 @@ fn finish(t: Terms, r: &[u32], share: &[u32], out: &mut [u32]) -> SolverAnswer
     let session = SolverSession {
         terms: t,
         due: 4,
-        s: s,
+        s,
     };
-    accepted(session, Head { kind: 3, terms: t })
+    Stepped::accepted(session, Head { kind: 3, terms: t })
 }
 
 fn compute(
@@ -100,9 +99,8 @@ pub fn solver_second(
         ≡ leaves s (slot_in pool.now at) [] out.old []
         (solver_second s (slot_in pool.now at) (record { head = a; residues = residues.now }) (length out.old)) }
 {
-    let checked = check(pool, at, 2, 3, s, a, residues, out.len());
-    let Check::Passed = checked else {
-        return refused(checked, s);
-    };
+    if let Err(r) = check(pool, at, 2, 3, s, a, residues, out.len()) {
+        return Stepped::refused(r, s);
+    }
     compute(pool, at, s, residues, out)
 }

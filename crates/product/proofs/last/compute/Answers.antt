@@ -65,4 +65,4 @@ returns c =
     let a = start.args in
     let m = taken 2 a.s.terms a.residues.now in
     let share = rw (c.sides_of.ensures, c.matrix-y0.ensures, c.matrix-b0.ensures) at c.write_share_of.ensures in
-    rw (c.accepted.ensures, c.no_head.ensures, share) (simp (first_part a.s.terms m, second-part a.s.terms m (full _ _ _ _ c.requires)))
+    rw (c.accepted.ensures, c.closed.ensures, c.no_head.ensures, share) (simp (first_part a.s.terms m, second-part a.s.terms m (full _ _ _ _ c.requires)))

@@ -1,32 +1,30 @@
 -- `product::last::right_last` meets its contract. Assumes nothing.
-use mathlib.Core.Path.{sym, ap, ◌∙◌}
+use mathlib.Core.Path.{sym}
 use mathlib.Core.List.{[]}
 use lib.ListN.{length}
 use Rattle.protocol.specs.Tape.{right, slot_at}
 use Rattle.protocol.specs.Message.{Message, message_with, message_parts}
 use Rattle.protocol.specs.Product.{right_last_effect, right_last_tests, right_last}
-use Rattle.judging.specs.InOrder.{checked}
 use Rattle.judging.proofs.Leaving.{refused-leaves, step-leaves, as-taken}
 use Rattle.judging.proofs.Fits.{open-placed}
 use Rattle.product.proofs.Known.{last-known}
 use Rattle.product.proofs.last.right_last.Goals as goal
 
-pub returns-in_default : goal.returns-in_default
+pub returns-in-Err : goal.returns-in-Err
 unfolding right_last
-returns-in_default c =
+returns-in-Err c =
     let told = c in
     let a = told.args in
     let s = slot_at a.pool.now a.at.size a.at.index in
-    let e = told.in_default.is in
-    rw (c.no_head.ensures, c.answer_of.ensures, e)
-    (sym (refused-leaves a.s s [] [] a.share.now _ (right_last_effect a.s s _) (sym told.check-checked.ensures ∙ ap checked e)))
+    rw c.refused.ensures
+    (sym (refused-leaves a.s s [] [] a.share.now _ (right_last_effect a.s s _) (sym told.in-Err.ensures)))
 
 pub compute-done-requires : goal.compute-done-requires
 compute-done-requires c =
     let told = c in
     let a = told.args in
     let s = slot_at a.pool.now a.at.size a.at.index in
-    let passed = sym told.check-checked.ensures ∙ ap checked told.in-Passed.is in
+    let passed = sym told.in_default.ensures in
     let known = last-known a.s s (message_with a.a a.residues.now) (length a.share.now) passed in
     as-taken (λ (m : Message). right_last_tests a.s s m (length a.share.now)) known.message passed
 
@@ -35,7 +33,7 @@ spend_at-requires c =
     let told = c in
     let a = told.args in
     let s = slot_at a.pool.now a.at.size a.at.index in
-    let known = last-known a.s s _ _ (sym told.check-checked.ensures ∙ ap checked told.in-Passed.is) in
+    let known = last-known a.s s _ _ (sym told.in_default.ensures) in
     open-placed right a.s.terms s known.later.session-open
 
 pub returns : goal.returns
@@ -45,5 +43,5 @@ returns c =
     let a = told.args in
     let s = slot_at a.pool.now a.at.size a.at.index in
     step-leaves a.s s [] [] a.share.now _ (right_last_effect a.s s (message_with a.a a.residues.now))
-    (sym told.check-checked.ensures ∙ ap checked told.in-Passed.is)
+    (sym told.in_default.ensures)
     c.compute-done.ensures c.spend_at.ensures

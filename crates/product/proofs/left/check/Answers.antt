@@ -1,18 +1,17 @@
 -- `product::left::check` meets its contract. Assumes nothing.
-use mathlib.Core.Path.{sym, ap, ◌∙◌}
+use mathlib.Core.Path.{sym, ◌∙◌}
 use Rattle.protocol.specs.Tape.{slot_at}
-use Rattle.judging.specs.InOrder.{checked}
 use Rattle.judging.proofs.Join.{also, hands_on, goes-past}
 use Rattle.product.proofs.Phases.{left-phases, left-modulus}
 use Rattle.product.proofs.left.check.Goals as goal
 
-pub returns-in_default : goal.returns-in_default
-returns-in_default c =
+pub returns-in_err-worst : goal.returns-in_err-worst
+returns-in_err-worst c =
     let a = c.args in
     let shared = c.check_first_received-first.ensures in
     let own = c.check_own-own.ensures in
-    let told = also _ _ c.worst-both.ensures shared own in
-    hands_on c.worst-both.result _ told c.in_default.is ∙ sym
+    let told = also _ _ c.in_err-worst.ensures shared own in
+    hands_on c.from_residual.result _ c.from_residual.ensures.1 told ∙ sym
     (left-phases a.t (slot_at a.pool.now a.at.size a.at.index) a.x.now a.words.now a.a a.residues.now a.room a.share)
 
 pub check_coins-requires : goal.check_coins-requires
@@ -20,15 +19,15 @@ check_coins-requires c =
     let a = c.args in
     let shared = c.check_first_received-first.ensures in
     let own = c.check_own-own.ensures in
-    let told = also _ _ c.worst-both.ensures shared own in
-    left-modulus a.t (slot_at a.pool.now a.at.size a.at.index) a.a a.residues.now _ (sym told ∙ ap checked c.in-Passed.is)
+    let told = also _ _ c.in_ok-worst.ensures shared own in
+    left-modulus a.t (slot_at a.pool.now a.at.size a.at.index) a.a a.residues.now _ (sym told)
 
 pub returns : goal.returns
 returns c =
     let a = c.args in
     let shared = c.check_first_received-first.ensures in
     let own = c.check_own-own.ensures in
-    let told = also _ _ c.worst-both.ensures shared own in
+    let told = also _ _ c.in_ok-worst.ensures shared own in
     (rw c.times.ensures at c.check_coins.ensures) ∙ sym
     (left-phases a.t (slot_at a.pool.now a.at.size a.at.index) a.x.now a.words.now a.a a.residues.now a.room a.share
-    ∙ goes-past c.worst-both.result told c.in-Passed.is)
+    ∙ goes-past told)

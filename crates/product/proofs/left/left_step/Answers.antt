@@ -1,32 +1,30 @@
 -- `product::left::left_step` meets its contract. Assumes nothing.
-use mathlib.Core.Path.{sym, ap, ◌∙◌}
+use mathlib.Core.Path.{sym}
 use mathlib.Core.List.{[]}
 use lib.ListN.{length}
 use Rattle.protocol.specs.Tape.{left, slot_at}
 use Rattle.protocol.specs.Message.{Message, message_with, message_parts}
 use Rattle.protocol.specs.Product.{left_effect, left_tests, left_step}
-use Rattle.judging.specs.InOrder.{checked}
 use Rattle.judging.proofs.Leaving.{refused-leaves, step-leaves, as-taken}
 use Rattle.judging.proofs.Fits.{first-placed}
 use Rattle.product.proofs.Known.{left-known}
 use Rattle.product.proofs.left.left_step.Goals as goal
 
-pub returns-in_default : goal.returns-in_default
+pub returns-in-Err : goal.returns-in-Err
 unfolding left_step
-returns-in_default c =
+returns-in-Err c =
     let told = c in
     let a = told.args in
     let s = slot_at a.pool.now a.at.size a.at.index in
-    let e = told.in_default.is in
-    rw (c.no_head.ensures, c.answer_of.ensures, e)
-    (sym (refused-leaves tt s [] a.out.now a.share.now _ (left_effect a.t s a.x.now a.words.now _) (sym told.check-checked.ensures ∙ ap checked e)))
+    rw c.refused.ensures
+    (sym (refused-leaves tt s [] a.out.now a.share.now _ (left_effect a.t s a.x.now a.words.now _) (sym told.in-Err.ensures)))
 
 pub compute-done-requires : goal.compute-done-requires
 compute-done-requires c =
     let told = c in
     let a = told.args in
     let s = slot_at a.pool.now a.at.size a.at.index in
-    let passed = sym told.check-checked.ensures ∙ ap checked told.in-Passed.is in
+    let passed = sym told.in_default.ensures in
     let known = left-known a.t s a.x.now a.words.now (message_with a.a a.residues.now) (length a.out.now) (length a.share.now) passed in
     as-taken (λ (m : Message). left_tests a.t s a.x.now a.words.now m (length a.out.now) (length a.share.now)) known.message passed
 
@@ -35,7 +33,7 @@ spend_at-requires c =
     let told = c in
     let a = told.args in
     let s = slot_at a.pool.now a.at.size a.at.index in
-    first-placed left a.t s (left-known a.t s a.x.now a.words.now _ _ _ (sym told.check-checked.ensures ∙ ap checked told.in-Passed.is)).first
+    first-placed left a.t s (left-known a.t s a.x.now a.words.now _ _ _ (sym told.in_default.ensures)).first
 
 pub returns : goal.returns
 unfolding left_step left_effect message_parts
@@ -44,5 +42,5 @@ returns c =
     let a = told.args in
     let s = slot_at a.pool.now a.at.size a.at.index in
     step-leaves tt s [] a.out.now a.share.now _ (left_effect a.t s a.x.now a.words.now (message_with a.a a.residues.now))
-    (sym told.check-checked.ensures ∙ ap checked told.in-Passed.is)
+    (sym told.in_default.ensures)
     c.compute-done.ensures c.spend_at.ensures

@@ -11,18 +11,6 @@ use Rattle.vectors.proofs.Written.{part_then}
 use Rattle.tape.proofs.Sides.{sides-of}
 use Rattle.product.proofs.left.write_message.Goals as goal
 
-pub add_residues-requires : goal.add_residues-requires
-add_residues-requires c =
-    let h = c.requires in
-    let n = c.times-mk.ensures in (
-      h.small-q,
-      λ j l. h.plain.below j (omega (arith, n)),
-      λ j l. h.mask.below j (omega (arith, n)),
-      omega (arith, h.plain.size, n),
-      omega (arith, h.mask.size, n),
-      omega (arith, h.room, n),
-    )
-
 pub write_reply-requires : goal.write_reply-requires
 write_reply-requires c =
     let start = c in

@@ -1,15 +1,11 @@
 -- `solver::joint::write_joint` meets its contract. Assumes nothing.
-use mathlib.Core.Path.{sym, ap, ◌∙◌}
+use mathlib.Core.Path.{ap, ◌∙◌}
 use native.Mathlib.Omega.{arith}
 use lib.ListN.{length, length-take}
-use lib.Seq.{length-take-le}
 use Rattle.protocol.specs.Tape.{slot_at}
 use Rattle.solver.proofs.Known.{few}
 use Rattle.solver.proofs.Formulas.{v-size, w_part, joint-sum}
 use Rattle.solver.proofs.joint.write_joint.Goals as goal
-
-pub slice_bounds-write_sum-end : goal.slice_bounds-write_sum-end
-slice_bounds-write_sum-end c = sym (length-take-le _ _ (omega (arith, c.times-n.ensures, c.requires.2)))
 
 pub write_sum-requires : goal.write_sum-requires
 write_sum-requires c =

@@ -1,44 +1,39 @@
 -- `solver::last::solver_last` meets its contract. Assumes nothing.
-use mathlib.Core.Path.{sym, ap, ◌∙◌}
+use mathlib.Core.Path.{sym}
 use mathlib.Core.List.{[]}
 use lib.ListN.{length}
 use Rattle.protocol.specs.Tape.{solver, slot_at}
 use Rattle.protocol.specs.Message.{Message, message_with, last_fits, message_parts}
 use Rattle.protocol.specs.System.{joint_sum, last_tests, solver_last_effect, solver_last_tests, solver_last}
-use Rattle.judging.specs.InOrder.{checked}
 use Rattle.judging.proofs.Leaving.{refused-leaves, step-leaves, as-taken}
 use Rattle.judging.proofs.Fits.{open-placed as placed}
 use Rattle.solver.specs.Groups.{sort_tests, receiving}
 use Rattle.solver.proofs.Known.{last-known}
 use Rattle.solver.proofs.last.solver_last.Goals as goal
 
-pub returns-in_default : goal.returns-in_default
+pub returns-in-Err : goal.returns-in-Err
 unfolding solver_last solver_last_tests receiving sort_tests last_tests last_fits
-returns-in_default c =
-    let check = c.check-checked in
+returns-in-Err c =
     let a = c.args in
     let s = slot_at a.pool.now a.at.size a.at.index in
-    let e = c.in_default.is in
     let effect = solver_last_effect a.s s (message_with a.a a.residues.now) in
-    rw (c.refused.ensures, e) (sym (refused-leaves a.s s [] a.out.now [] _ effect (sym check.ensures ∙ ap checked e)))
+    rw c.refused.ensures (sym (refused-leaves a.s s [] a.out.now [] _ effect (sym c.in-Err.ensures)))
 
 pub compute-done-requires : goal.compute-done-requires
 unfolding solver_last_tests receiving sort_tests last_tests last_fits
 compute-done-requires c =
-    let check = c.check-checked in
     let a = c.args in
     let s = slot_at a.pool.now a.at.size a.at.index in
-    let passed = sym check.ensures ∙ ap checked c.in-Passed.is in
+    let passed = sym c.in_default.ensures in
     let k = last-known a.s s (message_with a.a a.residues.now) (length a.out.now) passed in
     as-taken (λ (m : Message). solver_last_tests a.s s m (length a.out.now)) k.fits.message passed
 
 pub spend_at-requires : goal.spend_at-requires
 unfolding solver_last_tests receiving sort_tests last_tests last_fits
 spend_at-requires c =
-    let check = c.check-checked in
     let a = c.args in
     let s = slot_at a.pool.now a.at.size a.at.index in
-    let passed = sym check.ensures ∙ ap checked c.in-Passed.is in
+    let passed = sym c.in_default.ensures in
     let k = last-known a.s s (message_with a.a a.residues.now) (length a.out.now) passed in
     placed solver a.s.terms s k.fits.later.session-open
 
@@ -46,11 +41,10 @@ pub returns : goal.returns
 unfolding solver_last solver_last_tests solver_last_effect receiving sort_tests last_tests last_fits message_parts joint_sum
 returns c =
     let far = c in
-    let check = far.check-checked in
     let compute = c.compute-done in
     let spend-at = c.spend_at in
     let a = far.args in
     let s = slot_at a.pool.now a.at.size a.at.index in
-    let passed = sym check.ensures ∙ ap checked c.in-Passed.is in
+    let passed = sym c.in_default.ensures in
     let effect = solver_last_effect a.s s (message_with a.a a.residues.now) in
     step-leaves a.s s [] a.out.now [] _ effect passed compute.ensures spend-at.ensures

@@ -1,5 +1,5 @@
 -- `solver::later::check` meets its contract. Assumes nothing.
-use mathlib.Core.Path.{◌≡◌, sym, ap, ◌∙◌}
+use mathlib.Core.Path.{◌≡◌, sym, ◌∙◌}
 use mathlib.Core.Bool.{Bool}
 use mathlib.Core.List.{[], ◌∷◌, ◌++◌}
 use Prim.Native.Nat.{ℕ}
@@ -11,7 +11,7 @@ use Rattle.protocol.specs.Judge.{Judged, needs, given}
 use Rattle.protocol.specs.Message.{Message, last_fits, message_size, message_tests, due_tests, message_with}
 use Rattle.protocol.specs.Step.{is_open, later_tests}
 use Rattle.protocol.specs.Tape.{Slot, solver, slot_at}
-use Rattle.judging.specs.InOrder.{checked, judged}
+use Rattle.judging.specs.InOrder.{judged}
 use Rattle.judging.specs.Lowest.{lower}
 use Rattle.judging.proofs.Join.{also, hands_on, goes-past}
 use Rattle.solver.specs.Groups.{sort_tests, arriving}
@@ -28,14 +28,14 @@ arrived : (kind sends : ℕ) (x : SolverSession) (s : Slot) (a : Message) (room 
 unfolding arriving room_tests sort_tests
 arrived kind sends x s a room shared fits sent last sort both all = also _ _ all shared (also _ _ both (rw fits at sent) (rw last at sort))
 
-pub returns-in_default : goal.returns-in_default
-returns-in_default c =
+pub returns-in_err-worst : goal.returns-in_err-worst
+returns-in_err-worst c =
     let a = c.args in
     let s = slot_at a.pool.now a.at.size a.at.index in
     let m = message_with a.a a.residues.now in
     let all = arrived a.kind a.sends a.s s m a.room c.check_later-shared.ensures c.has_room.ensures c.check_room-sent.ensures c.last_fits.ensures
-    c.need-sort.ensures c.worst.ensures c.worst-arrived.ensures in
-    hands_on c.worst-arrived.result _ all c.in_default.is ∙ sym (later-phases a.kind a.sends a.s s m a.room)
+    c.need-sort.ensures c.worst.ensures c.in_err-worst.ensures in
+    hands_on c.from_residual.result _ c.from_residual.ensures.1 all ∙ sym (later-phases a.kind a.sends a.s s m a.room)
 
 pub check_kept-requires : goal.check_kept-requires
 check_kept-requires c =
@@ -43,8 +43,8 @@ check_kept-requires c =
     let s = slot_at a.pool.now a.at.size a.at.index in
     let m = message_with a.a a.residues.now in
     let all = arrived a.kind a.sends a.s s m a.room c.check_later-shared.ensures c.has_room.ensures c.check_room-sent.ensures c.last_fits.ensures
-    c.need-sort.ensures c.worst.ensures c.worst-arrived.ensures in
-    arriving-known a.kind a.sends a.s s m a.room (sym all ∙ ap checked c.in-Passed.is)
+    c.need-sort.ensures c.worst.ensures c.in_ok-worst.ensures in
+    arriving-known a.kind a.sends a.s s m a.room (sym all)
 
 pub returns : goal.returns
 returns c =
@@ -52,6 +52,6 @@ returns c =
     let s = slot_at a.pool.now a.at.size a.at.index in
     let m = message_with a.a a.residues.now in
     let all = arrived a.kind a.sends a.s s m a.room c.check_later-shared.ensures c.has_room.ensures c.check_room-sent.ensures c.last_fits.ensures
-    c.need-sort.ensures c.worst.ensures c.worst-arrived.ensures in
+    c.need-sort.ensures c.worst.ensures c.in_ok-worst.ensures in
     c.check_kept.ensures
-    ∙ sym (later-phases a.kind a.sends a.s s m a.room ∙ goes-past c.worst-arrived.result all c.in-Passed.is)
+    ∙ sym (later-phases a.kind a.sends a.s s m a.room ∙ goes-past all)

@@ -11,9 +11,6 @@ use Rattle.solver.proofs.second.last_column.Goals as goal
 pub overflow_sub-t : goal.overflow_sub-t
 overflow_sub-t c = omega (arith, (few c.args.t c.requires.0).least)
 
-pub slice_bounds-write_cols-end : goal.slice_bounds-write_cols-end
-slice_bounds-write_cols-end c = refl
-
 pub write_cols-requires : goal.write_cols-requires
 unfolding columns side_size
 write_cols-requires c =

@@ -1,5 +1,5 @@
 -- `solver::second::write_f` meets its contract. Assumes nothing.
-use mathlib.Core.Path.{refl, sym, ◌∙◌}
+use mathlib.Core.Path.{sym, ◌∙◌}
 use native.Mathlib.Omega.{arith}
 use lib.ListN.{length-take}
 use lib.Seq.{length-take-le}
@@ -10,9 +10,6 @@ use Rattle.vectors.proofs.Written.{after-over, over-part}
 use Rattle.solver.proofs.Known.{few}
 use Rattle.solver.proofs.Formulas.{f-sent}
 use Rattle.solver.proofs.second.write_f.Goals as goal
-
-pub slice_bounds-write_cols-end : goal.slice_bounds-write_cols-end
-slice_bounds-write_cols-end c = refl
 
 pub write_cols-requires : goal.write_cols-requires
 write_cols-requires c =
