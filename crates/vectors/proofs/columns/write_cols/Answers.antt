@@ -1,8 +1,7 @@
 -- `vectors::columns::write_cols` meets its contract. Assumes nothing.
-use mathlib.Core.Path.{◌≡◌, refl, ap, ◌∙◌}
+use mathlib.Core.Path.{refl, ap, ◌∙◌}
 use mathlib.Core.List.{List, ◌++◌}
 use Prim.Native.Nat.{ℕ, ◌+◌, ◌*◌}
-use native.Mathlib.Omega.{arith}
 use borrow.Author.Rules.{rules}
 use Rattle.vectors.proofs.Rows.{row_fits, cols-none, cols-next}
 use Rattle.algebra.specs.Columns.{cols}
@@ -34,6 +33,3 @@ loop-i-preserved c =
           ∙ cols-next l.i a.w a.s a.p a.a.now),
       search rules,
     )
-
-pub returns : goal.returns
-returns c = let e : c.loop-i.i ≡ c.args.m = omega arith in c.loop-i.invariant.1 ∙ rw e refl
