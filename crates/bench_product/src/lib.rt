@@ -3,7 +3,6 @@
 #![tactic(auto)]
 
 use field::Field;
-use line::{Received, Written};
 use product::{left_step, right_first, right_last};
 use protocol::{Answer, Head, RightSession, SessionId, TapeId, Terms};
 use tape::Place;
@@ -137,8 +136,8 @@ pub extern "C" fn bench_write(
         terms: terms(q, m, k, p),
     };
     match line::write(head, residues, out) {
-        Written::Bytes(n) => n,
-        Written::Refused(_) => 0,
+        Ok(n) => n,
+        Err(_) => 0,
     }
 }
 
@@ -146,16 +145,16 @@ pub extern "C" fn bench_write(
 #[unsafe(no_mangle)]
 pub extern "C" fn bench_parse(s: &[u8], out: &mut [u32]) -> usize {
     match line::parse(s, out) {
-        Received::Message(_, n) => n,
-        Received::Refused(_) => 0,
+        Ok(message) => message.count,
+        Err(_) => 0,
     }
 }
 
 #[unsafe(no_mangle)]
 pub extern "C" fn bench_read(s: &[u8], out: &mut [u32]) -> usize {
     match line::read(s, out) {
-        Received::Message(_, n) => n,
-        Received::Refused(_) => 0,
+        Ok(message) => message.count,
+        Err(_) => 0,
     }
 }
 
