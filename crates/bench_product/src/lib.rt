@@ -3,7 +3,6 @@
 #![tactic(auto)]
 
 use field::Field;
-use line::{Received, Written};
 use product::{left_step, right_first, right_last};
 use protocol::{Answer, Head, RightSession, SessionId, TapeId, Terms};
 use tape::Place;
@@ -134,20 +133,12 @@ pub extern "C" fn bench_write(
         terms: terms(q, m, k, p),
     };
     match line::write(head, residues, out) {
-        Written::Bytes(n) => n,
-        Written::Refused(_) => 0,
+        Ok(n) => n,
+        Err(_) => 0,
     }
 }
 
-// How many residues a message has, 0 of a refusal.
-fn residues_in(received: Received) -> usize {
-    match received {
-        Received::Message(_, n) => n,
-        Received::Refused(_) => 0,
-    }
-}
-
-// How many residues the line's message has: by its form alone, and with all checks.
+// How many residues the line's message has, 0 of a refusal: by its form alone, and with all checks.
 #[unsafe(no_mangle)]
 pub extern "C" fn bench_parse(s: &[u8], out: &mut [u32]) -> usize {
     residues_in(line::parse(s, out))
@@ -156,6 +147,10 @@ pub extern "C" fn bench_parse(s: &[u8], out: &mut [u32]) -> usize {
 #[unsafe(no_mangle)]
 pub extern "C" fn bench_read(s: &[u8], out: &mut [u32]) -> usize {
     residues_in(line::read(s, out))
+}
+
+fn residues_in(received: Result<Arrived, Refusal>) -> usize {
+    received.map_or(0, |message| message.count)
 }
 
 // The inner product of x and y, 0 where they don't fit.

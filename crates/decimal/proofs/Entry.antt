@@ -1,6 +1,6 @@
 -- What loads and the entry `numbers` answer and leave.
 --   unread-length, unread-end, before-whole   what `load_behind` answers and leaves, by the line's length and its last byte
---   tallied, told, stored-behind              the same as the words of a line's numbers
+--   told, tallied                             the same as the words of a line's numbers
 --   into-none, into-short, into-done          the entry `numbers`; count_same: what it tells determines its answer
 -- Assumes nothing.
 use Prim.Native.Nat.{ℕ, ◌+◌, ◌-◌, ◌≤◌, ◌<◌}
@@ -48,11 +48,6 @@ pub record Told (o : Maybe (List ℕ)) (n : ℕ) : Type 0 where
 pub told : (o : Maybe (List ℕ)) (n : ℕ) → tally_of o ≡ Some n → Told o n
 told none n e = cc
 told (some xs) n e = record { values = xs; reads = refl; count = cc }
-
-pub stored-behind : (skip : ℕ) (o : Maybe (List ℕ)) (xs before after : List ℕ) (r : Option ℕ) → o ≡ some xs → TalliedBehind skip o before after r
-    → after ≡ sets before 0 (drop skip xs)
-stored-behind skip o xs before after (Some n) e t = let same : t.values ≡ xs = cc t.reads in t.stores ∙ ap (λ (l : List ℕ). sets before 0 (drop skip l)) same
-stored-behind skip o xs before after None e t = absurd (let z : ◌≡◌ {A = ℕ} 0 1 = cc in omega arith)
 
 -- ---- what a load says
 
