@@ -74,20 +74,17 @@ fn check_mask(s: Sort, t: Terms, words: &[u32]) -> Check
     requires { Fits (sort s) t × (draw_count (sort s) t.m t.k t.p ≤ length (residues_of t.q words.now)) }
     ensures { checked result ≡ judged (mask_tests (sort s) t words.now) }
 {
-    let Sort::System = s else {
-        return Check::Passed;
-    };
-    need(Refusal::Singular, mask_fits(t, words))
+    match s {
+        Sort::Product => Ok(()),
+        Sort::System => need(Refusal::Singular, mask_fits(t, words)),
+    }
 }
 
 fn check_raw(s: Sort, t: Terms, words: &[u32]) -> Check
     requires { Fits (sort s) t }
     ensures { checked result ≡ judged (raw_tests (sort s) t words.now) }
 {
-    let coins = check_coins(t.q, draw_count(s, t), words);
-    let Check::Passed = coins else {
-        return coins;
-    };
+    check_coins(t.q, draw_count(s, t), words)?;
     check_mask(s, t, words)
 }
 
@@ -109,9 +106,6 @@ pub fn check(s: Sort, t: Terms, first: &[u32], second: &[u32], at: Place, words:
     ensures { checked result ≡ judged (deal_tests (slot_in first.now at) (slot_in second.now at)
         (request (sort s) t words.now)) }
 {
-    let numbers = check_numbers(s, t, first.len(), second.len(), at);
-    let Check::Passed = numbers else {
-        return numbers;
-    };
+    check_numbers(s, t, first.len(), second.len(), at)?;
     check_words(s, t, first, second, at, words)
 }

@@ -20,7 +20,6 @@ ghost use Rattle.dealer.specs.Dealt.{Pools, pools};
 
 use check::check;
 use halves::write_halves;
-use judging::{Check, answer_of};
 use protocol::{Answer, SessionId, TapeId, Terms};
 use sort::Sort;
 use tape::Place;
@@ -39,14 +38,11 @@ pub fn deal(
         (pools first.old second.old
         (deal first.old second.old at.size at.index (request (sort s) t words.now))) }
 {
-    let checked = check(s, t, first, second, at, words);
-    let Check::Passed = checked else {
-        return answer_of(checked);
-    };
+    check(s, t, first, second, at, words)?;
     let from = at.index * at.size;
     let stop = from + at.size;
     let read = write_halves(s, t, words, &mut first[from..stop], &mut second[from..stop]);
-    Answer::Accepted(read)
+    Ok(read)
 }
 
 // Left's half goes into the first pool, right's into the second.
@@ -64,9 +60,8 @@ pub fn deal_product(
     ensures { ◌≡◌ {A = Pools} (record { answer = answer_reply result; first = first.new; second = second.new })
         (pools first.old second.old (deal first.old second.old at.size at.index (product_request tape q m k p words.now))) }
 {
-    let session = SessionId(1);
     let t = Terms {
-        session,
+        session: SessionId(1),
         tape,
         q,
         m,
@@ -90,9 +85,8 @@ pub fn deal_system(
     ensures { ◌≡◌ {A = Pools} (record { answer = answer_reply result; first = first.new; second = second.new })
         (pools first.old second.old (deal first.old second.old at.size at.index (system_request tape q n p words.now))) }
 {
-    let session = SessionId(1);
     let t = Terms {
-        session,
+        session: SessionId(1),
         tape,
         q,
         m: n,

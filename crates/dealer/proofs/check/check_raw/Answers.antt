@@ -6,24 +6,19 @@ use Rattle.dealer.proofs.Order.{raw-phases}
 use Rattle.dealer.proofs.Known.{coins-enough}
 use Rattle.dealer.proofs.check.check_raw.Goals as goal
 
-pub returns-in_default : goal.returns-in_default
-returns-in_default c =
-    let check-coins = c.check_coins-coins in
+pub returns-in_err-check_coins : goal.returns-in_err-check_coins
+returns-in_err-check_coins c =
     let a = c.args in
-    hands_on check-coins.result _ (rw c.draw_count.ensures at check-coins.ensures) c.in_default.is
+    hands_on c.from_residual.result _ c.from_residual.ensures.1 (rw c.draw_count.ensures at c.in_err-check_coins.ensures)
     ∙ sym (raw-phases (sort a.s) a.t a.words.now)
 
 pub check_mask-requires : goal.check_mask-requires
 check_mask-requires c =
     let a = c.args in
-    let coins = rw c.draw_count.ensures at c.check_coins-coins.ensures in
-    (c.requires, coins-enough a.t.q _ a.words.now coins c.in-Passed.is)
+    (c.requires, coins-enough a.t.q _ a.words.now (sym (rw c.draw_count.ensures at c.in_ok-check_coins.ensures)))
 
 pub returns : goal.returns
 returns c =
     let a = c.args in
-    let check-coins = c.check_coins-coins in
-    let draw-count = c.draw_count in
     c.check_mask.ensures
-    ∙ sym (raw-phases (sort a.s) a.t a.words.now
-    ∙ goes-past check-coins.result (rw draw-count.ensures at check-coins.ensures) c.in-Passed.is)
+    ∙ sym (raw-phases (sort a.s) a.t a.words.now ∙ goes-past (rw c.draw_count.ensures at c.in_ok-check_coins.ensures))
