@@ -5,7 +5,7 @@
 ghost use Rattle.std.specs.Prelude.{◌≡◌};
 ghost use Rattle.algebra.specs.Prime.{is_prime};
 
-use field::{Field, FieldAnswer};
+use field::Field;
 
 #[unsafe(no_mangle)]
 pub extern "C" fn bench_is_prime(q: u32) -> bool
@@ -17,19 +17,12 @@ pub extern "C" fn bench_is_prime(q: u32) -> bool
 // The sum modulo 2³² of the inverses of 1 to n, or 0 where q is no modulus of a system. Inverses from q on are left out.
 #[unsafe(no_mangle)]
 pub extern "C" fn bench_inverses(q: u32, n: u32) -> u32 {
-    let answer = Field::of_system(q);
-    let FieldAnswer::Ready(field) = answer else {
+    let Ok(field) = Field::of_system(q) else {
         return 0;
     };
-    let m = field.q;
     let mut sum: u32 = 0;
-    let mut a: u32 = 1;
-    while a <= n {
-        if m <= a {
-            return sum;
-        }
-        sum = std::num::wrapping_add_u32(sum, field::inverse_mod(m, a));
-        a += 1;
+    for a in 1..=n.min(field.q - 1) {
+        sum = sum.wrapping_add(field::inverse_mod(field.q, a));
     }
     sum
 }

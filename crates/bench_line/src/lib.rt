@@ -2,15 +2,14 @@
 // No function here is for hosts.
 #![tactic(auto)]
 
-use line::{Received, Written};
 use protocol::{Head, SessionId, TapeId, Terms};
 
 // How many residues were read, 0 of a refusal.
 #[unsafe(no_mangle)]
 pub extern "C" fn bench_line_read(s: &[u8], out: &mut [u32]) -> usize {
     match line::read(s, out) {
-        Received::Message(_, n) => n,
-        Received::Refused(_) => 0,
+        Ok(message) => message.count,
+        Err(_) => 0,
     }
 }
 
@@ -27,7 +26,7 @@ pub extern "C" fn bench_line_write(q: u32, residues: &[u32], out: &mut [u8]) -> 
     };
     let head = Head { kind: 2, terms };
     match line::write(head, residues, out) {
-        Written::Bytes(n) => n,
-        Written::Refused(_) => 0,
+        Ok(n) => n,
+        Err(_) => 0,
     }
 }

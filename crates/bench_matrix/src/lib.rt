@@ -3,7 +3,8 @@
 // No function here is for hosts.
 #![tactic(auto)]
 
-ghost use Rattle.bench_matrix.specs.Fits.{Fits};
+ghost use Rattle.std.specs.Prelude.{◌≡◌, true};
+ghost use Rattle.rows.specs.Shape.{Shape};
 
 use field::Field;
 use matrix::Sides;
@@ -11,53 +12,26 @@ use matrix::Sides;
 #[unsafe(no_mangle)]
 pub extern "C" fn bench_inner(q: u32, x: &[u32], y: &[u32]) -> u32 {
     let k = x.len();
-    if q == 0 {
-        return 0;
+    if (1..=Field::LARGEST).contains(&q) && k <= 2048 && k <= y.len() {
+        matrix::inner_product(q, k, x, y)
+    } else {
+        0
     }
-    if Field::LARGEST < q {
-        return 0;
-    }
-    if 2048 < k {
-        return 0;
-    }
-    if y.len() < k {
-        return 0;
-    }
-    matrix::inner_product(q, k, x, y)
 }
 
 // Whether a product of an m by k and a k by p matrix can be written.
-fn fits(q: u32, m: usize, k: usize, p: usize, x: usize, y: usize, out: usize) -> bool
-    ensures { Fits result q m k p x y out }
+fn fits(s: Sides, x: usize, y: usize, out: usize) -> bool
+    ensures { result ≡ true → Shape s.q s.m s.k s.p x y out }
 {
-    if q == 0 {
-        return false;
-    }
-    if Field::LARGEST < q {
-        return false;
-    }
-    if 2048 < m {
-        return false;
-    }
-    if 2048 < k {
-        return false;
-    }
-    if 2048 < p {
-        return false;
-    }
-    if 2048 < k * p {
-        return false;
-    }
-    if x < m * k {
-        return false;
-    }
-    if y < k * p {
-        return false;
-    }
-    if out < m * p {
-        return false;
-    }
-    true
+    let Sides { q, m, k, p } = s;
+    (1..=Field::LARGEST).contains(&q)
+        && m <= 2048
+        && k <= 2048
+        && p <= 2048
+        && k * p <= 2048
+        && m * k <= x
+        && k * p <= y
+        && m * p <= out
 }
 
 #[unsafe(no_mangle)]
@@ -70,8 +44,9 @@ pub extern "C" fn bench_product(
     y: &[u32],
     out: &mut [u32],
 ) {
-    if fits(q, m, k, p, x.len(), y.len(), out.len()) {
-        matrix::write_product(Sides { q, m, k, p }, x, y, out);
+    let s = Sides { q, m, k, p };
+    if fits(s, x.len(), y.len(), out.len()) {
+        matrix::write_product(s, x, y, out);
     }
 }
 
@@ -86,9 +61,8 @@ pub extern "C" fn bench_reply(
     u: &[u32],
     out: &mut [u32],
 ) {
-    if fits(q, m, k, p, x.len(), y.len(), out.len()) {
-        if m * p <= u.len() {
-            matrix::write_reply(Sides { q, m, k, p }, x, y, u, u, out);
-        }
+    let s = Sides { q, m, k, p };
+    if fits(s, x.len(), y.len(), out.len()) && m * p <= u.len() {
+        matrix::write_reply(s, x, y, u, u, out);
     }
 }

@@ -6,7 +6,7 @@
 --   more-count, first_more, second_more       and for a system's other matrices
 --   coins-enough, never-dry, drawn-residues, no-mask     the tests on raw words
 -- Assumes nothing.
-use mathlib.Core.Path.{◌≡◌, refl, ap}
+use mathlib.Core.Path.{◌≡◌, refl, sym, ap}
 use mathlib.Core.List.{List}
 use Prim.Native.Nat.{ℕ, ◌+◌, ◌*◌, ◌≤◌, ◌<◌}
 use native.Mathlib.Nat.{mul-le-mul}
@@ -32,7 +32,7 @@ use Rattle.judging.proofs.InOrder.{accepted-by}
 use Rattle.judging.proofs.Join.{judged-true}
 use Rattle.tape.proofs.Sides.{sides-of, unknowns, modulus}
 use Rattle.tape.proofs.Slots.{slot-room}
-use Rattle.drawing.specs.declared.Reading.TheVariants.{Dry}
+use Rattle.std.specs.Prelude.{None}
 use Rattle.drawing.specs.Extent.{read_for}
 use Rattle.drawing.proofs.Then.{dry-few}
 use Rattle.dealer.specs.Sorts.{sort, masks_count, draw_count, request}
@@ -44,11 +44,11 @@ use Rattle.dealer.specs.Shape.{Fits, Numbers, Masks, Unknowns, Room}
 
 -- ---- numbers
 
-pub numbers_fit : (s : Sort) (t : Terms) (first second size index : ℕ) → judged (deal_numbers s t first second size index) ≡ done tt
+pub numbers_fit : (s : Sort) (t : Terms) (first second size index : ℕ) → done tt ≡ judged (deal_numbers s t first second size index)
     → Numbers s t first second size index
 unfolding deal_numbers size_tests modulus_tests number_tests place_tests tape_size
 numbers_fit s t first second size index e =
-    let a = (passed (deal_numbers s t first second size index) e).0 in
+    let a = (passed (deal_numbers s t first second size index) (sym e)).0 in
     let b = a.1.1.1.1.1 in
     let n = modulus t.q a.0 in
     record {
@@ -71,12 +71,12 @@ pub record Known (s : Sort) (t : Terms) (first second : List ℕ) (size index : 
   pub second-inside : index * size + size ≤ length second
 
 pub deal-known : (s : Sort) (t : Terms) (first second : List ℕ) (size index : ℕ) (words : List ℕ)
-    → judged (deal_tests (slot_at first size index) (slot_at second size index) (request s t words)) ≡ done tt
+    → done tt ≡ judged (deal_tests (slot_at first size index) (slot_at second size index) (request s t words))
     → Known s t first second size index words
 unfolding deal draw_size draw_count
 deal-known s t first second size index words e =
     let r = request s t words in
-    let accepted = accepted-by _ (dealt_effect first second size index r) e in
+    let accepted = accepted-by _ (dealt_effect first second size index r) (sym e) in
     let d : DealFits r (slot_at first size index) (slot_at second size index) = ((deal-step first second size index r).means accepted).0 in
     record {
       room = record {
@@ -159,12 +159,12 @@ square-few n h = mul-le-mul {n₁ = n} {m₁ = n} {n₂ = 16} {m₂ = 16} h h
 
 -- ---- raw words
 
-pub coins-enough : (q n : ℕ) (words : List ℕ) → judged (draw_tests q n words) ≡ done tt → n ≤ length (residues_of q words)
+pub coins-enough : (q n : ℕ) (words : List ℕ) → done tt ≡ judged (draw_tests q n words) → n ≤ length (residues_of q words)
 unfolding draw_tests
-coins-enough q n words e = leb-true _ _ (passed (draw_tests q n words) e).0.0
+coins-enough q n words e = leb-true _ _ (passed (draw_tests q n words) (sym e)).0.0
 
 -- a reading where enough words are kept
-pub never-dry : (q n : ℕ) (words : List ℕ) → read_for q n words ≡ Dry → n ≤ length (residues_of q words) → ⊥
+pub never-dry : (q n : ℕ) (words : List ℕ) → read_for q n words ≡ None → n ≤ length (residues_of q words) → ⊥
 never-dry q n words e h = let few = leb-false n (length (residues_of q words)) (dry-few q n words e) in omega arith
 
 pub drawn-residues : (q n : ℕ) (words : List ℕ) → 0 < q → n ≤ length (residues_of q words) → Residues q n (drawn q n words)

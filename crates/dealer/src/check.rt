@@ -17,7 +17,7 @@ ghost use Rattle.dealer.specs.Groups.{deal_numbers, mark_tests, mask_tests, raw_
 ghost use Rattle.dealer.specs.Shape.{Fits, Numbers, Unknowns};
 
 use crate::sort::{Sort, draw_count, first_end, masks_count, second_end};
-use drawing::{Reading, draw, read};
+use drawing::{draw, read};
 use elimination::has_inverse;
 use judging::numbers::{check_modulus, check_sizes};
 use judging::received::check_coins;
@@ -63,7 +63,7 @@ fn mask_fits(t: Terms, words: &[u32]) -> bool
     requires { Fits system t × (draw_count system t.m t.k t.p ≤ length (residues_of t.q words.now)) }
     ensures { result ≡ regular t.q t.m (part 3 (drawn_parts (request system t words.now))) }
 {
-    let Reading::Enough(at) = read(t.q, masks_count(t), words) else {
+    let Some(at) = read(t.q, masks_count(t), words) else {
         return false;
     };
     has_inverse_at(t.q, t.m, words, at)

@@ -7,7 +7,8 @@ use Prim.Native.Nat.{ℕ, ◌+◌, ◌-◌, ◌≤◌, ◌<◌}
 use mathlib.Core.Path.{◌≡◌, refl, sym, ap, subst, ◌∙◌}
 use mathlib.Core.Bool.{Bool, true, false, cond, false≢true}
 use mathlib.Core.List.{List, [], ◌∷◌, ◌++◌}
-use mathlib.Core.Option.{Option, some, none}
+use mathlib.Core.Option.{Option as Maybe, some, none}
+use Rattle.std.specs.Prelude.{Option, Some, None, Result, Ok, Err}
 use mathlib.Core.Logic.{◌⊎◌, ⊎_elim}
 use native.Mathlib.Omega.{arith}
 use native.Mathlib.Nat.{zero-add}
@@ -18,6 +19,7 @@ use borrow.Author.Tests.{le-leb, lt-leb, leb-true, eq-eqb, ne_eqb}
 use Rattle.algebra.specs.Count.{both}
 use Rattle.algebra.specs.Words.{over}
 use Rattle.algebra.proofs.Tests.{and_left}
+use Rattle.protocol.specs.declared.Refusal.{Refusal}
 use Rattle.protocol.specs.declared.Refusal.TheVariants.{Form, Size}
 use Rattle.protocol.specs.Judge.{refused, done, clear, judge_by, judge, Reply}
 use Rattle.protocol.specs.Bounds.{within, room_tests}
@@ -25,11 +27,7 @@ use Rattle.protocol.specs.declared.Numeral.{Numeral}
 use Rattle.protocol.specs.declared.Numeral.TheVariants.{Empty, Value, Wrong}
 use Rattle.protocol.specs.Line.{with_byte, end_byte, prepend, end_number, numbers, numbers_of, numbers_into}
 use Rattle.protocol.proofs.Judge.{accepts, same-refusal, not-zero}
-use Rattle.decimal.specs.declared.Tally.{Tally}
-use Rattle.decimal.specs.declared.Tally.TheVariants as tally
-use Rattle.decimal.specs.declared.Count.{Count}
-use Rattle.decimal.specs.declared.Count.TheVariants as count
-use Rattle.decimal.specs.Reading.{Spelled, with_number, end_spelled, spell, numbers_in, numbers_before, count_reply, tally_of, tally_in, Ended, Stored, TalliedBehind, Tallied}
+use Rattle.decimal.specs.Reading.{Spelled, with_number, end_spelled, spell, numbers_in, numbers_before, count_reply, tally_of, tally_in, Ended, TalliedBehind}
 use Rattle.decimal.proofs.Bytes.{needs-end, whole, whole-none}
 
 -- words stored from the start on stand over what was there
@@ -37,17 +35,24 @@ pub sets_over : (xs out : List ℕ) → length xs ≤ length out → sets out 0 
 unfolding over
 sets_over xs out h = let l : 0 + length xs ≤ length out = omega arith in sets-eq xs out 0 l ∙ ap (λ (k : ℕ). xs ++ drop k out) (zero-add (length xs))
 
-module _ (o : Option (List ℕ)) (before after : List ℕ) (r : Tally) where
-  pub told-wrong : Tallied o before after r → r ≡ tally.Wrong → o ≡ none
-  told-wrong t e = subst (Tallied o before after) e t
+-- what the count of a line's numbers tells of the line
+pub told-wrong : (o : Maybe (List ℕ)) → tally_of o ≡ None → o ≡ none
+told-wrong none e = refl
+told-wrong (some xs) e = cc
 
-  pub told : (n : ℕ) → Tallied o before after r → r ≡ tally.Numbers n → Stored o n before after
-  told n t e = subst (Tallied o before after) e t
+pub record Told (o : Maybe (List ℕ)) (n : ℕ) : Type 0 where
+  pub values : List ℕ
+  pub reads : o ≡ some values
+  pub count : n ≡ length values
 
-pub stored-behind : (skip : ℕ) (o : Option (List ℕ)) (xs before after : List ℕ) (r : Tally) → o ≡ some xs → TalliedBehind skip o before after r
+pub told : (o : Maybe (List ℕ)) (n : ℕ) → tally_of o ≡ Some n → Told o n
+told none n e = cc
+told (some xs) n e = record { values = xs; reads = refl; count = cc }
+
+pub stored-behind : (skip : ℕ) (o : Maybe (List ℕ)) (xs before after : List ℕ) (r : Option ℕ) → o ≡ some xs → TalliedBehind skip o before after r
     → after ≡ sets before 0 (drop skip xs)
-stored-behind skip o xs before after (tally.Numbers n) e t = let same : t.values ≡ xs = cc t.reads in t.stores ∙ ap (λ (l : List ℕ). sets before 0 (drop skip l)) same
-stored-behind skip o xs before after tally.Wrong e t = absurd (let z : ◌≡◌ {A = ℕ} 0 1 = cc in omega arith)
+stored-behind skip o xs before after (Some n) e t = let same : t.values ≡ xs = cc t.reads in t.stores ∙ ap (λ (l : List ℕ). sets before 0 (drop skip l)) same
+stored-behind skip o xs before after None e t = absurd (let z : ◌≡◌ {A = ℕ} 0 1 = cc in omega arith)
 
 -- ---- what a load says
 
@@ -94,18 +99,18 @@ before-whole s l h e = (
 )
 
 -- another run of bytes
-unread : (skip : ℕ) (s out : List ℕ) → numbers_of s ≡ none → numbers_before s ≡ [] → (tally.Wrong ≡ tally_of (numbers_of s)) × (out ≡ sets out 0 (drop skip (numbers_before s)))
+unread : (skip : ℕ) (s out : List ℕ) → numbers_of s ≡ none → numbers_before s ≡ [] → (None ≡ tally_of (numbers_of s)) × (out ≡ sets out 0 (drop skip (numbers_before s)))
 unread skip s out e f =
     (sym (ap tally_of e), sym (ap (λ (l : List ℕ). sets out 0 (drop skip l)) f ∙ ap (sets out 0) (drop_of_length-le {A = ℕ} [] {i = skip} (omega arith))))
 
-pub unread-length : (skip : ℕ) (s out : List ℕ) → (length s < 1) ⊎ (65536 < length s) → (tally.Wrong ≡ tally_of (numbers_of s)) × (out ≡ sets out 0 (drop skip (numbers_before s)))
+pub unread-length : (skip : ℕ) (s out : List ℕ) → (length s < 1) ⊎ (65536 < length s) → (None ≡ tally_of (numbers_of s)) × (out ≡ sets out 0 (drop skip (numbers_before s)))
 unfolding numbers_before within both
 unread-length skip s out d =
     unread skip s out (whole-none s d) (⊎_elim (λ h. rw (lt-leb 1 (length s) h))
     (λ h. let l : 1 ≤ length s = omega arith in rw (le-leb 1 (length s) l, lt-leb (length s) 65536 h)) d)
 
 pub unread-end : (skip : ℕ) (s out : List ℕ) → 0 < length s → length s ≤ 65536 → (Ended s → ⊥)
-    → (tally.Wrong ≡ tally_of (numbers_of s)) × (out ≡ sets out 0 (drop skip (numbers_before s)))
+    → (None ≡ tally_of (numbers_of s)) × (out ≡ sets out 0 (drop skip (numbers_before s)))
 unfolding numbers_before within both
 unread-end skip s out l h n =
     unread skip s out (whole s l h ∙ needs-end Empty s l n)
@@ -128,16 +133,16 @@ before-all s xs e = go (within 1 65536 (length s)) refl e
     go false d q = no-numbers xs q
 
 -- what a load leaves, as the words of a line's numbers
-pub tallied : (skip : ℕ) (s before after : List ℕ) (r : Tally) → r ≡ tally_of (numbers_of s) → after ≡ sets before 0 (drop skip (numbers_before s))
+pub tallied : (skip : ℕ) (s before after : List ℕ) (r : Option ℕ) → r ≡ tally_of (numbers_of s) → after ≡ sets before 0 (drop skip (numbers_before s))
     → TalliedBehind skip (numbers_of s) before after r
 tallied skip s before after r e f = subst (TalliedBehind skip (numbers_of s) before after) (sym e) (go (numbers_of s) refl)
   where
-    go : (o : Option (List ℕ)) → numbers_of s ≡ o → TalliedBehind skip (numbers_of s) before after (tally_of o)
+    go : (o : Maybe (List ℕ)) → numbers_of s ≡ o → TalliedBehind skip (numbers_of s) before after (tally_of o)
     go none d = d
     go (some xs) d = record { values = xs; reads = d; count = refl; stores = f ∙ ap (λ (l : List ℕ). sets before 0 (drop skip l)) (before-all s xs d) }
 
-pub tallied-as : (skip : ℕ) (o p : Option (List ℕ)) (before after : List ℕ) (r : Tally) → o ≡ p → TalliedBehind skip p before after r → TalliedBehind skip o before after r
-tallied-as skip o p before after r e t = subst (λ (x : Option (List ℕ)). TalliedBehind skip x before after r) (sym e) t
+pub tallied-as : (skip : ℕ) (o p : Maybe (List ℕ)) (before after : List ℕ) (r : Option ℕ) → o ≡ p → TalliedBehind skip p before after r → TalliedBehind skip o before after r
+tallied-as skip o p before after r e t = subst (λ (x : Maybe (List ℕ)). TalliedBehind skip x before after r) (sym e) t
 
 -- ---- the entry
 
@@ -154,8 +159,8 @@ unfolding numbers_into room_tests
 into-done room s xs e h = rw e (accepts _ xs (le-leb (length xs) room h, tt))
 
 -- what the answer tells determines it
-pub count_same : (r s : Count) → count_reply r ≡ count_reply s → r ≡ s
-count_same (count.Words n) (count.Words m) e = ap count.Words (ap (λ (x : Reply ℕ). x.values) e)
-count_same (count.Words n) (count.Refused s) e = absurd (omega (arith, not-zero s, ap (λ (x : Reply ℕ). x.number) e))
-count_same (count.Refused r) (count.Words m) e = absurd (omega (arith, not-zero r, ap (λ (x : Reply ℕ). x.number) e))
-count_same (count.Refused r) (count.Refused s) e = ap count.Refused (same-refusal r s (ap (λ (x : Reply ℕ). x.number) e))
+pub count_same : (r s : Result ℕ Refusal) → count_reply r ≡ count_reply s → r ≡ s
+count_same (Ok n) (Ok m) e = ap Ok (ap (λ (x : Reply ℕ). x.values) e)
+count_same (Ok n) (Err s) e = absurd (omega (arith, not-zero s, ap (λ (x : Reply ℕ). x.number) e))
+count_same (Err r) (Ok m) e = absurd (omega (arith, not-zero r, ap (λ (x : Reply ℕ). x.number) e))
+count_same (Err r) (Err s) e = ap Err (same-refusal r s (ap (λ (x : Reply ℕ). x.number) e))

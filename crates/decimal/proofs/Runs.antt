@@ -15,8 +15,8 @@ use Rattle.protocol.specs.declared.Numeral.TheVariants.{Empty, Value, Wrong}
 use Rattle.protocol.specs.Line.{with_byte, end_byte}
 use Rattle.protocol.proofs.DecimalLaws.{of-digit}
 use Rattle.decimal.specs.declared.Run.{Run}
+use Rattle.std.specs.Prelude.{Option, Some, None}
 use Rattle.decimal.specs.declared.Found.{Found}
-use Rattle.decimal.specs.declared.Found.TheVariants as found
 use Rattle.decimal.specs.Reading.{fault, spell, Ended, grow, seen, Stops, Ran, Finds}
 use Rattle.decimal.proofs.Bytes.{NoDigit, not_taken, spell-byte, spell-wrong}
 
@@ -152,9 +152,9 @@ zero-stops s i = go (dec_lt (get_or s i 0) 48) (dec_lt 57 (get_or s i 0))
 pub first-digit : (s : List ℕ) (i : ℕ) → i < length s → 48 ≤ get_or s i 0 → get_or s i 0 ≤ 57 → spell Empty (drop i s) ≡ spell (Value (get_or s i 0 - 48)) (drop (i + 1) s)
 first-digit s i h l k = digit-read Empty s i h l ∙ ap (λ (f : Numeral). spell f (drop (i + 1) s)) (of-digit Empty (get_or s i 0) l k)
 
-pub finds-first : (f : Numeral) (s : List ℕ) (i j : ℕ) (r : Found) → spell Empty (drop i s) ≡ spell f (drop j s) → i ≤ j → Finds f s j r → Finds Empty s i r
-finds-first f s i j (found.Number v k) e h a = (e ∙ a.0, omega (arith, a.1), a.2)
-finds-first f s i j found.Wrong e h a = e ∙ a
+pub finds-first : (f : Numeral) (s : List ℕ) (i j : ℕ) (r : Option Found) → spell Empty (drop i s) ≡ spell f (drop j s) → i ≤ j → Finds f s j r → Finds Empty s i r
+finds-first f s i j (Some n) e h a = (e ∙ a.0, omega (arith, a.1), a.2)
+finds-first f s i j None e h a = e ∙ a
 
 pub too_large : (s : List ℕ) (r t : Run) → Ran s r t → 2 ^ 32 ≤ t.value → spell (Value r.value) (drop r.next s) ≡ fault
 too_large s r t a h = a.reads ∙ ap (λ (f : Numeral). spell f (drop t.next s)) (seen-large t.value h) ∙ spell-wrong (drop t.next s)

@@ -1,7 +1,7 @@
 -- The numbers of a line, one after the other: `scan-start`, `scan-turn`, and at the end `scan-done` or `scan-wrong`.
 -- Assumes nothing.
 use Prim.Native.Nat.{ℕ, ◌+◌, ◌-◌, ◌≤◌, ◌<◌}
-use mathlib.Core.Path.{◌≡◌, refl, sym, ap, ap₂, subst, ◌∙◌}
+use mathlib.Core.Path.{◌≡◌, refl, sym, ap, ap₂, ◌∙◌}
 use mathlib.Core.Bool.{Bool, true, false, cond}
 use mathlib.Core.List.{List, [], ◌∷◌, ◌++◌}
 use native.Mathlib.Omega.{arith}
@@ -10,10 +10,8 @@ use lib.ListN.{length, set, drop, length-append, length-drop, drop_of_length-le}
 use borrow.Author.Tests.{ltb-true, ltb-false}
 use lib.Seq.{sets, length-sets, drop-append-le}
 use Rattle.protocol.specs.declared.Numeral.TheVariants.{Empty}
-use Rattle.decimal.specs.declared.Found.{Found}
-use Rattle.decimal.specs.declared.Found.TheVariants as found
-use Rattle.decimal.specs.Reading.{Spelled, fault, with_number, spell, tally_in, set_behind, Finds}
-use Rattle.decimal.specs.declared.Tally.TheVariants as tally
+use Rattle.std.specs.Prelude.{Some, None}
+use Rattle.decimal.specs.Reading.{Spelled, fault, with_number, spell, tally_in, set_behind}
 use Rattle.decimal.proofs.Bytes.{spell-none}
 use Rattle.decimal.proofs.Stores.{sets-append}
 
@@ -88,21 +86,10 @@ module _ (skip : ℕ) (s before after : List ℕ) (n i : ℕ) (a : Scanning skip
   stored-all : (w : Bool) → spell Empty s ≡ record { values = a.past; whole = w } → after ≡ sets before 0 (drop skip (spell Empty s).values)
   stored-all w e = a.stores ∙ ap (λ (x : Spelled). sets before 0 (drop skip x.values)) (sym e)
 
-  pub scan-done : length s ≤ i → (tally.Numbers n ≡ tally_in (spell Empty s)) × (after ≡ sets before 0 (drop skip (spell Empty s).values))
+  pub scan-done : length s ≤ i → (Some n ≡ tally_in (spell Empty s)) × (after ≡ sets before 0 (drop skip (spell Empty s).values))
   scan-done h =
       let e = scan-ends true (spell-none Empty s i h) in
-      (ap tally.Numbers a.count ∙ sym (ap tally_in e), stored-all true e)
+      (ap (λ (k : ℕ). Some k) a.count ∙ sym (ap tally_in e), stored-all true e)
 
-  pub scan-wrong : spell Empty (drop i s) ≡ fault → (tally.Wrong ≡ tally_in (spell Empty s)) × (after ≡ sets before 0 (drop skip (spell Empty s).values))
+  pub scan-wrong : spell Empty (drop i s) ≡ fault → (None ≡ tally_in (spell Empty s)) × (after ≡ sets before 0 (drop skip (spell Empty s).values))
   scan-wrong f = let e = scan-ends false f in (sym (ap tally_in e), stored-all false e)
-
-  -- the same by what was found at the byte
-  pub found_number : (r : Found) (v j : ℕ) → Finds Empty s i r → r ≡ found.Number v j → Scanning skip s before (set_behind skip after n v) (n + 1) j
-  found_number r v j f e = let g = subst (Finds Empty s i) e f in scan-turn v j g.0 g.1 g.2
-
-  pub found-wrong : (r : Found) → Finds Empty s i r → r ≡ found.Wrong
-      → (tally.Wrong ≡ tally_in (spell Empty s)) × (after ≡ sets before 0 (drop skip (spell Empty s).values))
-  found-wrong r f e = scan-wrong (subst (Finds Empty s i) e f)
-
-pub found-further : (s : List ℕ) (i : ℕ) (r : Found) (v j : ℕ) → Finds Empty s i r → r ≡ found.Number v j → (i < j) × (j ≤ length s)
-found-further s i r v j f e = let g = subst (Finds Empty s i) e f in (g.1, g.2)

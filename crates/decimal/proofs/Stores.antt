@@ -3,7 +3,7 @@
 --   part-turn      one number of a run, with the byte that ends it
 --   line-append    a line in two runs
 -- Assumes nothing.
-use Prim.Native.Nat.{ℕ, suc, ◌+◌, ◌-◌, ◌≤◌, ◌<◌}
+use Prim.Native.Nat.{ℕ, suc, ◌+◌, ◌*◌, ◌-◌, ◌^◌, ◌≤◌, ◌<◌}
 use mathlib.Core.Path.{◌≡◌, refl, sym, ap, ◌∙◌}
 use mathlib.Core.List.{List, [], ◌∷◌, ◌++◌, append_assoc}
 use native.Mathlib.Omega.{arith}
@@ -12,6 +12,10 @@ use native.Mathlib.Numerals.{add-one}
 use lib.ListN.{length, get_or, set, drop, length-append, length-drop, drop_of_length-le}
 use lib.Seq.{sets, drop-cons}
 use Rattle.protocol.specs.Line.{decimal, end_byte, line}
+use Rattle.protocol.proofs.MessageRoundTrip.{few-digits}
+use Rattle.std.specs.List.{sum_by, All}
+use Rattle.std.proofs.lemmas.List.Sums.{sum_by-cons, sum_by-le}
+use Rattle.std.proofs.lemmas.List.Elements.{All-from_get_or}
 use Rattle.decimal.specs.Writing.{line_before}
 
 pub sets-append : (l : List ℕ) (i : ℕ) (xs ys : List ℕ) → sets l i (xs ++ ys) ≡ sets (sets l i xs) (i + length xs) ys
@@ -24,12 +28,21 @@ sets_then l i xs ys k e = ap (λ (j : ℕ). sets (sets l i xs) j ys) e ∙ sym (
 
 -- ---- how many bytes
 
-pub line-length-step : (xs : List ℕ) (j : ℕ) → j < length xs → length (line (drop j xs)) ≡ length (decimal (get_or xs j 0)) + 1 + length (line (drop (j + 1) xs))
-line-length-step xs j h =
-    rw (add-one j, drop-cons xs j 0 h) (length-append (decimal (get_or xs j 0)) (end_byte (length (drop (suc j) xs)) ∷ line (drop (suc j) xs)) ∙ omega arith)
+-- of one number, with the byte that ends it
+abbrev pub field-bytes : ℕ → ℕ
+field-bytes x = length (decimal x) + 1
 
-pub line-none : (xs : List ℕ) (j : ℕ) → length xs ≤ j → line (drop j xs) ≡ []
-line-none xs j h = rw (drop_of_length-le xs h)
+pub line-sum : (xs : List ℕ) → sum_by field-bytes xs ≡ length (line xs)
+line-sum [] = refl
+line-sum (x ∷ xs) =
+    sum_by-cons field-bytes x xs ∙ ap (λ (n : ℕ). length (decimal x) + 1 + n) (line-sum xs)
+    ∙ sym (length-append (decimal x) (end_byte (length xs) ∷ line xs) ∙ omega arith)
+
+-- numbers of 32 bits have ten digits at most
+pub line-few : (xs : List ℕ) → ((i : ℕ) → get_or xs i 0 < 2 ^ 32) → sum_by field-bytes xs ≤ 11 * length xs
+line-few xs h =
+    let each : All (λ x. field-bytes x ≤ 11) xs = All-from_get_or (λ x. field-bytes x ≤ 11) xs 0 (λ i k. omega (arith, few-digits (get_or xs i 0) (h i))) in
+    omega (arith, sum_by-le field-bytes 11 xs each)
 
 -- ---- a run of numbers on a line
 

@@ -8,21 +8,18 @@
 --   count_reply, count_of, words_after   what the entry `numbers` answers and leaves
 -- Assumes nothing.
 use Rattle.std.specs.Prelude.{ℕ, ◌+◌, ◌*◌, ◌-◌, ◌^◌, ◌≤◌, ◌<◌, ◌≡◌, Bool, true, false, cond, List, [], ◌∷◌, ltb, eqb, length, get_or, set, drop}
-use Rattle.std.proofs.Math.Option.{Option, some, none}
+use Rattle.std.specs.Prelude.{Option, Some, None, Result, Ok, Err}
+use Rattle.std.proofs.Math.Option.{Option as Maybe, some, none}
 use Rattle.std.proofs.lemmas.List.Edits.{sets}
 use Rattle.algebra.specs.Words.{over}
 use Rattle.protocol.specs.declared.Numeral.{Numeral}
 use Rattle.protocol.specs.declared.Numeral.TheVariants as numeral
+use Rattle.protocol.specs.declared.Refusal.{Refusal}
 use Rattle.protocol.specs.Judge.{Judged, refused, done, refusal_number, Reply}
 use Rattle.protocol.specs.Bounds.{within}
 use Rattle.protocol.specs.Line.{with_byte, end_byte}
 use Rattle.decimal.specs.declared.Run.{Run}
 use Rattle.decimal.specs.declared.Found.{Found}
-use Rattle.decimal.specs.declared.Found.TheVariants.{Number, Wrong}
-use Rattle.decimal.specs.declared.Tally.{Tally}
-use Rattle.decimal.specs.declared.Tally.TheVariants as tally
-use Rattle.decimal.specs.declared.Count.{Count}
-use Rattle.decimal.specs.declared.Count.TheVariants as count
 
 -- ---- what a line's bytes spell up to the first fault
 
@@ -62,16 +59,16 @@ unfoldable pub numbers_before : List ℕ → List ℕ
 numbers_before l = cond (within 1 65536 (length l)) (cond (eqb (get_or l (length l - 1) 0) 10) (spell numeral.Empty l).values []) []
 
 -- the numbers of a line that has no fault
-abbrev pub numbers_in : Spelled → Option (List ℕ)
+abbrev pub numbers_in : Spelled → Maybe (List ℕ)
 numbers_in x = cond x.whole (some x.values) none
 
 -- how many numbers a line has
-abbrev pub tally_of : Option (List ℕ) → Tally
-tally_of none = tally.Wrong
-tally_of (some xs) = tally.Numbers (length xs)
+abbrev pub tally_of : Maybe (List ℕ) → Option ℕ
+tally_of none = None
+tally_of (some xs) = Some (length xs)
 
-abbrev pub tally_in : Spelled → Tally
-tally_in x = cond x.whole (tally.Numbers (length x.values)) tally.Wrong
+abbrev pub tally_in : Spelled → Option ℕ
+tally_in x = cond x.whole (Some (length x.values)) None
 
 -- ---- what the functions find
 
@@ -101,38 +98,38 @@ pub record Ran (s : List ℕ) (r t : Run) : Type 0 where
   pub onward : r.next ≤ t.next
 
 -- where f has been read of the number whose next byte stands at i
-abbrev pub Finds : Numeral → List ℕ → ℕ → Found → Type 0
-Finds f s i (Number v j) = (spell f (drop i s) ≡ with_number v (spell numeral.Empty (drop j s))) × (i < j) × (j ≤ length s)
-Finds f s i Wrong = spell f (drop i s) ≡ fault
+abbrev pub Finds : Numeral → List ℕ → ℕ → Option Found → Type 0
+Finds f s i (Some n) = (spell f (drop i s) ≡ with_number n.value (spell numeral.Empty (drop n.next s))) × (i < n.next) × (n.next ≤ length s)
+Finds f s i None = spell f (drop i s) ≡ fault
 
 -- the word of the number at index n, where the first `skip` are not stored
 unfoldable pub set_behind : ℕ → List ℕ → ℕ → ℕ → List ℕ
 set_behind skip l n v = cond (ltb n skip) l (set l (n - skip) v)
 
 -- n numbers, those behind the first `skip` stored from the start of `before` on as far as there is room
-pub record StoredBehind (skip : ℕ) (o : Option (List ℕ)) (n : ℕ) (before after : List ℕ) : Type 0 where
+pub record StoredBehind (skip : ℕ) (o : Maybe (List ℕ)) (n : ℕ) (before after : List ℕ) : Type 0 where
   pub values : List ℕ
   pub reads : o ≡ some values
   pub count : n ≡ length values
   pub stores : after ≡ sets before 0 (drop skip values)
 
-abbrev pub TalliedBehind : ℕ → Option (List ℕ) → (before after : List ℕ) → Tally → Type 0
-TalliedBehind skip o before after (tally.Numbers n) = StoredBehind skip o n before after
-TalliedBehind skip o before after tally.Wrong = o ≡ none
+abbrev pub TalliedBehind : ℕ → Maybe (List ℕ) → (before after : List ℕ) → Option ℕ → Type 0
+TalliedBehind skip o before after (Some n) = StoredBehind skip o n before after
+TalliedBehind skip o before after None = o ≡ none
 
 -- all of them stored
-abbrev pub Stored : Option (List ℕ) → ℕ → (before after : List ℕ) → Type 0
+abbrev pub Stored : Maybe (List ℕ) → ℕ → (before after : List ℕ) → Type 0
 Stored = StoredBehind 0
 
-abbrev pub Tallied : Option (List ℕ) → (before after : List ℕ) → Tally → Type 0
+abbrev pub Tallied : Maybe (List ℕ) → (before after : List ℕ) → Option ℕ → Type 0
 Tallied = TalliedBehind 0
 
 -- ---- the entry `numbers`
 
 -- what the answer tells: the refusal's number, 0 where the line is taken, and how many words, 0 where it is refused
-abbrev pub count_reply : Count → Reply ℕ
-count_reply (count.Words n) = record { number = 0; values = n }
-count_reply (count.Refused r) = record { number = refusal_number r; values = 0 }
+abbrev pub count_reply : Result ℕ Refusal → Reply ℕ
+count_reply (Ok n) = record { number = 0; values = n }
+count_reply (Err r) = record { number = refusal_number r; values = 0 }
 
 abbrev pub count_of : Judged (List ℕ) → Judged ℕ
 count_of (refused r) = refused r

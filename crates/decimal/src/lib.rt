@@ -26,25 +26,11 @@ pub struct Run {
     pub next: usize,
 }
 
-// What stands at a position of a line: a number with the position behind the byte that ends it, or nothing that belongs there.
+// A number of a line, and the position behind the byte that ends it.
 #[derive(Clone, Copy)]
-pub enum Found {
-    Number(u32, usize),
-    Wrong,
-}
-
-// How many numbers a line has.
-#[derive(Clone, Copy)]
-pub enum Tally {
-    Numbers(usize),
-    Wrong,
-}
-
-// How many words the reading of a line stored, or why none.
-#[derive(Clone, Copy)]
-pub enum Count {
-    Words(usize),
-    Refused(Refusal),
+pub struct Found {
+    pub value: u32,
+    pub next: usize,
 }
 
 // The byte that ends a number with `left` bytes or numbers behind it.
@@ -79,38 +65,35 @@ fn digits(s: &[u8], r: Run) -> Run
     ensures { Ran s.now r result }
 {
     let mut t = r;
-    let mut j: usize = 0;
-    while j < 9 {
-        let u = step(s, t);
-        t = u;
-        j += 1;
+    for _ in 0..9u8 {
+        t = step(s, t);
     }
     t
 }
 
 // The number that has been read, where the byte that ends it follows.
-fn end_at(s: &[u8], value: u32, next: usize) -> Found
+fn end_at(s: &[u8], value: u32, next: usize) -> Option<Found>
     requires { (next < length s.now) × Stops s.now (Value value) next }
     ensures { Finds (Value value) s.now next result }
 {
     let after = next + 1;
     if s[next] != end_byte(s.len() - after) {
-        return Found::Wrong;
+        return None;
     }
-    Found::Number(value, after)
+    Some(Found { value, next: after })
 }
 
-// The number that begins at a position.
-fn number_at(s: &[u8], at: usize) -> Found
+// The number that begins at a position, or none where what stands there belongs to no line.
+fn number_at(s: &[u8], at: usize) -> Option<Found>
     requires { (at < length s.now) × Ended s.now }
     ensures { Finds Empty s.now at result }
 {
     let b = s[at];
     if b < 48 {
-        return Found::Wrong;
+        return None;
     }
     if 57 < b {
-        return Found::Wrong;
+        return None;
     }
     if b == 48 {
         return end_at(s, 0, at + 1);
@@ -123,7 +106,7 @@ fn number_at(s: &[u8], at: usize) -> Found
         },
     );
     if 4294967295 < r.value {
-        return Found::Wrong;
+        return None;
     }
     end_at(s, r.value as u32, r.next)
 }
@@ -148,7 +131,8 @@ fn put_behind(out: &mut [u32], skip: usize, n: usize, value: u32)
 }
 
 // The numbers of a line's bytes up to the first fault; those behind the first `skip` are stored, as many as there is room for.
-fn scan(s: &[u8], skip: usize, out: &mut [u32]) -> Tally
+// The answer is how many there are, none where there is a fault.
+fn scan(s: &[u8], skip: usize, out: &mut [u32]) -> Option<usize>
     requires { Ended s.now }
     ensures answered { result ≡ tally_in (spell Empty s.now) }
     ensures contents { out.new ≡ sets out.old 0 (drop skip (spell Empty s.now).values) }
@@ -156,37 +140,34 @@ fn scan(s: &[u8], skip: usize, out: &mut [u32]) -> Tally
     let mut n: usize = 0;
     let mut i: usize = 0;
     while i < s.len() {
-        let found = number_at(s, i);
-        let Found::Number(v, next) = found else {
-            return Tally::Wrong;
-        };
-        put_behind(out, skip, n, v);
+        let found = number_at(s, i)?;
+        put_behind(out, skip, n, found.value);
         n += 1;
-        i = next;
+        i = found.next;
     }
-    Tally::Numbers(n)
+    Some(n)
 }
 
 // The numbers of a whole line, of at most 65,536 bytes, up to the first fault; those behind the first `skip` are stored, as many as there is room for.
-pub fn load_behind(s: &[u8], skip: usize, out: &mut [u32]) -> Tally
+pub fn load_behind(s: &[u8], skip: usize, out: &mut [u32]) -> Option<usize>
     ensures answered { result ≡ tally_of (numbers_of s.now) }
     ensures contents { out.new ≡ sets out.old 0 (drop skip (numbers_before s.now)) }
 {
     let n = s.len();
     if n == 0 {
-        return Tally::Wrong;
+        return None;
     }
     if 65536 < n {
-        return Tally::Wrong;
+        return None;
     }
     if s[n - 1] != 10 {
-        return Tally::Wrong;
+        return None;
     }
     scan(s, skip, out)
 }
 
 // The same with all of them.
-pub fn load(s: &[u8], out: &mut [u32]) -> Tally
+pub fn load(s: &[u8], out: &mut [u32]) -> Option<usize>
     ensures answered { result ≡ tally_of (numbers_of s.now) }
     ensures contents { out.new ≡ sets out.old 0 (numbers_before s.now) }
 {
@@ -194,20 +175,17 @@ pub fn load(s: &[u8], out: &mut [u32]) -> Tally
 }
 
 // Reads a line of numbers into a lent slice. Refused by 1, or by 4 where the slice is too short; nothing is stored then.
-pub fn numbers(s: &[u8], out: &mut [u32]) -> Count
+pub fn numbers(s: &[u8], out: &mut [u32]) -> Result<usize, Refusal>
     ensures answered { count_reply result ≡ reply_of 0 (count_of (numbers_into (length out.old) s.now)) }
     ensures contents { out.new ≡ words_after (numbers_into (length out.old) s.now) out.old }
 {
     let mut spare = [0u32; 1];
-    let first = load(s, &mut spare);
-    let Tally::Numbers(n) = first else {
-        return Count::Refused(Refusal::Form);
-    };
+    let n = load(s, &mut spare).ok_or(Refusal::Form)?;
     if out.len() < n {
-        return Count::Refused(Refusal::Size);
+        return Err(Refusal::Size);
     }
     load(s, out);
-    Count::Words(n)
+    Ok(n)
 }
 
 // ---- writing
@@ -237,10 +215,8 @@ fn put_high(n: u32, out: &mut [u8], at: usize) -> usize
     ensures contents { out.new ≡ sets out.old at (high n) }
 {
     let mut p = at;
-    let mut i: usize = 0;
-    while i < 9 {
-        p = put_digit(n, POWERS[i], out, p);
-        i += 1;
+    for power in &POWERS {
+        p = put_digit(n, *power, out, p);
     }
     p
 }
@@ -264,11 +240,8 @@ pub fn put_numbers(xs: &[u32], more: usize, out: &mut [u8], at: usize) -> usize
     ensures contents { out.new ≡ sets out.old at (line_before more xs.now) }
 {
     let mut p = at;
-    let mut j: usize = 0;
-    while j < xs.len() {
-        let x = xs[j];
-        j += 1;
-        p = put_number(x, end_byte(xs.len() - j + more), out, p);
+    for (j, x) in xs.iter().enumerate() {
+        p = put_number(*x, end_byte(xs.len() - (j + 1) + more), out, p);
     }
     p
 }
@@ -277,34 +250,26 @@ pub fn put_numbers(xs: &[u32], more: usize, out: &mut [u8], at: usize) -> usize
 pub fn digit_count(n: u32) -> usize
     ensures { result ≡ length (decimal n) }
 {
-    if 1000000000 <= n {
-        return 10;
+    match n {
+        1000000000.. => 10,
+        100000000.. => 9,
+        10000000.. => 8,
+        1000000.. => 7,
+        100000.. => 6,
+        10000.. => 5,
+        1000.. => 4,
+        100.. => 3,
+        10.. => 2,
+        _ => 1,
     }
-    if 100000000 <= n {
-        return 9;
-    }
-    if 10000000 <= n {
-        return 8;
-    }
-    if 1000000 <= n {
-        return 7;
-    }
-    if 100000 <= n {
-        return 6;
-    }
-    if 10000 <= n {
-        return 5;
-    }
-    if 1000 <= n {
-        return 4;
-    }
-    if 100 <= n {
-        return 3;
-    }
-    if 10 <= n {
-        return 2;
-    }
-    1
+}
+
+// How many bytes n takes with the byte that ends it.
+fn field_length(n: u32) -> usize
+    ensures bytes { result ≡ length (decimal n) + 1 }
+    ensures few { result ≤ 11 }
+{
+    digit_count(n) + 1
 }
 
 // How many bytes the numbers take, each with the byte that ends it.
@@ -313,11 +278,5 @@ pub fn line_length(xs: &[u32]) -> usize
     ensures bytes { result ≡ length (line xs.now) }
     ensures few { result ≤ 11 * length xs.now }
 {
-    let mut n: usize = 0;
-    let mut j: usize = 0;
-    while j < xs.len() {
-        n = n + digit_count(xs[j]) + 1;
-        j += 1;
-    }
-    n
+    xs.iter().map(|x| field_length(*x)).sum()
 }

@@ -2,7 +2,7 @@
 --   kept-residues, kept-drawn, kept-enough, kept-tests  what the first n words kept give, for at most n residues
 --   kept-length                                         as many words are kept as there are residues
 --   Sifts, sifts-..                                     the loop that copies the words kept
---   sifted-over                                         what it leaves where there are enough
+--   sifted-over, sifted-collected                       what it leaves where there are enough
 --   sifted-whole, sifted-then                           none of the first n words is thrown away, or the loop follows
 -- Assumes nothing.
 use mathlib.Core.Path.{◌≡◌, refl, sym, ap, ◌∙◌}
@@ -24,7 +24,7 @@ use Rattle.protocol.specs.Judge.{needs}
 use Rattle.protocol.specs.Drawing.{is_kept, residue_of, residues_of, drawn, words_read, draw_tests}
 use Rattle.vectors.proofs.Written.{over-part}
 use Rattle.drawing.specs.declared.Sifted.{Sifted}
-use Rattle.drawing.specs.Extent.{Kept}
+use Rattle.drawing.specs.Extent.{residue_at, Kept, Collected}
 use Rattle.drawing.specs.Sift.{kept_words, SiftedTo}
 use Rattle.drawing.proofs.Turns.{read_kept, read-thrown, read_none, kept_read}
 
@@ -149,6 +149,34 @@ unfolding over
 sifted-over q n ws d out r s e =
     sym (take-append-drop n out)
     ∙ rw (sym s.kept ∙ e, s.past) (ap (λ (l : List ℕ). l ++ drop n d) (rw e at s.copied))
+
+-- the words kept stand in order, so their residues are those of all words
+kept-at : (q : ℕ) (ws : List ℕ) (t : ℕ) → t < length (kept_words q ws) → residue_of q (get_or (kept_words q ws) t 0) ≡ get_or (residues_of q ws) t 0
+unfolding residues_of kept_words
+kept-at q [] t h = absurd (omega arith)
+kept-at q (w ∷ ws) t h = go (kept-at q ws) (is_kept q w) t h
+  where
+    go : ((t : ℕ) → t < length (kept_words q ws) → residue_of q (get_or (kept_words q ws) t 0) ≡ get_or (residues_of q ws) t 0)
+        → (b : Bool) (t : ℕ) → t < length (cond b (w ∷ kept_words q ws) (kept_words q ws))
+        → residue_of q (get_or (cond b (w ∷ kept_words q ws) (kept_words q ws)) t 0) ≡ get_or (cond b (residue_of q w ∷ residues_of q ws) (residues_of q ws)) t 0
+    go again true zero h = refl
+    go again true (suc t) h = again t (le_of_suc-le-suc h)
+    go again false t h = again t h
+
+pub sifted-collected : (q n : ℕ) (ws d out : List ℕ) (r : Sifted) → SiftedTo q n ws d out r → n ≤ length (residues_of q ws) → length out ≡ length d
+    → Collected q n ws d out
+unfolding residue_at
+sifted-collected q n ws d out r s enough same =
+    let all : r.kept ≡ n = s.kept ∙ length-take-le n (kept_words q ws) (rw (kept-length q ws) enough) in
+    let front : take n out ≡ take n (kept_words q ws) = rw all at s.copied in
+    record {
+      gives = λ t h.
+          let here : get_or out t 0 ≡ get_or (kept_words q ws) t 0 =
+          sym (get_or-take n out t 0 h) ∙ (ap (λ (l : List ℕ). get_or l t 0) front ∙ get_or-take n (kept_words q ws) t 0 h) in
+          rw here (kept-at q ws t (rw (kept-length q ws) (omega arith)));
+      past = s.past;
+      same = same;
+    }
 
 -- ---- where the first n words were copied before: none of them is thrown away, or the loop goes over them
 

@@ -16,7 +16,7 @@ use lib.ListN.{length, take, drop, length-drop}
 use lib.Seq.{length-take-le, take_at}
 use Rattle.algebra.specs.Words.{over}
 use Rattle.protocol.specs.Drawing.{is_kept, residue_of, residues_of, drawn, words_read}
-use Rattle.drawing.specs.declared.Reading.TheVariants.{Enough, Dry}
+use Rattle.std.specs.Prelude.{Some, None}
 use Rattle.drawing.specs.Extent.{read_for}
 
 pub residues-after : (q a : ℕ) (ws : List ℕ) → a ≤ length (residues_of q ws) → residues_of q (drop (words_read q a ws) ws) ≡ drop a (residues_of q ws)
@@ -100,18 +100,18 @@ module _ (q a : ℕ) (ws : List ℕ) (i : ℕ) (at : i ≡ words_read q a ws) wh
 -- ---- what a reading says
 
 module _ (q n : ℕ) (ws : List ℕ) where
-  pub dry-few : read_for q n ws ≡ Dry → leb n (length (residues_of q ws)) ≡ false
+  pub dry-few : read_for q n ws ≡ None → leb n (length (residues_of q ws)) ≡ false
   unfolding read_for
   dry-few e = go (leb n (length (residues_of q ws))) e
     where
-      go : (b : Bool) → cond b (Enough (words_read q n ws)) Dry ≡ Dry → b ≡ false
+      go : (b : Bool) → cond b (Some (words_read q n ws)) None ≡ None → b ≡ false
       go true e = absurd (let z : ◌≡◌ {A = ℕ} 0 1 = cc in omega arith)
       go false e = refl
 
-  pub enough-many : {i : ℕ} → read_for q n ws ≡ Enough i → (leb n (length (residues_of q ws)) ≡ true) × (i ≡ words_read q n ws)
+  pub enough-many : {i : ℕ} → read_for q n ws ≡ Some i → (leb n (length (residues_of q ws)) ≡ true) × (i ≡ words_read q n ws)
   unfolding read_for
   enough-many {i} e = go (leb n (length (residues_of q ws))) e
     where
-      go : (b : Bool) → cond b (Enough (words_read q n ws)) Dry ≡ Enough i → (b ≡ true) × (i ≡ words_read q n ws)
+      go : (b : Bool) → cond b (Some (words_read q n ws)) None ≡ Some i → (b ≡ true) × (i ≡ words_read q n ws)
       go true e = (refl, cc)
       go false e = absurd (let z : ◌≡◌ {A = ℕ} 0 1 = cc in omega arith)

@@ -2,14 +2,12 @@
 --   read_for          how many words are read
 --   Kept, Collected   which words are kept, and that they stand together
 --   residue_at        the residue of a word at a place
-use Rattle.std.specs.Prelude.{◌≡◌, true, cond, List, ℕ, ◌<◌, leb, length, get_or, drop}
+use Rattle.std.specs.Prelude.{◌≡◌, true, cond, List, Option, Some, None, ℕ, ◌<◌, leb, length, get_or, drop}
 use Rattle.protocol.specs.Drawing.{is_kept, residue_of, residues_of, words_read}
-use Rattle.drawing.specs.declared.Reading.{Reading}
-use Rattle.drawing.specs.declared.Reading.TheVariants.{Enough, Dry}
 
--- for n residues; Dry where too few words are kept
-unfoldable pub read_for : ℕ → ℕ → List ℕ → Reading
-read_for q n words = cond (leb n (length (residues_of q words))) (Enough (words_read q n words)) Dry
+-- for n residues; None where too few words are kept
+unfoldable pub read_for : ℕ → ℕ → List ℕ → Option ℕ
+read_for q n words = cond (leb n (length (residues_of q words))) (Some (words_read q n words)) None
 
 -- none of the first n words is thrown away
 abbrev pub Kept : ℕ → ℕ → List ℕ → Type 0

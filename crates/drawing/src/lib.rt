@@ -7,7 +7,7 @@
 // No function here is for hosts.
 #![tactic(auto)]
 
-ghost use Rattle.std.specs.Prelude.{◌≡◌, true, ◌*◌, ◌/◌, ◌%◌, ◌<◌, ◌≤◌, ltb, length};
+ghost use Rattle.std.specs.Prelude.{◌≡◌, true, List, ℕ, ◌*◌, ◌/◌, ◌%◌, ◌<◌, ◌≤◌, ltb, length, get_or};
 ghost use Rattle.protocol.specs.Drawing.{residues_of, drawn, words_read};
 ghost use Rattle.algebra.specs.Count.{bit};
 ghost use Rattle.algebra.specs.Words.{over};
@@ -17,7 +17,7 @@ ghost use Rattle.drawing.specs.Extent.{read_for, residue_at, Kept, Collected};
 ghost use Rattle.drawing.specs.Sift.{SiftedTo};
 
 use reduction::{prepare, times};
-use vectors::{all_below, write_copy};
+use vectors::{all_below, set_each, write_copy};
 use words::{get_words, word_at};
 
 // Words below c are kept. It is 2^32 where q divides that.
@@ -43,43 +43,31 @@ fn all_kept(q: u32, n: usize, words: &[u32]) -> bool
     all_below(below as u32, &words[..n])
 }
 
-// How many words are read up to and with the last one kept, or too few are kept.
-#[derive(Clone, Copy)]
-pub enum Reading {
-    Enough(usize),
-    Dry,
-}
-
 // Word by word.
-fn read_each(q: u32, n: usize, words: &[u32]) -> Reading
+fn read_each(q: u32, n: usize, words: &[u32]) -> Option<usize>
     requires { 0 < q }
     ensures { result ≡ read_for q n words.now }
 {
     let below = limit(q);
     let mut due = n;
-    let mut i = 0;
-    while 0 < due {
-        if i == words.len() {
-            return Reading::Dry;
+    for (i, word) in words.iter().enumerate() {
+        if due == 0 {
+            return Some(i);
         }
-        let word = words[i];
-        if (word as u64) < below {
+        if (*word as u64) < below {
             due -= 1;
         }
-        i += 1;
     }
-    Reading::Enough(i)
+    if due == 0 { Some(words.len()) } else { None }
 }
 
-// No word past the last one needed is looked at.
-pub fn read(q: u32, n: usize, words: &[u32]) -> Reading
+// How many words are read up to and with the last one kept; none, where too few are kept. No word past the last one needed is looked at.
+pub fn read(q: u32, n: usize, words: &[u32]) -> Option<usize>
     requires { 0 < q }
     ensures { result ≡ read_for q n words.now }
 {
-    if n <= words.len() {
-        if all_kept(q, n, words) {
-            return Reading::Enough(n);
-        }
+    if n <= words.len() && all_kept(q, n, words) {
+        return Some(n);
     }
     read_each(q, n, words)
 }
@@ -91,22 +79,32 @@ fn kept(below: u64, w: u32) -> usize
     if (w as u64) < below { 1 } else { 0 }
 }
 
-// Word by word: one thrown away is written too, and the next word over it, so that none decides.
-fn collect_each(q: u32, n: usize, words: &[u32], out: &mut [u32]) -> usize
-    requires { (0 < q) × (n ≤ length (residues_of q words.now)) × (n ≤ length out.old) }
-    ensures value { result ≡ words_read q n words.now }
-    ensures collected { Collected q n words.now out.old out.new }
+// How many words were kept, and how many were read up to and with the last one kept; all of them, where too few are kept.
+#[derive(Clone, Copy)]
+pub struct Sifted {
+    pub kept: usize,
+    pub read: usize,
+}
+
+// Word by word, until n are kept or none is left: one thrown away is written too, and the next word over it, so that none decides.
+fn sift_each<F: Fn(usize) -> u32>(q: u32, n: usize, many: usize, word: F, out: &mut [u32]) -> Sifted
+    requires { (0 < q) × (n ≤ length out.old) × ((i : ℕ) → i < many → F.pre word i) }
+    ensures { (ws : List ℕ) → length ws ≡ many → ((i w : ℕ) → i < many → F.post word i w → w ≡ get_or ws i 0) → SiftedTo q n ws out.old out.new result }
 {
     let below = limit(q);
-    let mut i = 0;
     let mut j = 0;
-    while j < n {
-        let w = words[i];
+    for i in 0..many {
+        if n <= j {
+            return Sifted { kept: j, read: i };
+        }
+        let w = word(i);
         out[j] = w;
         j += kept(below, w);
-        i += 1;
     }
-    i
+    Sifted {
+        kept: j,
+        read: many,
+    }
 }
 
 // The first n words kept, over the start of `out`; the answer is how many were read.
@@ -119,7 +117,7 @@ fn collect(q: u32, n: usize, words: &[u32], out: &mut [u32]) -> usize
         write_copy(n, words, out);
         return n;
     }
-    collect_each(q, n, words, out)
+    sift_each(q, n, words.len(), |i| words[i], out).read
 }
 
 // The first n words modulo q, in place.
@@ -128,9 +126,7 @@ fn reduce_words(q: u32, n: usize, out: &mut [u32])
     ensures { out.new ≡ filled n (residue_at q out.old) out.old }
 {
     let unit = prepare(1 % q, q);
-    for j in 0..n {
-        out[j] = times(unit, out[j], q);
-    }
+    set_each(n, out, |_, w| times(unit, w, q));
 }
 
 // The first n residues over the first words of `out`; the answer is how many words were read.
@@ -144,46 +140,18 @@ pub fn draw(q: u32, n: usize, words: &[u32], out: &mut [u32]) -> usize
     read
 }
 
-// How many words were kept, and how many were read up to and with the last one kept; all of them, where too few are kept.
-#[derive(Clone, Copy)]
-pub struct Sifted {
-    pub kept: usize,
-    pub read: usize,
-}
-
-// Word by word, as in `collect_each`, until n are kept or none is left.
-fn sift_each(q: u32, n: usize, bytes: &[u8], out: &mut [u32]) -> Sifted
-    requires { (0 < q) × (n ≤ length out.old) }
-    ensures { SiftedTo q n (words_of bytes.now) out.old out.new result }
-{
-    let below = limit(q);
-    let many = bytes.len() / 4;
-    let mut i = 0;
-    let mut j = 0;
-    while i < many {
-        if n <= j {
-            return Sifted { kept: j, read: i };
-        }
-        let word = word_at(bytes, i * 4);
-        out[j] = word;
-        j += kept(below, word);
-        i += 1;
-    }
-    Sifted { kept: j, read: i }
-}
-
 // The first n words kept, over the start of `out`: a step that draws from them draws what it would draw from all. Where there are fewer,
 // other words may stand behind them, up to n.
 pub fn sift(q: u32, n: usize, bytes: &[u8], out: &mut [u32]) -> Sifted
     requires { (0 < q) × (n ≤ length out.old) }
     ensures { SiftedTo q n (words_of bytes.now) out.old out.new result }
 {
-    if bytes.len() / 4 < n {
-        return sift_each(q, n, bytes, out);
+    let many = bytes.len() / 4;
+    if n <= many {
+        get_words(n, bytes, out);
+        if all_kept(q, n, out) {
+            return Sifted { kept: n, read: n };
+        }
     }
-    get_words(n, bytes, out);
-    if all_kept(q, n, out) {
-        return Sifted { kept: n, read: n };
-    }
-    sift_each(q, n, bytes, out)
+    sift_each(q, n, many, |i| word_at(bytes, i * 4), out)
 }

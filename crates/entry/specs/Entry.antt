@@ -1,5 +1,5 @@
 -- The entries on bytes (RULES 11.2 to 11.4): the words that the bytes are, the step's own definition on them, and the bytes of what it leaves.
---   Lent, Left                   the bytes lent to an entry, and its report with those bytes afterwards
+--   Lent, Left                   the bytes lent to an entry, and its report with those bytes afterwards (lent_of, left_of: from slices)
 --   record_tests, whole_tests      what an entry tests by itself
 --   session_in                    the session in a record's bytes
 --   line_of, in_room               the line of what is sent, and room for it
@@ -41,6 +41,13 @@ pub record Lent : Type 0 where
 pub record Left : Type 0 where
   pub report : Report
   pub lent : Lent
+
+-- the same of the slices by themselves
+abbrev pub lent_of : (host pool scratch line result : List ℕ) → Lent
+lent_of host pool scratch line result = record { host = host; pool = pool; scratch = scratch; line = line; result = result }
+
+abbrev pub left_of : Report → (host pool scratch line result : List ℕ) → Left
+left_of report host pool scratch line result = record { report = report; lent = lent_of host pool scratch line result }
 
 -- the line of what is sent; none where nothing is
 unfoldable pub line_of : Message → List ℕ

@@ -12,7 +12,7 @@ ghost use Rattle.algebra.specs.Prime.{is_prime};
 ghost use Rattle.protocol.specs.Judge.{Reply, reply_of};
 ghost use Rattle.protocol.specs.Score.{to_residue, to_score};
 ghost use Rattle.entry.specs.Record.{record_size, terms_of};
-ghost use Rattle.entry.specs.Entry.{Lent, Left, Dealing, first_on, next_on, drop_on, deal_on};
+ghost use Rattle.entry.specs.Entry.{lent_of, left_of, Dealing, first_on, next_on, drop_on, deal_on};
 ghost use Rattle.sizes.specs.Sizes.{version_number, tape_words, scratch_words, coin_count, deal_count, longest_line};
 ghost use Rattle.sizes.specs.Inverse.{inverse_number};
 ghost use Rattle.sizes.specs.Words.{Told, told, refusal_word};
@@ -69,23 +69,8 @@ pub extern "C" fn yuthsaok_first(
     line: &mut [u8],
     res: &mut [u8],
 ) -> Report
-    ensures { ◌≡◌ {A = Left} (record {
-      report = result;
-      lent = record {
-        host = session.new;
-        pool = pool.new;
-        scratch = scratch.new;
-        line = line.new;
-        result = res.new;
-      };
-    })
-        (first_on (record {
-          host = session.old;
-          pool = pool.old;
-          scratch = scratch.old;
-          line = line.old;
-          result = res.old;
-        }) size index end (terms_of number tape q m k p) input.now words.now message.now) }
+    ensures { left_of result session.new pool.new scratch.new line.new res.new
+        ≡ first_on (lent_of session.old pool.old scratch.old line.old res.old) size index end (terms_of number tape q m k p) input.now words.now message.now }
 {
     let terms = Terms {
         session: SessionId(number),
@@ -111,23 +96,8 @@ pub extern "C" fn yuthsaok_next(
     line: &mut [u8],
     res: &mut [u8],
 ) -> Report
-    ensures { ◌≡◌ {A = Left} (record {
-      report = result;
-      lent = record {
-        host = session.new;
-        pool = pool.new;
-        scratch = scratch.new;
-        line = line.new;
-        result = res.new;
-      };
-    })
-        (next_on (record {
-          host = session.old;
-          pool = pool.old;
-          scratch = scratch.old;
-          line = line.old;
-          result = res.old;
-        }) size index message.now) }
+    ensures { left_of result session.new pool.new scratch.new line.new res.new
+        ≡ next_on (lent_of session.old pool.old scratch.old line.old res.old) size index message.now }
 {
     let at = Place { size, index };
     host_later::next(session, pool, at, scratch, message, line, res)
@@ -141,17 +111,8 @@ pub extern "C" fn yuthsaok_drop(
     index: usize,
     scratch: &mut [u8],
 ) -> Report
-    ensures { ◌≡◌ {A = Left} (record {
-      report = result;
-      lent = record {
-        host = session.new;
-        pool = pool.new;
-        scratch = scratch.new;
-        line = [];
-        result = [];
-      };
-    })
-        (drop_on (record { host = session.old; pool = pool.old; scratch = scratch.old; line = []; result = [] }) size index) }
+    ensures { left_of result session.new pool.new scratch.new [] []
+        ≡ drop_on (lent_of session.old pool.old scratch.old [] []) size index }
 {
     let at = Place { size, index };
     host_later::drop(session, pool, at, scratch)

@@ -9,7 +9,7 @@ ghost use Rattle.protocol.specs.Message.{message_with};
 ghost use Rattle.protocol.specs.Line.{most_sent};
 ghost use Rattle.drawing.specs.Sift.{kept_words};
 ghost use Rattle.entry.specs.Bytes.{words_of};
-ghost use Rattle.entry.specs.Entry.{Lent, Left, first_tests, takes_message, first_on};
+ghost use Rattle.entry.specs.Entry.{lent_of, left_of, first_tests, takes_message, first_on};
 ghost use Rattle.local.specs.Seen.{seen_words, coin_count, lent_room, share_room};
 ghost use Rattle.local.specs.Entered.{entered_by, seen_first};
 
@@ -21,7 +21,6 @@ use host_parts::seen::{get_input, sift_coins};
 use host_parts::taken::{opening_of, residues_in, take_line};
 use judging::message::no_head;
 use judging::worst;
-use line::Loaded;
 use protocol::{Head, Refusal, Terms};
 use tape::Place;
 
@@ -36,10 +35,7 @@ pub struct Opening {
 fn takes_message(end: u32) -> bool
     ensures { result ≡ takes_message end }
 {
-    if end == LEFT {
-        return true;
-    }
-    end == BLINDER
+    end == LEFT || end == BLINDER
 }
 
 // `words` and `coins`: words for the input and for raw words.
@@ -58,35 +54,14 @@ fn first_on(
     coins: &mut [u32],
 ) -> Report
     requires { (length words.old ≡ 2048) × (length coins.old ≡ 1024) }
-    ensures { ◌≡◌ {A = Left} (record {
-      report = result;
-      lent = record {
-        host = session.new;
-        pool = pool.new;
-        scratch = scratch.new;
-        line = line.new;
-        result = res.new;
-      };
-    })
-        (entered_by (record {
-          host = session.old;
-          pool = pool.old;
-          scratch = scratch.old;
-          line = line.old;
-          result = res.old;
-        }) (f.at.index * f.at.size)
-        (judge (first_tests (record {
-          host = session.old;
-          pool = pool.old;
-          scratch = scratch.old;
-          line = line.old;
-          result = res.old;
-        }) (length input.now) (length raw.now)) tt)
+    ensures { left_of result session.new pool.new scratch.new line.new res.new
+        ≡ entered_by (lent_of session.old pool.old scratch.old line.old res.old) (f.at.index * f.at.size)
+        (judge (first_tests (lent_of session.old pool.old scratch.old line.old res.old) (length input.now) (length raw.now)) tt)
         (seen_first f.end f.terms (lent_room f.end) most_sent (share_room f.end)
         (words_read f.terms.q (coin_count f.end f.terms) (words_of raw.now))
         (slot_at (words_of pool.old) f.at.size f.at.index) (words_of scratch.old) (seen_words (words_of input.now))
         (take (coin_count f.end f.terms) (kept_words f.terms.q (words_of raw.now)))
-        (message_with head residues.now) (length res.old / 4))) }
+        (message_with head residues.now) (length res.old / 4)) }
 {
     let lengths = check_session(session.len(), pool.len(), scratch.len(), res.len());
     let free = check_first(due_in(session), input.len(), raw.len());
@@ -132,23 +107,8 @@ fn first_with(
     coins: &mut [u32],
 ) -> Report
     requires { (length numbers.old ≡ 2055) × (length words.old ≡ 2048) × (length coins.old ≡ 1024) }
-    ensures { ◌≡◌ {A = Left} (record {
-      report = result;
-      lent = record {
-        host = session.new;
-        pool = pool.new;
-        scratch = scratch.new;
-        line = line.new;
-        result = res.new;
-      };
-    })
-        (first_on (record {
-          host = session.old;
-          pool = pool.old;
-          scratch = scratch.old;
-          line = line.old;
-          result = res.old;
-        }) f.at.size f.at.index f.end f.terms input.now raw.now message.now) }
+    ensures { left_of result session.new pool.new scratch.new line.new res.new
+        ≡ first_on (lent_of session.old pool.old scratch.old line.old res.old) f.at.size f.at.index f.end f.terms input.now raw.now message.now }
 {
     if !takes_message(f.end) {
         let none = no_head();
@@ -167,11 +127,10 @@ fn first_with(
             coins,
         );
     }
-    let loaded = take_line(message, numbers);
-    let Loaded::Message(head, count) = loaded else {
+    let Some(taken) = take_line(message, numbers) else {
         return refusal(Refusal::Form);
     };
-    let opened = opening_of(head, count);
+    let opened = opening_of(taken);
     let residues = residues_in(numbers, opened.count);
     first_on(
         f,
@@ -200,23 +159,8 @@ pub fn first(
     line: &mut [u8],
     res: &mut [u8],
 ) -> Report
-    ensures { ◌≡◌ {A = Left} (record {
-      report = result;
-      lent = record {
-        host = session.new;
-        pool = pool.new;
-        scratch = scratch.new;
-        line = line.new;
-        result = res.new;
-      };
-    })
-        (first_on (record {
-          host = session.old;
-          pool = pool.old;
-          scratch = scratch.old;
-          line = line.old;
-          result = res.old;
-        }) f.at.size f.at.index f.end f.terms input.now raw.now message.now) }
+    ensures { left_of result session.new pool.new scratch.new line.new res.new
+        ≡ first_on (lent_of session.old pool.old scratch.old line.old res.old) f.at.size f.at.index f.end f.terms input.now raw.now message.now }
 {
     let mut numbers = [0u32; 2055];
     let mut words = [0u32; 2048];

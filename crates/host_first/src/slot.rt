@@ -13,13 +13,13 @@ ghost use Rattle.judging.specs.InOrder.{checked};
 ghost use Rattle.judging.specs.Leaves.{leaves, leaving};
 ghost use Rattle.entry.specs.Bytes.{words_of};
 ghost use Rattle.entry.specs.Steps.{first_step};
-ghost use Rattle.entry.specs.Entry.{Lent, Left};
+ghost use Rattle.entry.specs.Entry.{lent_of, left_of};
 ghost use Rattle.local.specs.Seen.{on_done, entering, lent_room, share_room};
 ghost use Rattle.local.specs.Settled.{unopened};
 ghost use Rattle.local.specs.Entered.{Below, entered_by, seen_first};
 
 use entry::Report;
-use host_parts::seen::{Half, end_of, is_system, seen_in, smaller};
+use host_parts::seen::{Half, end_of, is_system, seen_in};
 use host_parts::settle::{Settled, settle};
 use judging::Check;
 use protocol::{Head, Terms};
@@ -88,27 +88,12 @@ fn on_slot(
     requires { (checked q.own ≡ done tt → length session.old ≡ 1120) × (length words.old * 4 ≤ length slot.old)
         × (length lent.old * 4 ≤ length scratch.old) × (length share.old * 4 ≤ length res.old)
         × Below 256 scratch.old × Below 256 res.old }
-    ensures { ◌≡◌ {A = Left} (record {
-      report = result;
-      lent = record {
-        host = session.new;
-        pool = slot.new;
-        scratch = scratch.new;
-        line = line.new;
-        result = res.new;
-      };
-    })
-        (entered_by (record {
-          host = session.old;
-          pool = slot.old;
-          scratch = scratch.old;
-          line = line.old;
-          result = res.old;
-        }) 0 (checked q.own)
+    ensures { left_of result session.new slot.new scratch.new line.new res.new
+        ≡ entered_by (lent_of session.old slot.old scratch.old line.old res.old) 0 (checked q.own)
         (on_done (entering q.read []) (first_step q.end q.terms
         (slot_at (take (length words.old) (words_of slot.old)) (length words.old) 0)
         (take (length lent.old) (words_of scratch.old)) input.now raw.now
-        (message_with q.head residues.now) (length out.old) (length share.old)))) }
+        (message_with q.head residues.now) (length out.old) (length share.old))) }
 {
     let d = run(
         q, residues, input, raw, slot, scratch, res, words, lent, out, share,
@@ -145,26 +130,11 @@ fn on_call(
 ) -> Report
     requires { (checked q.own ≡ done tt → length session.old ≡ 1120) × (length words.old ≡ 3079) × Below 256 pool.old
         × Below 256 scratch.old × Below 256 res.old }
-    ensures { ◌≡◌ {A = Left} (record {
-      report = result;
-      lent = record {
-        host = session.new;
-        pool = pool.new;
-        scratch = scratch.new;
-        line = line.new;
-        result = res.new;
-      };
-    })
-        (entered_by (record {
-          host = session.old;
-          pool = pool.old;
-          scratch = scratch.old;
-          line = line.old;
-          result = res.old;
-        }) (at.index * at.size) (checked q.own)
+    ensures { left_of result session.new pool.new scratch.new line.new res.new
+        ≡ entered_by (lent_of session.old pool.old scratch.old line.old res.old) (at.index * at.size) (checked q.own)
         (seen_first q.end q.terms (length lent.old) (length out.old) (length share.old) q.read
         (slot_at (words_of pool.old) at.size at.index) (words_of scratch.old)
-        input.now raw.now (message_with q.head residues.now) (length res.old / 4))) }
+        input.now raw.now (message_with q.head residues.now) (length res.old / 4)) }
 {
     let terms = q.terms;
     let half = Half {
@@ -174,8 +144,8 @@ fn on_call(
     let seen = seen_in(half, pool.len(), at);
     let from = seen.from;
     let n = seen.words;
-    let k = smaller(scratch.len() / 4, lent.len());
-    let j = smaller(res.len() / 4, share.len());
+    let k = (scratch.len() / 4).min(lent.len());
+    let j = (res.len() / 4).min(share.len());
     on_slot(
         q,
         residues,
@@ -207,26 +177,11 @@ pub fn with_room(
     res: &mut [u8],
 ) -> Report
     requires { checked q.own ≡ done tt → length session.old ≡ 1120 }
-    ensures { ◌≡◌ {A = Left} (record {
-      report = result;
-      lent = record {
-        host = session.new;
-        pool = pool.new;
-        scratch = scratch.new;
-        line = line.new;
-        result = res.new;
-      };
-    })
-        (entered_by (record {
-          host = session.old;
-          pool = pool.old;
-          scratch = scratch.old;
-          line = line.old;
-          result = res.old;
-        }) (at.index * at.size) (checked q.own)
+    ensures { left_of result session.new pool.new scratch.new line.new res.new
+        ≡ entered_by (lent_of session.old pool.old scratch.old line.old res.old) (at.index * at.size) (checked q.own)
         (seen_first q.end q.terms (lent_room q.end) most_sent (share_room q.end) q.read
         (slot_at (words_of pool.old) at.size at.index) (words_of scratch.old)
-        input.now raw.now (message_with q.head residues.now) (length res.old / 4))) }
+        input.now raw.now (message_with q.head residues.now) (length res.old / 4)) }
 {
     bytes_known(pool);
     bytes_known(scratch);

@@ -1,14 +1,13 @@
 // The later calls of a session on bytes (RULES 11.2): each is the definition of its entry.
 //   next, drop
 ghost use Rattle.std.specs.Prelude.{◌≡◌, [], length};
-ghost use Rattle.entry.specs.Entry.{Lent, Left, next_on, drop_on};
+ghost use Rattle.entry.specs.Entry.{lent_of, left_of, next_on, drop_on};
 
 use crate::slot::{Asked, with_room};
 use entry::Report;
 use host_parts::own::{check_session, refusal};
 use host_parts::taken::{residues_in, seen_count, take_line};
 use judging::message::no_head;
-use line::Loaded;
 use protocol::Refusal;
 use tape::Place;
 
@@ -26,35 +25,19 @@ fn next_with(
     numbers: &mut [u32],
 ) -> Report
     requires { length numbers.old ≡ 3079 }
-    ensures { ◌≡◌ {A = Left} (record {
-      report = result;
-      lent = record {
-        host = session.new;
-        pool = pool.new;
-        scratch = scratch.new;
-        line = line.new;
-        result = res.new;
-      };
-    })
-        (next_on (record {
-          host = session.old;
-          pool = pool.old;
-          scratch = scratch.old;
-          line = line.old;
-          result = res.old;
-        }) at.size at.index message.now) }
+    ensures { left_of result session.new pool.new scratch.new line.new res.new
+        ≡ next_on (lent_of session.old pool.old scratch.old line.old res.old) at.size at.index message.now }
 {
     let own = check_session(session.len(), pool.len(), scratch.len(), res.len());
-    let loaded = take_line(message, numbers);
-    let Loaded::Message(head, count) = loaded else {
+    let Some(taken) = take_line(message, numbers) else {
         return refusal(Refusal::Form);
     };
     let q = Asked {
         drops: false,
         own,
-        head,
+        head: taken.head,
     };
-    let seen = seen_count(count);
+    let seen = seen_count(taken.count);
     let residues = residues_in(numbers, seen);
     with_room(q, at, residues, session, pool, scratch, line, res)
 }
@@ -68,23 +51,8 @@ pub fn next(
     line: &mut [u8],
     res: &mut [u8],
 ) -> Report
-    ensures { ◌≡◌ {A = Left} (record {
-      report = result;
-      lent = record {
-        host = session.new;
-        pool = pool.new;
-        scratch = scratch.new;
-        line = line.new;
-        result = res.new;
-      };
-    })
-        (next_on (record {
-          host = session.old;
-          pool = pool.old;
-          scratch = scratch.old;
-          line = line.old;
-          result = res.old;
-        }) at.size at.index message.now) }
+    ensures { left_of result session.new pool.new scratch.new line.new res.new
+        ≡ next_on (lent_of session.old pool.old scratch.old line.old res.old) at.size at.index message.now }
 {
     let mut numbers = [0u32; 3079];
     next_with(session, pool, at, scratch, message, line, res, &mut numbers)
@@ -102,23 +70,8 @@ fn drop_with(
     line: &mut [u8],
     res: &mut [u8],
 ) -> Report
-    ensures { ◌≡◌ {A = Left} (record {
-      report = result;
-      lent = record {
-        host = session.new;
-        pool = pool.new;
-        scratch = scratch.new;
-        line = line.new;
-        result = res.new;
-      };
-    })
-        (drop_on (record {
-          host = session.old;
-          pool = pool.old;
-          scratch = scratch.old;
-          line = line.old;
-          result = res.old;
-        }) at.size at.index) }
+    ensures { left_of result session.new pool.new scratch.new line.new res.new
+        ≡ drop_on (lent_of session.old pool.old scratch.old line.old res.old) at.size at.index }
 {
     let own = check_session(session.len(), pool.len(), scratch.len(), res.len());
     let head = no_head();
@@ -131,17 +84,8 @@ fn drop_with(
 }
 
 pub fn drop(session: &mut [u8], pool: &mut [u8], at: Place, scratch: &mut [u8]) -> Report
-    ensures { ◌≡◌ {A = Left} (record {
-      report = result;
-      lent = record {
-        host = session.new;
-        pool = pool.new;
-        scratch = scratch.new;
-        line = [];
-        result = [];
-      };
-    })
-        (drop_on (record { host = session.old; pool = pool.old; scratch = scratch.old; line = []; result = [] }) at.size at.index) }
+    ensures { left_of result session.new pool.new scratch.new [] []
+        ≡ drop_on (lent_of session.old pool.old scratch.old [] []) at.size at.index }
 {
     let words = [0u32; 0];
     let mut line = [0u8; 0];

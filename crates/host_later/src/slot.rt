@@ -9,14 +9,14 @@ ghost use Rattle.protocol.specs.Tape.{slot_at};
 ghost use Rattle.protocol.specs.Message.{message_with};
 ghost use Rattle.judging.specs.InOrder.{checked};
 ghost use Rattle.entry.specs.Bytes.{words_of};
-ghost use Rattle.entry.specs.Entry.{Lent, Left, session_in};
+ghost use Rattle.entry.specs.Entry.{lent_of, left_of, session_in};
 ghost use Rattle.local.specs.Seen.{on_done, entering, most_reply};
 ghost use Rattle.local.specs.Entered.{Below, entered_by, later_step, seen_later};
 
 use crate::step::run;
 use entry::{Report, SOLVER};
 use host_parts::record::session_in;
-use host_parts::seen::{half_in, seen_in, smaller};
+use host_parts::seen::{half_in, seen_in};
 use host_parts::settle::{Settled, settle};
 use judging::Check;
 use protocol::Head;
@@ -47,26 +47,11 @@ fn on_slot(
     requires { (checked q.own ≡ done tt → length session.old ≡ 1120) × (length words.old * 4 ≤ length slot.old)
         × (length lent.old * 4 ≤ length scratch.old) × (length share.old * 4 ≤ length res.old)
         × Below 256 scratch.old × Below 256 res.old }
-    ensures { ◌≡◌ {A = Left} (record {
-      report = result;
-      lent = record {
-        host = session.new;
-        pool = slot.new;
-        scratch = scratch.new;
-        line = line.new;
-        result = res.new;
-      };
-    })
-        (entered_by (record {
-          host = session.old;
-          pool = slot.old;
-          scratch = scratch.old;
-          line = line.old;
-          result = res.old;
-        }) 0 (checked q.own)
+    ensures { left_of result session.new slot.new scratch.new line.new res.new
+        ≡ entered_by (lent_of session.old slot.old scratch.old line.old res.old) 0 (checked q.own)
         (on_done (entering 0 []) (later_step q.drops (session_in session.old)
         (slot_at (take (length words.old) (words_of slot.old)) (length words.old) 0)
-        (take (length lent.old) (words_of scratch.old)) (message_with q.head residues.now) (length out.old) (length share.old)))) }
+        (take (length lent.old) (words_of scratch.old)) (message_with q.head residues.now) (length out.old) (length share.old))) }
 {
     let x = session_in(session);
     let sums = x.end == SOLVER;
@@ -99,33 +84,18 @@ fn on_call(
 ) -> Report
     requires { (checked q.own ≡ done tt → length session.old ≡ 1120) × (length words.old ≡ 3079) × (length lent.old ≡ 528)
         × (length share.old ≡ 1024) × Below 256 pool.old × Below 256 scratch.old × Below 256 res.old }
-    ensures { ◌≡◌ {A = Left} (record {
-      report = result;
-      lent = record {
-        host = session.new;
-        pool = pool.new;
-        scratch = scratch.new;
-        line = line.new;
-        result = res.new;
-      };
-    })
-        (entered_by (record {
-          host = session.old;
-          pool = pool.old;
-          scratch = scratch.old;
-          line = line.old;
-          result = res.old;
-        }) (at.index * at.size) (checked q.own)
+    ensures { left_of result session.new pool.new scratch.new line.new res.new
+        ≡ entered_by (lent_of session.old pool.old scratch.old line.old res.old) (at.index * at.size) (checked q.own)
         (seen_later q.drops (session_in session.old) (length out.old)
         (slot_at (words_of pool.old) at.size at.index) (words_of scratch.old)
-        (message_with q.head residues.now) (length res.old / 4))) }
+        (message_with q.head residues.now) (length res.old / 4)) }
 {
     let half = half_in(session);
     let seen = seen_in(half, pool.len(), at);
     let from = seen.from;
     let n = seen.words;
-    let k = smaller(scratch.len() / 4, lent.len());
-    let j = smaller(res.len() / 4, share.len());
+    let k = (scratch.len() / 4).min(lent.len());
+    let j = (res.len() / 4).min(share.len());
     on_slot(
         q,
         residues,
@@ -152,26 +122,11 @@ pub fn with_room(
     res: &mut [u8],
 ) -> Report
     requires { checked q.own ≡ done tt → length session.old ≡ 1120 }
-    ensures { ◌≡◌ {A = Left} (record {
-      report = result;
-      lent = record {
-        host = session.new;
-        pool = pool.new;
-        scratch = scratch.new;
-        line = line.new;
-        result = res.new;
-      };
-    })
-        (entered_by (record {
-          host = session.old;
-          pool = pool.old;
-          scratch = scratch.old;
-          line = line.old;
-          result = res.old;
-        }) (at.index * at.size) (checked q.own)
+    ensures { left_of result session.new pool.new scratch.new line.new res.new
+        ≡ entered_by (lent_of session.old pool.old scratch.old line.old res.old) (at.index * at.size) (checked q.own)
         (seen_later q.drops (session_in session.old) most_reply
         (slot_at (words_of pool.old) at.size at.index) (words_of scratch.old)
-        (message_with q.head residues.now) (length res.old / 4))) }
+        (message_with q.head residues.now) (length res.old / 4)) }
 {
     bytes_known(pool);
     bytes_known(scratch);

@@ -10,7 +10,7 @@ ghost use Rattle.local.specs.Stored.{lower_of};
 
 use crate::record;
 use entry::Report;
-use judging::{Check, need, number_of, worst};
+use judging::{Check, need, worst};
 use protocol::{Answer, Refusal};
 
 // Whole words.
@@ -51,7 +51,7 @@ pub fn refusal(r: Refusal) -> Report
     ensures { result ≡ refusal_report r }
 {
     Report {
-        number: number_of(r),
+        number: u32::from(r),
         read: 0,
         bytes: 0,
     }
@@ -61,14 +61,11 @@ pub fn refusal(r: Refusal) -> Report
 pub fn refused(own: Check, answer: Answer) -> Report
     ensures { result ≡ refusal_report (lower_of own answer) }
 {
-    let Check::Refused(r) = own else {
+    let Err(r) = own else {
         return refusal(Refusal::Form);
     };
-    let Answer::Refused(step) = answer else {
+    let Err(step) = answer else {
         return refusal(r);
     };
-    let Check::Refused(lower) = worst(own, Check::Refused(step)) else {
-        return refusal(r);
-    };
-    refusal(lower)
+    if step < r { refusal(step) } else { refusal(r) }
 }

@@ -1,5 +1,4 @@
 // What a call looks at: how many words of its slot, and which words of its input and its raw words.
-//   smaller           the smaller of two numbers
 //   is_system         whether an end is one of a system
 //   end_of, half_in   whose half a call looks at
 //   seen_in           the words of the slot, and where they begin
@@ -24,27 +23,18 @@ use drawing::{Sifted, sift};
 use entry::{BLINDER, LEFT, RIGHT, SOLVER};
 use judging::message::no_head;
 use protocol::Terms;
-use sides::Matrix;
+use judging::numbers::sides_fit;
 use tape::half::half_size;
 use tape::{End, Place, header, is_slot};
 use vectors::times;
 use words::{get_words, word_at};
-
-pub fn smaller(a: usize, b: usize) -> usize
-    ensures { result ≡ least a b }
-{
-    if a <= b { a } else { b }
-}
 
 // ---- the half
 
 pub fn is_system(end: u32) -> bool
     ensures { result ≡ is_system end }
 {
-    if end == BLINDER {
-        return true;
-    }
-    end == SOLVER
+    end == BLINDER || end == SOLVER
 }
 
 #[derive(Clone, Copy)]
@@ -56,16 +46,12 @@ pub struct Half {
 pub fn end_of(end: u32) -> End
     ensures { role result ≡ end_role end }
 {
-    if end == RIGHT {
-        return End::Right;
+    match end {
+        RIGHT => End::Right,
+        BLINDER => End::Blinder,
+        SOLVER => End::Solver,
+        _ => End::Left,
     }
-    if end == BLINDER {
-        return End::Blinder;
-    }
-    if end == SOLVER {
-        return End::Solver;
-    }
-    End::Left
 }
 
 // Of another end than these three a record holds no session, which is right's.
@@ -73,29 +59,31 @@ fn half_by(end: u32, terms: Terms) -> Half
     ensures { (role result.end ≡ cond (eqb end 4) solver (cond (eqb end 3) blinder right))
         × (result.terms ≡ cond (eqb end 4) terms (cond (eqb end 3) terms (cond (eqb end 2) terms no_terms))) }
 {
-    if end == SOLVER {
-        return Half {
+    match end {
+        SOLVER => Half {
             end: End::Solver,
             terms,
-        };
-    }
-    if end == BLINDER {
-        return Half {
+        },
+        BLINDER => Half {
             end: End::Blinder,
             terms,
-        };
-    }
-    if end == RIGHT {
-        return Half {
+        },
+        RIGHT => Half {
             end: End::Right,
             terms,
-        };
+        },
+        _ => no_half(),
     }
+}
+
+// Of a record that holds no session.
+fn no_half() -> Half
+    ensures { (role result.end ≡ right) × (result.terms ≡ no_terms) }
+{
     let none = no_head();
-    let terms = none.terms;
     Half {
         end: End::Right,
-        terms,
+        terms: none.terms,
     }
 }
 
@@ -104,36 +92,20 @@ pub fn half_in(session: &[u8]) -> Half
     ensures { (role result.end ≡ session_role (session_in session.now)) × (result.terms ≡ session_terms (session_in session.now)) }
 {
     if session.len() != record::SIZE {
-        let none = no_head();
-        let terms = none.terms;
-        return Half {
-            end: End::Right,
-            terms,
-        };
+        return no_half();
     }
-    let end = word_at(session, 0);
-    half_by(end, terms_in(session))
-}
-
-fn sides_fit(end: End, t: Terms) -> bool
-    ensures { result ≡ sides_fit (sort end) t.m t.k t.p }
-{
-    match end {
-        End::Left => Matrix::sides_fit(t.m, t.k, t.p),
-        End::Right => Matrix::sides_fit(t.m, t.k, t.p),
-        End::Blinder => Matrix::system_sides_fit(t.m, t.k, t.p),
-        End::Solver => Matrix::system_sides_fit(t.m, t.k, t.p),
-    }
+    half_by(word_at(session, 0), terms_in(session))
 }
 
 // A header's words where the sides don't fit.
 fn half_words(end: End, t: Terms) -> usize
     ensures { (result ≡ half_size (role end) t) × (result ≤ 3079) }
 {
-    if sides_fit(end, t) {
-        return half_size(end, t);
+    if sides_fit(end, t.m, t.k, t.p) {
+        half_size(end, t)
+    } else {
+        header::SIZE
     }
-    header::SIZE
 }
 
 // Where the words that are looked at begin, in bytes, and how many they are.
@@ -153,7 +125,7 @@ pub fn seen_in(h: Half, pool: usize, at: Place) -> Seen
         return Seen { from: 0, words: 0 };
     }
     let end = h.end;
-    let words = smaller(at.size, half_words(end, h.terms));
+    let words = at.size.min(half_words(end, h.terms));
     Seen {
         from: at.index * at.size * 4,
         words,
@@ -165,16 +137,14 @@ pub fn seen_in(h: Half, pool: usize, at: Place) -> Seen
 fn coin_count(end: u32, t: Terms) -> usize
     ensures { (result ≡ coin_count end t) × (result ≤ 1024) }
 {
-    if !sides_fit(end_of(end), t) {
+    if !sides_fit(end_of(end), t.m, t.k, t.p) {
         return 0;
     }
-    if end == LEFT {
-        return times(t.m, t.p);
+    match end {
+        LEFT => times(t.m, t.p),
+        BLINDER => scratch_size(t),
+        _ => 0,
     }
-    if end == BLINDER {
-        return scratch_size(t);
-    }
-    0
 }
 
 // All words are thrown away modulo 0, which is no modulus.

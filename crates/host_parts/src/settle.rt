@@ -3,7 +3,7 @@
 ghost use Rattle.std.specs.Prelude.{◌≡◌, ◌*◌, ◌≤◌, length};
 ghost use Rattle.protocol.specs.Judge.{done};
 ghost use Rattle.judging.specs.InOrder.{checked};
-ghost use Rattle.entry.specs.Entry.{Lent, Left};
+ghost use Rattle.entry.specs.Entry.{lent_of, left_of};
 ghost use Rattle.local.specs.Entered.{settled};
 
 use crate::own::refused;
@@ -38,23 +38,13 @@ pub fn settle(
 ) -> Report
     requires { (checked q.own ≡ done tt → length session.old ≡ 1120) × (length words.now * 4 ≤ length slot.old)
         × (length lent.now * 4 ≤ length scratch.old) × (length share.now * 4 ≤ length res.old) }
-    ensures { ◌≡◌ {A = Left} (record {
-      report = result;
-      lent = record {
-        host = session.new;
-        pool = slot.new;
-        scratch = scratch.new;
-        line = line.new;
-        result = res.new;
-      };
-    })
-        (settled q.own q.sums q.read answer x h words.now lent.now out.now share.now
-        (record { host = session.old; pool = slot.old; scratch = scratch.old; line = line.old; result = res.old })) }
+    ensures { left_of result session.new slot.new scratch.new line.new res.new
+        ≡ settled q.own q.sums q.read answer x h words.now lent.now out.now share.now
+        (lent_of session.old slot.old scratch.old line.old res.old) }
 {
-    let own = q.own;
-    let Check::Passed = own else {
-        return refused(own, answer);
-    };
+    if q.own.is_err() {
+        return refused(q.own, answer);
+    }
     store(
         answer, x, h, q.sums, q.read, words, lent, out, share, session, slot, scratch, line, res,
     )

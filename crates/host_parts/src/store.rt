@@ -7,17 +7,15 @@ ghost use Rattle.algebra.specs.Words.{over};
 ghost use Rattle.algebra.specs.Count.{both};
 ghost use Rattle.entry.specs.Bytes.{bytes_of};
 ghost use Rattle.entry.specs.Record.{record_words};
-ghost use Rattle.entry.specs.Entry.{Lent, Left};
+ghost use Rattle.entry.specs.Entry.{lent_of, left_of};
 ghost use Rattle.local.specs.Settled.{is_singular};
 ghost use Rattle.local.specs.Seen.{sent_size};
 ghost use Rattle.local.specs.Stored.{sent_line, stored, stored_sent};
 
 use crate::own::refusal;
 use crate::record::put_session;
-use crate::seen::smaller;
 use entry::{Report, Session};
 use judging::message::message_size;
-use judging::number_of;
 use line::{message_length, put_message};
 use protocol::{Answer, Head, Refusal};
 use sides::Matrix;
@@ -44,7 +42,7 @@ fn line_size(h: Head, sent: &[u32]) -> usize
     if h.kind == 0 {
         return 0;
     }
-    let n = smaller(sent_count(h), sent.len());
+    let n = sent_count(h).min(sent.len());
     message_length(h, &sent[..n])
 }
 
@@ -55,7 +53,7 @@ fn put_line(h: Head, sent: &[u32], line: &mut [u8])
     if h.kind == 0 {
         return;
     }
-    let n = smaller(sent_count(h), sent.len());
+    let n = sent_count(h).min(sent.len());
     put_message(h, &sent[..n], line);
 }
 
@@ -101,18 +99,9 @@ fn store_sent(
 ) -> Report
     requires { (length session.old ≡ 1120) × (length words.now * 4 ≤ length slot.old)
         × (length lent.now * 4 ≤ length scratch.old) × (length share.now * 4 ≤ length res.old) }
-    ensures { ◌≡◌ {A = Left} (record {
-      report = result;
-      lent = record {
-        host = session.new;
-        pool = slot.new;
-        scratch = scratch.new;
-        line = line.new;
-        result = res.new;
-      };
-    })
-        (stored_sent read x h words.now lent.now sent.now share.now
-        (record { host = session.old; pool = slot.old; scratch = scratch.old; line = line.old; result = res.old })) }
+    ensures { left_of result session.new slot.new scratch.new line.new res.new
+        ≡ stored_sent read x h words.now lent.now sent.now share.now
+        (lent_of session.old slot.old scratch.old line.old res.old) }
 {
     let bytes = line_size(h, sent);
     if line.len() < bytes {
@@ -131,10 +120,7 @@ fn store_sent(
 fn is_sum(sums: bool, r: Refusal) -> bool
     ensures { result ≡ both sums (is_singular r) }
 {
-    if !sums {
-        return false;
-    }
-    number_of(r) == 10
+    sums && r == Refusal::Singular
 }
 
 pub fn store(
@@ -155,20 +141,11 @@ pub fn store(
 ) -> Report
     requires { (length session.old ≡ 1120) × (length words.now * 4 ≤ length slot.old)
         × (length lent.now * 4 ≤ length scratch.old) × (length share.now * 4 ≤ length res.old) }
-    ensures { ◌≡◌ {A = Left} (record {
-      report = result;
-      lent = record {
-        host = session.new;
-        pool = slot.new;
-        scratch = scratch.new;
-        line = line.new;
-        result = res.new;
-      };
-    })
-        (stored sums read answer x h words.now lent.now sent.now share.now
-        (record { host = session.old; pool = slot.old; scratch = scratch.old; line = line.old; result = res.old })) }
+    ensures { left_of result session.new slot.new scratch.new line.new res.new
+        ≡ stored sums read answer x h words.now lent.now sent.now share.now
+        (lent_of session.old slot.old scratch.old line.old res.old) }
 {
-    let Answer::Refused(r) = answer else {
+    let Err(r) = answer else {
         return store_sent(
             h, x, read, words, lent, sent, share, session, slot, scratch, line, res,
         );

@@ -11,7 +11,7 @@ ghost use Rattle.judging.specs.Received.{received_numbers, closed_tests};
 use crate::Check;
 use crate::numbers::{check_head, check_kind, check_moduli, check_sizes};
 use crate::order::{need, worst};
-use drawing::{Reading, read};
+use drawing::read;
 use protocol::{Head, Refusal, Terms};
 use tape::{End, Place, is_slot};
 
@@ -42,7 +42,7 @@ pub fn check_coins(q: u32, n: usize, words: &[u32]) -> Check
     ensures { checked result ≡ judged (draw_tests q n words.now) }
 {
     match read(q, n, words) {
-        Reading::Enough(_) => Ok(()),
-        Reading::Dry => Err(Refusal::Dry),
+        Some(_) => Ok(()),
+        None => Err(Refusal::Dry),
     }
 }

@@ -4,12 +4,13 @@
 --   parse-wrong, read-wrong              a line that is no message's
 --   form-held, form-short, read-phases   the tests of a line that was loaded
 --   parse-room, read-room, read-few      a message that passed has room, and one that is read at most 3,072 residues
+--   check-refused, check-passed          a check by its result
 --   parse-judged, read-judged, refuses, takes   what the entries answer and leave
 -- Assumes nothing.
 use mathlib.Core.Path.{◌≡◌, refl, sym, ap, ap₂, subst, ◌∙◌}
 use mathlib.Core.Bool.{Bool, true, false}
 use mathlib.Core.List.{List, [], ◌∷◌, ◌++◌}
-use mathlib.Core.Option.{Option, some, none}
+use mathlib.Core.Option.{Option as Maybe, some, none}
 use Prim.Native.Nat.{ℕ, ◌≤◌, ◌<◌}
 use native.Mathlib.Omega.{arith}
 use lib.Dec.{leb, ltb}
@@ -27,16 +28,12 @@ use Rattle.protocol.specs.Line.{numbers_of, message_from, parsed_from, read_with
 use Rattle.judging.specs.InOrder.{checked, in_order, only, sorted_by, sorted, verdict, judged, after}
 use Rattle.judging.specs.Lowest.{lower}
 use Rattle.judging.specs.Groups.{kind_tests, number_tests, head_tests, count_tests, message_numbers}
-use Rattle.judging.specs.declared.Check.{Check}
-use Rattle.judging.specs.declared.Check.TheVariants as check
 use Rattle.judging.proofs.InOrder.{judge-sorted, refused-by, accepted-by}
 use Rattle.judging.proofs.Join.{judged-true, judged-join}
 use Rattle.judging.proofs.Steps.{in_two}
-use Rattle.line.specs.declared.Received.{Received}
-use Rattle.line.specs.declared.Received.TheVariants as received
-use Rattle.line.specs.declared.Loaded.{Loaded}
-use Rattle.line.specs.declared.Loaded.TheVariants as loaded
-use Rattle.line.specs.Entries.{no_arrival, received_reply, arrived_of, residues_after, received_by}
+use Rattle.std.specs.Prelude.{Option, Some, None, Ok, Err}
+use Rattle.line.specs.declared.Arrived.{Arrived}
+use Rattle.line.specs.Entries.{no_arrival, received_reply, arrived_of, residues_after}
 use Rattle.line.specs.Reading.{Holds, NoMessage, Loads, rest_tests}
 use Rattle.line.proofs.Fits.{message-few, has_room}
 
@@ -48,17 +45,18 @@ message-phases h rs size room = in_two _ (message_numbers h (length rs)) (rest_t
 
 -- ---- what loading told
 
-pub holds : (s words : List ℕ) {r : Loaded} {h : Head} {n : ℕ} → Loads s words r → r ≡ loaded.Message h n → Holds s h n words
-holds s words t e = subst (Loads s words) e t
+module _ (s words : List ℕ) {r : Option Arrived} (t : Loads s words r) where
+  pub holds : {a : Arrived} → r ≡ Some a → Holds s a.head a.count words
+  holds e = subst (Loads s words) e t
 
-pub no-message : (s words : List ℕ) {r : Loaded} → Loads s words r → r ≡ loaded.Wrong → NoMessage s
-no-message s words t e = subst (Loads s words) e t
+  pub no-message : r ≡ None → NoMessage s
+  no-message e = subst (Loads s words) e t
 
 pub parse-wrong : (room : ℕ) (s : List ℕ) → NoMessage s → parse_into room s ≡ refused Form
 unfolding parse_into judge judge_by clear both
 parse-wrong room s w = go (numbers_of s) refl
   where
-    go : (o : Option (List ℕ)) → numbers_of s ≡ o → parsed_from room o ≡ refused Form
+    go : (o : Maybe (List ℕ)) → numbers_of s ≡ o → parsed_from room o ≡ refused Form
     go none e = refl
     go (some xs) e = rw (lt-leb 7 (length xs) (w xs e))
 
@@ -66,7 +64,7 @@ pub read-wrong : (room : ℕ) (s : List ℕ) → NoMessage s → read_into room 
 unfolding read_into judge judge_by clear both
 read-wrong room s w = go (numbers_of s) refl
   where
-    go : (o : Option (List ℕ)) → numbers_of s ≡ o → read_with room o ≡ refused Form
+    go : (o : Maybe (List ℕ)) → numbers_of s ≡ o → read_with room o ≡ refused Form
     go none e = refl
     go (some xs) e = rw (lt-leb 7 (length xs) (w xs e))
 
@@ -144,14 +142,13 @@ module _ {s words : List ℕ} {h : Head} {n : ℕ} (l : Holds s h n words) (room
   unfolding read_into
   read-judged = rw l.reads
 
-module _ {s words : List ℕ} {h : Head} {n : ℕ} (l : Holds s h n words) (ts : List Test) {o : Judged Message} (is : o ≡ judge ts (message_from l.values))
-    (out : List ℕ) (x : Check) (e : checked x ≡ judged ts) where
-  pub refuses : {r : Refusal} {a : Received} → x ≡ check.Refused r → a ≡ received_by x
-      → (received_reply a ≡ reply_of no_arrival (arrived_of o)) × (out ≡ residues_after o out)
-  refuses k f = rw (is ∙ refused-by ts (message_from l.values) (sym e ∙ ap checked k)) (ap received_reply (f ∙ ap received_by k), refl)
+module _ {s words : List ℕ} {a : Arrived} (l : Holds s a.head a.count words) (ts : List Test) {o : Judged Message} (is : o ≡ judge ts (message_from l.values))
+    (out : List ℕ) where
+  pub refuses : {r : Refusal} → refused r ≡ judged ts → (received_reply (Err r) ≡ reply_of no_arrival (arrived_of o)) × (out ≡ residues_after o out)
+  refuses e = rw (is ∙ refused-by ts (message_from l.values) (sym e)) (refl, refl)
 
-  pub takes : {left : List ℕ} → x ≡ check.Passed → left ≡ over (drop 7 l.values) out
-      → (received_reply (received.Message h n) ≡ reply_of no_arrival (arrived_of o)) × (left ≡ residues_after o out)
-  takes k f =
-      rw (is ∙ accepted-by ts (message_from l.values) (sym e ∙ ap checked k))
-      (ap₂ (λ (x : Head) (m : ℕ). received_reply (received.Message x m)) l.head (sym l.count), f)
+  pub takes : {left : List ℕ} → done tt ≡ judged ts → left ≡ over (drop 7 l.values) out
+      → (received_reply (Ok a) ≡ reply_of no_arrival (arrived_of o)) × (left ≡ residues_after o out)
+  takes e f =
+      rw (is ∙ accepted-by ts (message_from l.values) (sym e))
+      (ap₂ (λ (x : Head) (m : ℕ). received_reply (Ok (record { head = x; count = m }))) l.head (sym l.count), f)

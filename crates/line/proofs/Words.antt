@@ -1,24 +1,20 @@
 -- The words that a line was read into.
---   none-loaded, few-loaded, message-loaded      what is known of the line, by the tally of its numbers
+--   message-loaded                               what is known of the line, by the tally of its numbers
 --   all-residues                                 where there is room for all residues, the words have them
---   copy_start, copy-turn, copy_done             the residues copied into a lent slice
 -- Assumes nothing.
-use mathlib.Core.Path.{◌≡◌, refl, sym, ap, ap₂, ◌∙◌}
-use mathlib.Core.List.{List, [], ◌∷◌, ◌++◌}
+use mathlib.Core.Path.{◌≡◌, refl, sym, ap, ◌∙◌}
+use mathlib.Core.List.{List, [], ◌∷◌}
 use Prim.Native.Nat.{ℕ, zero, suc, ◌+◌, ◌-◌, ◌≤◌, ◌<◌}
 use native.Mathlib.Omega.{arith}
 use native.Mathlib.Nat.{zero-add}
-use native.Mathlib.Numerals.{add-one}
 use lib.ListN.{length, get_or, set, take, drop, length-drop, length-set}
-use lib.Seq.{sets, length-sets, ext_get_or, take_all, get_or-set_same, get_or-set_other, get_or-take, get_or-drop, length-take-le, paste, paste-zero, paste-suc, length-paste}
-use Rattle.algebra.specs.Words.{over}
+use lib.Seq.{sets, length-sets, ext_get_or, take_all, get_or-set_same, get_or-set_other, get_or-take, get_or-drop, length-take-le}
 use Rattle.protocol.specs.declared.Head.{Head}
 use Rattle.protocol.specs.Line.{numbers_of, message_from}
-use Rattle.decimal.specs.declared.Tally.{Tally}
-use Rattle.decimal.specs.declared.Tally.TheVariants as tally
+use Rattle.std.specs.Prelude.{Some}
 use Rattle.decimal.specs.Reading.{numbers_before, tally_of}
-use Rattle.decimal.proofs.Entry.{tallied, told}
-use Rattle.line.specs.Reading.{Holds, NoMessage}
+use Rattle.decimal.proofs.Entry.{told, before-all}
+use Rattle.line.specs.Reading.{Holds}
 
 sets-before : (l : List ℕ) (xs : List ℕ) (k j : ℕ) → j < k → get_or (sets l k xs) j 0 ≡ get_or l j 0
 sets-before l [] k j h = refl
@@ -64,58 +60,22 @@ residues-loaded l xs j h m =
     get_or-take j (drop 7 (sets l 0 xs)) i 0 few ∙ get_or-drop 7 (sets l 0 xs) i 0 ∙ at-loaded l xs (7 + i) (omega arith) (omega arith)
     ∙ sym (get_or-take j (drop 7 xs) i 0 few ∙ get_or-drop 7 xs i 0))
 
-wrong-tally : {A : Type 0} {n : ℕ} → tally.Wrong ≡ tally.Numbers n → A
-wrong-tally e = absurd (let z : ◌≡◌ {A = ℕ} 0 1 = cc in omega arith)
-
-same-tally : (m n : ℕ) → tally.Numbers m ≡ tally.Numbers n → m ≡ n
-same-tally m n e = cc
-
-module _ (s : List ℕ) {r : Tally} (e : r ≡ tally_of (numbers_of s)) where
-  pub none-loaded : r ≡ tally.Wrong → NoMessage s
-  none-loaded w xs d = wrong-tally (sym w ∙ (e ∙ ap tally_of d))
-
-  pub few-loaded : {n : ℕ} → r ≡ tally.Numbers n → n < 7 → NoMessage s
-  few-loaded {n} w k xs d = omega (arith, same-tally n (length xs) (sym w ∙ (e ∙ ap tally_of d)))
-
-  pub message-loaded : (before after : List ℕ) {n : ℕ} {h : Head} → 7 ≤ length before → after ≡ sets before 0 (numbers_before s) → r ≡ tally.Numbers n → 7 ≤ n
-      → h ≡ (message_from after).head → Holds s h (n - 7) after
-  message-loaded before after {n} {h} long f w k g =
-      let t = told (numbers_of s) before after r n (tallied 0 s before after r e f) w in
-      let seven : 7 ≤ length t.values = omega (arith, t.count) in
-      let count : length (drop 7 t.values) ≡ n - 7 = length-drop 7 t.values ∙ omega (arith, t.count) in
-      record {
-        values = t.values;
-        reads = t.reads;
-        seven = seven;
-        head = g ∙ (ap (λ (w : List ℕ). (message_from w).head) t.stores ∙ head-loaded before t.values seven (omega (arith, long)));
-        count = count;
-        residues = λ j few room. ap (λ (w : List ℕ). take j (drop 7 w)) t.stores
-            ∙ residues-loaded before t.values j (omega (arith, t.count)) (omega (arith, ap length t.stores, length-sets before 0 t.values));
-      }
+pub message-loaded : (s before after : List ℕ) {n : ℕ} {h : Head} → 7 ≤ length before → after ≡ sets before 0 (numbers_before s) → Some n ≡ tally_of (numbers_of s) → 7 ≤ n
+    → h ≡ (message_from after).head → Holds s h (n - 7) after
+message-loaded s before after {n} {h} long f w k g =
+    let t = told (numbers_of s) n (sym w) in
+    let stores : after ≡ sets before 0 t.values = f ∙ ap (sets before 0) (before-all s t.values t.reads) in
+    let seven : 7 ≤ length t.values = omega (arith, t.count) in
+    let count : length (drop 7 t.values) ≡ n - 7 = length-drop 7 t.values ∙ omega (arith, t.count) in
+    record {
+      values = t.values;
+      reads = t.reads;
+      seven = seven;
+      head = g ∙ (ap (λ (w : List ℕ). (message_from w).head) stores ∙ head-loaded before t.values seven (omega (arith, long)));
+      count = count;
+      residues = λ j few room. ap (λ (w : List ℕ). take j (drop 7 w)) stores
+          ∙ residues-loaded before t.values j (omega (arith, t.count)) (omega (arith, ap length stores, length-sets before 0 t.values));
+    }
 
 pub all-residues : {s words : List ℕ} {h : Head} {n : ℕ} (l : Holds s h n words) → n + 7 ≤ length words → take n (drop 7 words) ≡ drop 7 l.values
 all-residues {n = n} l room = l.residues n (omega arith) room ∙ take_all n (drop 7 l.values) (omega (arith, l.count))
-
--- ---- the residues copied into a lent slice
-
-module _ (words out : List ℕ) where
-  pub copy_start : out ≡ paste out 0 (drop 7 words) 0
-  copy_start = paste-zero out 0 (drop 7 words)
-
-  pub copy-turn : (j : ℕ) → j < length out → j + 7 < length words
-      → set (paste out 0 (drop 7 words) j) j (get_or words (j + 7) 0) ≡ paste out 0 (drop 7 words) (j + 1)
-  copy-turn j h k =
-      let v : get_or words (j + 7) 0 ≡ get_or (drop 7 words) j 0 = ap (λ (i : ℕ). get_or words i 0) (omega arith) ∙ sym (get_or-drop 7 words j 0) in
-      let long : j < length (drop 7 words) = simp length-drop (omega arith) in
-      ap₂ (λ (i x : ℕ). set (paste out 0 (drop 7 words) j) i x) (sym (zero-add j)) v
-      ∙ paste-suc out 0 (drop 7 words) j 0 (omega arith) long
-      ∙ ap (paste out 0 (drop 7 words)) (sym (add-one j))
-
-  pub copy-same : (j : ℕ) → j ≤ length out → j + 7 ≤ length words → length (paste out 0 (drop 7 words) j) ≡ length out
-  copy-same j h k = length-paste out 0 (drop 7 words) j (omega arith) (simp length-drop (omega arith))
-
-  pub copy_done : (j : ℕ) → j + 7 ≤ length words → paste out 0 (drop 7 words) j ≡ over (take j (drop 7 words)) out
-  unfolding over
-  copy_done j h =
-      let long : j ≤ length (drop 7 words) = simp length-drop (omega arith) in
-      ap (λ (i : ℕ). take j (drop 7 words) ++ drop i out) (zero-add j ∙ sym (length-take-le j (drop 7 words) long))

@@ -4,15 +4,14 @@
 --   Loads      what `load` says of a line
 --   rest_tests  what is tested of a message where head and count passed
 -- Assumes nothing.
-use Rattle.std.specs.Prelude.{◌≡◌, List, [], ◌∷◌, ℕ, ◌+◌, ◌≤◌, ◌<◌, leb, length, take, drop}
+use Rattle.std.specs.Prelude.{◌≡◌, List, [], ◌∷◌, ℕ, ◌+◌, ◌≤◌, ◌<◌, leb, length, take, drop, Option, Some, None}
 use Rattle.std.proofs.Math.Option.{some}
 use Rattle.protocol.specs.declared.Head.{Head}
 use Rattle.protocol.specs.declared.Refusal.TheVariants.{Size, Residue}
 use Rattle.protocol.specs.Judge.{Test, needs}
 use Rattle.protocol.specs.Bounds.{all_below}
 use Rattle.protocol.specs.Line.{numbers_of, message_from}
-use Rattle.line.specs.declared.Loaded.{Loaded}
-use Rattle.line.specs.declared.Loaded.TheVariants.{Message, Wrong}
+use Rattle.line.specs.declared.Arrived.{Arrived}
 
 -- the line s is a message's: its head is h, and n residues follow
 pub record Holds (s : List ℕ) (h : Head) (n : ℕ) (words : List ℕ) : Type 0 where
@@ -28,9 +27,9 @@ pub record Holds (s : List ℕ) (h : Head) (n : ℕ) (words : List ℕ) : Type 0
 abbrev pub NoMessage : List ℕ → Type 0
 NoMessage s = (values : List ℕ) → numbers_of s ≡ some values → length values < 7
 
-abbrev pub Loads : (s words : List ℕ) → Loaded → Type 0
-Loads s words (Message h n) = Holds s h n words
-Loads s words Wrong = NoMessage s
+abbrev pub Loads : (s words : List ℕ) → Option Arrived → Type 0
+Loads s words (Some a) = Holds s a.head a.count words
+Loads s words None = NoMessage s
 
 -- `size` words or bytes of `room` are written
 unfoldable pub rest_tests : (q : ℕ) → (residues : List ℕ) → (size room : ℕ) → List Test

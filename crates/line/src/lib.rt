@@ -12,35 +12,20 @@ ghost use Rattle.protocol.specs.Line.{message_from, message_line, parse_into, re
 ghost use Rattle.judging.specs.InOrder.{checked, judged};
 ghost use Rattle.protocol.specs.Message.{message_with};
 ghost use Rattle.decimal.specs.Writing.{head_numbers};
-ghost use Rattle.line.specs.Entries.{received_reply, no_arrival, arrived_of, residues_after, received_by, written_reply, bytes_of, bytes_after, written_by};
+ghost use Rattle.line.specs.Entries.{received_reply, no_arrival, arrived_of, residues_after, written_reply, bytes_of, bytes_after};
 ghost use Rattle.line.specs.Reading.{Holds, Loads, rest_tests};
 
-use decimal::Tally;
 use judging::message::kind_known;
 use judging::numbers::check_message;
 use judging::{Check, need, worst};
 use protocol::{Head, Refusal, SessionId, TapeId, Terms};
 use vectors::all_below;
 
-// What a line is read as: a message's head and how many residues were stored, or why none.
+// A message that came as a line: its head, and how many residues follow it.
 #[derive(Clone, Copy)]
-pub enum Received {
-    Message(Head, usize),
-    Refused(Refusal),
-}
-
-// A line that was loaded: a message's head and how many residues follow; wrong where it has a fault or fewer than seven numbers.
-#[derive(Clone, Copy)]
-pub enum Loaded {
-    Message(Head, usize),
-    Wrong,
-}
-
-// How many bytes a message's line has, or why none was written.
-#[derive(Clone, Copy)]
-pub enum Written {
-    Bytes(usize),
-    Refused(Refusal),
+pub struct Arrived {
+    pub head: Head,
+    pub count: usize,
 }
 
 // ---- reading
@@ -64,19 +49,14 @@ fn head_of(words: &[u32]) -> Head
     }
 }
 
-// The numbers of a line, stored as far as there is room.
-pub fn load(s: &[u8], words: &mut [u32]) -> Loaded
+// The numbers of a line, stored as far as there is room. No message has a line with a fault or with fewer than seven numbers.
+pub fn load(s: &[u8], words: &mut [u32]) -> Option<Arrived>
     requires { 7 ≤ length words.old }
     ensures { Loads s.now words.new result }
 {
-    let loaded = decimal::load(s, words);
-    let Tally::Numbers(n) = loaded else {
-        return Loaded::Wrong;
-    };
-    if n < 7 {
-        return Loaded::Wrong;
-    }
-    Loaded::Message(head_of(words), n - 7)
+    let count = decimal::load(s, words)?.checked_sub(7)?;
+    let head = head_of(words);
+    Some(Arrived { head, count })
 }
 
 // The residues behind the head, stored.
@@ -84,11 +64,7 @@ fn put_residues(words: &[u32], count: usize, out: &mut [u32])
     requires { (count + 7 ≤ length words.now) × (count ≤ length out.old) }
     ensures { out.new ≡ over (take count (drop 7 words.now)) out.old }
 {
-    let mut j: usize = 0;
-    while j < count {
-        out[j] = words[j + 7];
-        j += 1;
-    }
+    out[..count].copy_from_slice(&words[7..count + 7]);
 }
 
 // The residues of a line, stored. The words behind the head have them where there is room for so many; else it is read again.
@@ -101,16 +77,6 @@ fn store(s: &[u8], words: &[u32], count: usize, out: &mut [u32])
         return;
     }
     decimal::load_behind(s, 7, out);
-}
-
-// A refusal, handed on.
-fn refused(c: Check) -> Received
-    ensures { result ≡ received_by c }
-{
-    match c {
-        Check::Passed => Received::Refused(Refusal::Form),
-        Check::Refused(r) => Received::Refused(r),
-    }
 }
 
 // The form of a message, and the room of its residues. Without room it is judged by itself: by 4, or by what is lower.
@@ -139,55 +105,40 @@ fn check_read(h: Head, count: usize, words: &[u32], room: usize) -> Check
     requires { length words.now ≡ 3079 }
     ensures { (s : List ℕ) (l : Holds s h count words.now) → checked result ≡ judged (read_tests room l.values) }
 {
-    let own = check_message(h, count);
-    let Check::Passed = own else {
-        return own;
-    };
+    check_message(h, count)?;
     let t = h.terms;
     let end = count + 7;
     check_rest(t.q, &words[7..end], count, room)
 }
 
 // Reads a message's form. The residues go into `out`.
-pub fn parse(s: &[u8], out: &mut [u32]) -> Received
+pub fn parse(s: &[u8], out: &mut [u32]) -> Result<Arrived, Refusal>
     ensures answered { received_reply result ≡ reply_of no_arrival (arrived_of (parse_into (length out.old) s.now)) }
     ensures contents { out.new ≡ residues_after (parse_into (length out.old) s.now) out.old }
 {
     let mut words = [0u32; 3079];
-    let loaded = load(s, &mut words);
-    let Loaded::Message(head, count) = loaded else {
-        return Received::Refused(Refusal::Form);
-    };
-    let check = check_form(head, count, out.len());
-    let Check::Passed = check else {
-        return refused(check);
-    };
-    store(s, &words, count, out);
-    Received::Message(head, count)
+    let message = load(s, &mut words).ok_or(Refusal::Form)?;
+    check_form(message.head, message.count, out.len())?;
+    store(s, &words, message.count, out);
+    Ok(message)
 }
 
 // Reads a message. The residues go into `out`.
-pub fn read(s: &[u8], out: &mut [u32]) -> Received
+pub fn read(s: &[u8], out: &mut [u32]) -> Result<Arrived, Refusal>
     ensures answered { received_reply result ≡ reply_of no_arrival (arrived_of (read_into (length out.old) s.now)) }
     ensures contents { out.new ≡ residues_after (read_into (length out.old) s.now) out.old }
 {
     let mut words = [0u32; 3079];
-    let loaded = load(s, &mut words);
-    let Loaded::Message(head, count) = loaded else {
-        return Received::Refused(Refusal::Form);
-    };
-    let check = check_read(head, count, &words, out.len());
-    let Check::Passed = check else {
-        return refused(check);
-    };
-    put_residues(&words, count, out);
-    Received::Message(head, count)
+    let message = load(s, &mut words).ok_or(Refusal::Form)?;
+    check_read(message.head, message.count, &words, out.len())?;
+    put_residues(&words, message.count, out);
+    Ok(message)
 }
 
 // ---- writing
 
-// The numbers of a head.
-fn head_words(h: Head) -> [u32; 7]
+// The numbers of a head, as they stand on a line.
+pub fn head_words(h: Head) -> [u32; 7]
     ensures { result ≡ head_numbers h }
 {
     let t = h.terms;
@@ -208,10 +159,7 @@ pub fn message_length(h: Head, residues: &[u32]) -> usize
 fn check_write(h: Head, residues: &[u32], room: usize) -> Check
     ensures { checked result ≡ judged (write_tests room (message_with h residues.now)) }
 {
-    let own = check_message(h, residues.len());
-    let Check::Passed = own else {
-        return own;
-    };
+    check_message(h, residues.len())?;
     let t = h.terms;
     check_rest(t.q, residues, message_length(h, residues), room)
 }
@@ -227,25 +175,11 @@ pub fn put_message(h: Head, residues: &[u32], out: &mut [u8]) -> usize
     decimal::put_numbers(residues, 0, out, at)
 }
 
-// A refusal, handed on.
-fn unwritten(c: Check) -> Written
-    ensures { result ≡ written_by c }
-{
-    match c {
-        Check::Passed => Written::Refused(Refusal::Form),
-        Check::Refused(r) => Written::Refused(r),
-    }
-}
-
 // Writes a message's line into `out`.
-pub fn write(h: Head, residues: &[u32], out: &mut [u8]) -> Written
+pub fn write(h: Head, residues: &[u32], out: &mut [u8]) -> Result<usize, Refusal>
     ensures answered { written_reply result ≡ reply_of 0 (bytes_of (write_into (length out.old) (message_with h residues.now))) }
     ensures contents { out.new ≡ bytes_after (write_into (length out.old) (message_with h residues.now)) out.old }
 {
-    let check = check_write(h, residues, out.len());
-    let Check::Passed = check else {
-        return unwritten(check);
-    };
-    let n = put_message(h, residues, out);
-    Written::Bytes(n)
+    check_write(h, residues, out.len())?;
+    Ok(put_message(h, residues, out))
 }

@@ -1,7 +1,7 @@
 -- A step with the record of its session: what its code leaves with the step's own session, it leaves with the record.
 --   by-judgement                        what holds of each refusal of a judged call, and of its effect, holds of its outcome
 --   Told, told-first, told-later        an answer that tells whether the call was done; of a later step: no test is of 10 (NoTen)
---   singular-number                     10 is the number of a singular sum alone
+--   singular-equal                     a refusal is compared with that of a singular sum
 --   recorded-leaves, carried-leaves     the step's contract, with the record
 --   over-record                         a call's contract with another record where it is not done
 --   NoScratch, NoSent, NoResult         the step writes nothing there
@@ -16,6 +16,7 @@ use Rattle.algebra.specs.Words.{over}
 use Rattle.algebra.proofs.Tests.{and_both}
 use Rattle.protocol.specs.declared.Head.{Head}
 use Rattle.protocol.specs.Answer.{Answer}
+use Rattle.protocol.specs.contracts.RefusalPartialEq.TheImpl.{eq-value}
 use Rattle.protocol.specs.declared.Refusal.{Refusal}
 use Rattle.protocol.specs.declared.Refusal.TheVariants.{Form, Modulus, Composite, Size, Turn, Mark, Stranger, Residue, Dry, Singular}
 use Rattle.protocol.specs.Judge.{refusal_number, Test, clear, Judged, refused, done, judge}
@@ -46,17 +47,17 @@ pub record Told {S : Type 0} (is : Answer → Bool) (o : Outcome S) : Type 0 whe
   pub tells : is (answer_after o) ≡ was_done o
 
 -- as code sees it
-pub singular-number : (r : Refusal) → eqb (refusal_number r) 10 ≡ is_singular r
-singular-number Form = refl
-singular-number Modulus = refl
-singular-number Composite = refl
-singular-number Size = refl
-singular-number Turn = refl
-singular-number Mark = refl
-singular-number Stranger = refl
-singular-number Residue = refl
-singular-number Dry = refl
-singular-number Singular = refl
+pub singular-equal : (r : Refusal) → eq-value.it r Singular ≡ is_singular r
+singular-equal Form = refl
+singular-equal Modulus = refl
+singular-equal Composite = refl
+singular-equal Size = refl
+singular-equal Turn = refl
+singular-equal Mark = refl
+singular-equal Stranger = refl
+singular-equal Residue = refl
+singular-equal Dry = refl
+singular-equal Singular = refl
 
 -- no test of these is of 10, which the effect of a later step may answer
 pub record NoTen (ts : List Test) : Type 0 where

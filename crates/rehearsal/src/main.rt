@@ -2,39 +2,19 @@
 // Five lines that can be read have at most 327,680 bytes, so of a longer input no more is read: one of its lines is too long or not ended.
 #![tactic(auto)]
 
-ghost use Rattle.std.specs.Prelude.{◌+◌, ◌≤◌, length};
+ghost use Rattle.std.specs.Prelude.{◌≤◌, length};
 
 use std::io;
 use std::io::Read;
-
-// Reads once, into the bytes from `at` on. The answer is how many came; none at the end of the input, or where the read fails.
-fn read_some(input: &mut impl Read, bytes: &mut [u8], at: usize) -> usize
-    requires { at ≤ length bytes.old }
-    ensures { at + result ≤ length bytes.new }
-{
-    match input.read(&mut bytes[at..]) {
-        Ok(got) => got,
-        Err(_) => 0,
-    }
-}
 
 // How many lines end in these bytes.
 fn ends(bytes: &[u8]) -> usize
     ensures { result ≤ length bytes.now }
 {
-    let mut n = 0;
-    let mut i = 0;
-    while i < bytes.len() {
-        let b = bytes[i];
-        i += 1;
-        if b == 10 {
-            n += 1;
-        }
-    }
-    n
+    bytes.iter().filter(|b| **b == b'\n').count()
 }
 
-// Reads until the fifth line has ended, the input ends, or the bytes are full. The answer is how many bytes came.
+// Reads until the fifth line has ended, the input ends, or the bytes are full. The answer is how many bytes came; a failed read is the input's end.
 fn read_lines(input: &mut impl Read, bytes: &mut [u8]) -> usize
     requires { length bytes.old ≤ 327680 }
     ensures { result ≤ length bytes.new }
@@ -42,13 +22,12 @@ fn read_lines(input: &mut impl Read, bytes: &mut [u8]) -> usize
     let mut n = 0;
     let mut lines = 0;
     while lines < 5 {
-        let got = read_some(input, bytes, n);
+        let got = input.read(&mut bytes[n..]).unwrap_or(0);
         if got == 0 {
-            return n;
+            break;
         }
-        let end = n + got;
-        lines += ends(&bytes[n..end]);
-        n = end;
+        lines += ends(&bytes[n..n + got]);
+        n += got;
     }
     n
 }

@@ -7,33 +7,44 @@ ghost use Rattle.judging.specs.Leaves.{leaves, leaving};
 ghost use Rattle.entry.specs.Record.{right_of, solver_of, blinder_of, of_right, of_solver, of_blinder};
 ghost use Rattle.entry.specs.Steps.{recorded, drop_step};
 
-use crate::record::{blinder_of, of_blinder, of_right, of_solver, right_of, solver_of};
-use crate::{Done, is_accepted, is_settled, with_record};
-use blinder::{BlinderDropped, blinder_drop};
+use crate::record::Kept;
+use crate::{Done, is_settled, kept, over};
+use blinder::blinder_drop;
 use entry::{BLINDER, SOLVER, Session};
 use judging::message::no_head;
-use product::{RightDropped, right_drop};
-use solver::{SolverDropped, solver_drop};
+use judging::{Dropped, Stepped};
+use product::right_drop;
+use protocol::{BlinderSession, RightSession, SolverSession};
+use solver::solver_drop;
 use tape::Place;
+
+// A drop sends nothing.
+fn silent<S>(d: Dropped<S>) -> Stepped<S>
+    ensures { result ≡ record { answer = d.answer; session = d.session; head = no_message.head } }
+{
+    let answer = d.answer;
+    let session = d.session;
+    Stepped {
+        answer,
+        session,
+        head: no_head(),
+    }
+}
 
 fn right(pool: &mut [u32], at: Place, x: Session) -> Done
     ensures { leaving result.answer result.session result.head pool.new [] [] []
         ≡ leaves x (slot_in pool.old at) [] [] [] (recorded of_right (drop_right (right_of x) (slot_in pool.old at))) }
 {
-    let dropped = right_drop(pool, at, right_of(x));
-    let answer = dropped.answer;
-    let session = dropped.session;
-    with_record(is_accepted(answer), answer, of_right(session), x, no_head())
+    let d = right_drop(pool, at, RightSession::held(x));
+    over(d.answer.is_ok(), kept(silent(d)), x)
 }
 
 fn solver(pool: &mut [u32], at: Place, x: Session) -> Done
     ensures { leaving result.answer result.session result.head pool.new [] [] []
         ≡ leaves x (slot_in pool.old at) [] [] [] (recorded of_solver (drop_solver (solver_of x) (slot_in pool.old at))) }
 {
-    let dropped = solver_drop(pool, at, solver_of(x));
-    let answer = dropped.answer;
-    let session = dropped.session;
-    with_record(is_settled(answer), answer, of_solver(session), x, no_head())
+    let d = solver_drop(pool, at, SolverSession::held(x));
+    over(is_settled(d.answer), kept(silent(d)), x)
 }
 
 fn blinder(pool: &mut [u32], at: Place, scratch: &mut [u32], x: Session) -> Done
@@ -41,27 +52,17 @@ fn blinder(pool: &mut [u32], at: Place, scratch: &mut [u32], x: Session) -> Done
         ≡ leaves x (slot_in pool.old at) scratch.old [] []
         (recorded of_blinder (drop_blinder (blinder_of x) (slot_in pool.old at) scratch.old)) }
 {
-    let dropped = blinder_drop(pool, at, scratch, blinder_of(x));
-    let answer = dropped.answer;
-    let session = dropped.session;
-    with_record(
-        is_accepted(answer),
-        answer,
-        of_blinder(session),
-        x,
-        no_head(),
-    )
+    let d = blinder_drop(pool, at, scratch, BlinderSession::held(x));
+    over(d.answer.is_ok(), kept(silent(d)), x)
 }
 
 pub fn drop_step(pool: &mut [u32], at: Place, scratch: &mut [u32], x: Session) -> Done
     ensures { leaving result.answer result.session result.head pool.new scratch.new [] []
         ≡ leaves x (slot_in pool.old at) scratch.old [] [] (drop_step x (slot_in pool.old at) scratch.old) }
 {
-    if x.end == SOLVER {
-        return solver(pool, at, x);
+    match x.end {
+        SOLVER => solver(pool, at, x),
+        BLINDER => blinder(pool, at, scratch, x),
+        _ => right(pool, at, x),
     }
-    if x.end == BLINDER {
-        return blinder(pool, at, scratch, x);
-    }
-    right(pool, at, x)
 }

@@ -13,12 +13,13 @@ ghost use Rattle.entry.specs.Record.{of_left, of_right, of_solver, of_blinder};
 ghost use Rattle.entry.specs.Steps.{recorded, first_step};
 ghost use Rattle.local.specs.Settled.{unopened};
 
-use crate::record::{of_blinder, of_left, of_right, of_solver};
-use crate::{Done, refused};
+use crate::record::of_left;
+use crate::{Done, kept};
 use blinder::blinder_first;
 use entry::{BLINDER, LEFT, RIGHT, SOLVER};
 use product::{left_step, right_first};
-use protocol::{Answer, Head, Refusal, Terms};
+use judging::Stepped;
+use protocol::{Head, Refusal, Terms};
 use solver::solver_first;
 use tape::Place;
 use vectors::times;
@@ -28,12 +29,7 @@ pub fn square_of(t: Terms, input: &[u32]) -> usize
     ensures { (result ≤ length input.now) × (take result input.now ≡ take (t.m * t.m) input.now)
         × (drop result input.now ≡ drop (t.m * t.m) input.now) }
 {
-    let square = times(t.m, t.m);
-    let len = input.len();
-    if len < square {
-        return len;
-    }
-    square
+    times(t.m, t.m).min(input.len())
 }
 
 fn left(
@@ -52,13 +48,11 @@ fn left(
         (recorded (λ _. of_left t) (left_step t (slot_in pool.old at) input.now words.now
         (message_with a residues.now) (length out.old) (length res.old))) }
 {
-    let done = left_step(pool, at, t, input, words, a, residues, out, res);
-    let answer = done.answer;
-    let head = done.head;
-    Done {
-        answer,
+    let d = left_step(pool, at, t, input, words, a, residues, out, res);
+    Stepped {
+        answer: d.answer,
         session: of_left(t),
-        head,
+        head: d.head,
     }
 }
 
@@ -67,15 +61,7 @@ fn right(pool: &mut [u32], at: Place, t: Terms, input: &[u32], out: &mut [u32]) 
         ≡ leaves (of_right no_right) (slot_in pool.old at) [] out.old []
         (recorded of_right (right_first t (slot_in pool.old at) input.now (length out.old))) }
 {
-    let done = right_first(pool, at, t, input, out);
-    let answer = done.answer;
-    let session = done.session;
-    let head = done.head;
-    Done {
-        answer,
-        session: of_right(session),
-        head,
-    }
+    kept(right_first(pool, at, t, input, out))
 }
 
 fn blinder(
@@ -96,7 +82,7 @@ fn blinder(
         (message_with a residues.now) (length out.old))) }
 {
     let n = square_of(t, input);
-    let done = blinder_first(
+    let d = blinder_first(
         pool,
         at,
         scratch,
@@ -108,14 +94,7 @@ fn blinder(
         residues,
         out,
     );
-    let answer = done.answer;
-    let session = done.session;
-    let head = done.head;
-    Done {
-        answer,
-        session: of_blinder(session),
-        head,
-    }
+    kept(d)
 }
 
 fn solver(pool: &mut [u32], at: Place, t: Terms, input: &[u32], out: &mut [u32]) -> Done
@@ -125,15 +104,7 @@ fn solver(pool: &mut [u32], at: Place, t: Terms, input: &[u32], out: &mut [u32])
         (take (t.m * t.m) input.now) (drop (t.m * t.m) input.now) (length out.old))) }
 {
     let n = square_of(t, input);
-    let done = solver_first(pool, at, t, &input[..n], &input[n..], out);
-    let answer = done.answer;
-    let session = done.session;
-    let head = done.head;
-    Done {
-        answer,
-        session: of_solver(session),
-        head,
-    }
+    kept(solver_first(pool, at, t, &input[..n], &input[n..], out))
 }
 
 // Of another end than the four nothing is judged but that.
@@ -160,6 +131,6 @@ pub fn first_step(
         RIGHT => right(pool, at, t, input, out),
         BLINDER => blinder(pool, at, scratch, t, input, words, a, residues, out),
         SOLVER => solver(pool, at, t, input, out),
-        _ => refused(Answer::Refused(Refusal::Size), of_left(t)),
+        _ => Stepped::refused(Refusal::Size, of_left(t)),
     }
 }

@@ -1,6 +1,7 @@
 // The calls of a session over its record, by value, for all four ends: each calls the step or the drop of the record's end.
 //   Done        what a call answers: besides the answer the record, and the head of the message that is sent
-//   record      a record from an end's session and back
+//   record      a record from an end's session and back: the trait `Kept`
+//   kept, over  an end's answer over its record; the record that was handed over, where it is not done
 //   first_step  an end's first step; `first_over` is the same over a record that must hold no open session
 //   next_step   the step that is due
 //   drop_step   the drop
@@ -16,70 +17,53 @@ mod open;
 pub mod record;
 
 ghost use Rattle.std.specs.Prelude.{◌≡◌, cond};
-ghost use Rattle.protocol.specs.Message.{no_message};
-ghost use Rattle.local.specs.Settled.{is_accepted, is_settled};
+ghost use Rattle.local.specs.Settled.{is_settled};
 
 pub use drop::drop_step;
 use entry::Session;
 pub use first::first_step;
-use judging::message::no_head;
-use judging::number_of;
+use judging::Stepped;
 pub use next::next_step;
 pub use open::first_over;
-use protocol::{Answer, Head};
+use protocol::{Answer, Refusal};
+use record::Kept;
 
-#[derive(Clone, Copy)]
-pub struct Done {
-    pub answer: Answer,
-    pub session: Session,
-    pub head: Head,
-}
+pub type Done = Stepped<Session>;
 
-// A call is done where it is accepted.
-fn is_accepted(a: Answer) -> bool
-    ensures { result ≡ is_accepted a }
-{
-    match a {
-        Answer::Accepted(_) => true,
-        Answer::Refused(_) => false,
-    }
-}
-
-// A later one of the solver is done, too, where it answers that the sum is singular.
+// A later step of the solver is done, too, where it answers that the sum is singular.
 fn is_settled(a: Answer) -> bool
     ensures { result ≡ is_settled a }
 {
-    let Answer::Refused(r) = a else {
-        return true;
-    };
-    number_of(r) == 10
+    match a {
+        Ok(_) => true,
+        Err(r) => r == Refusal::Singular,
+    }
 }
 
-// The record that a call leaves: where it is not done, the one that it was handed.
-fn with_record(done: bool, answer: Answer, next: Session, before: Session, head: Head) -> Done
-    ensures { result ≡ record { answer = answer; session = cond done next before; head = head } }
+// What an end's step answers, over the record of its session.
+fn kept<S: Kept>(d: Stepped<S>) -> Done
+    ensures { result ≡ record { answer = d.answer; session = S.record_of d.session; head = d.head } }
 {
-    if done {
-        return Done {
-            answer,
-            session: next,
-            head,
-        };
-    }
-    Done {
+    let answer = d.answer;
+    let head = d.head;
+    let session = d.session;
+    Stepped {
         answer,
-        session: before,
+        session: session.record(),
         head,
     }
 }
 
-// Nothing is done, and nothing is sent.
-fn refused(answer: Answer, x: Session) -> Done
-    ensures { result ≡ record { answer = answer; session = x; head = no_message.head } }
+// What a call answers that leaves the record as it was where it is not done.
+fn over(done: bool, d: Done, before: Session) -> Done
+    ensures { result ≡ record { answer = d.answer; session = cond done d.session before; head = d.head } }
 {
-    Done {
-        answer,
-        session: x,
-        head: no_head(),
+    if done {
+        return d;
+    }
+    Stepped {
+        answer: d.answer,
+        session: before,
+        head: d.head,
     }
 }

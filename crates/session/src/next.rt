@@ -1,5 +1,4 @@
 // The step that is due, by the record's end.
-//   right_done, solver_done, blinder_done   what each end's step answers, with the record that it leaves
 //   solver_ending, blinder_ending           the last step, a system's or a determinant's, by the session
 //   right, solver, blinder                  the steps of each end
 //   next_step                               all of them
@@ -13,43 +12,14 @@ ghost use Rattle.entry.specs.Record.{right_of, solver_of, blinder_of, of_right, 
 ghost use Rattle.entry.specs.Steps.{recorded, blinder_ending, next_step};
 ghost use Rattle.local.specs.Settled.{is_accepted, is_settled};
 
-use crate::record::{blinder_of, of_blinder, of_right, of_solver, right_of, solver_of};
-use crate::{Done, is_accepted, is_settled, with_record};
+use crate::record::Kept;
+use crate::{Done, is_settled, kept, over};
 use blinder::{BlinderAnswer, blinder_determinant, blinder_last, blinder_second};
 use entry::{BLINDER, SOLVER, Session};
-use product::{RightAnswer, right_last};
-use protocol::{BlinderSession, Head, SolverSession};
+use product::right_last;
+use protocol::{BlinderSession, Head, RightSession, SolverSession};
 use solver::{SolverAnswer, solver_determinant, solver_last, solver_second};
 use tape::Place;
-
-// ---- what each end's step answers, with the record that it leaves
-
-pub fn right_done(d: RightAnswer, x: Session) -> Done
-    ensures { result ≡ record { answer = d.answer; session = cond (is_accepted d.answer) (of_right d.session) x; head = d.head } }
-{
-    let answer = d.answer;
-    let session = d.session;
-    let head = d.head;
-    with_record(is_accepted(answer), answer, of_right(session), x, head)
-}
-
-pub fn solver_done(d: SolverAnswer, x: Session) -> Done
-    ensures { result ≡ record { answer = d.answer; session = cond (is_settled d.answer) (of_solver d.session) x; head = d.head } }
-{
-    let answer = d.answer;
-    let session = d.session;
-    let head = d.head;
-    with_record(is_settled(answer), answer, of_solver(session), x, head)
-}
-
-pub fn blinder_done(d: BlinderAnswer, x: Session) -> Done
-    ensures { result ≡ record { answer = d.answer; session = cond (is_accepted d.answer) (of_blinder d.session) x; head = d.head } }
-{
-    let answer = d.answer;
-    let session = d.session;
-    let head = d.head;
-    with_record(is_accepted(answer), answer, of_blinder(session), x, head)
-}
 
 // ---- the last steps of a system and of a determinant
 
@@ -106,8 +76,8 @@ fn right(
         ≡ leaves x (slot_in pool.old at) [] [] res.old
         (recorded of_right (right_last (right_of x) (slot_in pool.old at) (message_with a residues.now) (length res.old))) }
 {
-    let done = right_last(pool, at, right_of(x), a, residues, res);
-    right_done(done, x)
+    let d = right_last(pool, at, RightSession::held(x), a, residues, res);
+    over(d.answer.is_ok(), kept(d), x)
 }
 
 fn solver(
@@ -124,12 +94,13 @@ fn solver(
         (solver_second (solver_of x) (slot_in pool.old at) (message_with a residues.now) (length out.old))
         (solver_ending (solver_of x) (slot_in pool.old at) (message_with a residues.now) (length out.old)))) }
 {
+    let s = SolverSession::held(x);
     if x.due == 2 {
-        let second = solver_second(pool, at, solver_of(x), a, residues, out);
-        return solver_done(second, x);
+        let second = solver_second(pool, at, s, a, residues, out);
+        return over(is_settled(second.answer), kept(second), x);
     }
-    let last = solver_ending(pool, at, solver_of(x), a, residues, out);
-    solver_done(last, x)
+    let last = solver_ending(pool, at, s, a, residues, out);
+    over(is_settled(last.answer), kept(last), x)
 }
 
 fn blinder(
@@ -150,12 +121,13 @@ fn blinder(
         (blinder_ending (blinder_of x) (slot_in pool.old at) scratch.old (message_with a residues.now)
         (length res.old)))) }
 {
+    let s = BlinderSession::held(x);
     if x.due == 3 {
-        let second = blinder_second(pool, at, scratch, blinder_of(x), a, residues, out);
-        return blinder_done(second, x);
+        let second = blinder_second(pool, at, scratch, s, a, residues, out);
+        return over(second.answer.is_ok(), kept(second), x);
     }
-    let last = blinder_ending(pool, at, scratch, blinder_of(x), a, residues, res);
-    blinder_done(last, x)
+    let last = blinder_ending(pool, at, scratch, s, a, residues, res);
+    over(last.answer.is_ok(), kept(last), x)
 }
 
 pub fn next_step(
@@ -173,11 +145,9 @@ pub fn next_step(
         (next_step x (slot_in pool.old at) scratch.old (message_with a residues.now)
         (length out.old) (length res.old)) }
 {
-    if x.end == SOLVER {
-        return solver(pool, at, x, a, residues, out);
+    match x.end {
+        SOLVER => solver(pool, at, x, a, residues, out),
+        BLINDER => blinder(pool, at, scratch, x, a, residues, out, res),
+        _ => right(pool, at, x, a, residues, res),
     }
-    if x.end == BLINDER {
-        return blinder(pool, at, scratch, x, a, residues, out, res);
-    }
-    right(pool, at, x, a, residues, res)
 }

@@ -11,9 +11,10 @@ ghost use Rattle.entry.specs.Steps.{first_step, first_over};
 ghost use Rattle.local.specs.Settled.{judgement};
 
 use crate::first::{first_step, square_of};
-use crate::{Done, is_accepted, refused, with_record};
+use crate::{Done, over};
 use entry::{BLINDER, LEFT, RIGHT, SOLVER, Session};
-use judging::{Check, answer_of, need, worst};
+use judging::message::no_head;
+use judging::{Check, Stepped, answer_of, need, worst};
 use protocol::{Head, Refusal, Terms};
 use tape::Place;
 
@@ -51,7 +52,7 @@ fn check_first(
             room,
         ),
         SOLVER => solver::first::check(pool, at, t, &input[..n], &input[n..], room),
-        _ => Check::Refused(Refusal::Size),
+        _ => Err(Refusal::Size),
     }
 }
 
@@ -78,10 +79,7 @@ pub fn first_over(
         let d = first_step(
             pool, at, scratch, end, t, input, words, a, residues, out, res,
         );
-        let answer = d.answer;
-        let session = d.session;
-        let head = d.head;
-        return with_record(is_accepted(answer), answer, session, x, head);
+        return over(d.answer.is_ok(), d, x);
     }
     let room = out.len();
     let share = res.len();
@@ -89,5 +87,9 @@ pub fn first_over(
         pool, at, scratch, end, t, input, words, a, residues, room, share,
     );
     let open = need(Refusal::Turn, false);
-    refused(answer_of(worst(open, checked)), x)
+    Stepped {
+        answer: answer_of(worst(open, checked)),
+        session: x,
+        head: no_head(),
+    }
 }

@@ -1,7 +1,7 @@
 // The bounds on the sides, residues and unknowns of matrices.
 //   Matrix   the bounds; sides_fit, system_sides_fit: of a product, and of a system or its determinant; unknowns_fit
 // No function here is for hosts.
-#![tactic(auto)]
+#![tactic(auto, unfolding(algebra::specs::Count::both, protocol::specs::Bounds::within, protocol::specs::Bounds::sides_fit))]
 
 ghost use Rattle.std.specs.Prelude.{◌≡◌};
 ghost use Rattle.protocol.specs.Bounds.{within, most_unknowns, sides_fit, product, system};
@@ -27,59 +27,24 @@ impl Matrix {
     pub fn sides_fit(m: u32, k: u32, p: u32) -> bool
         ensures { result ≡ sides_fit product m k p }
     {
-        if m < 1 {
-            return false;
-        }
-        if Matrix::LONGEST_SIDE < m {
-            return false;
-        }
-        if p < 1 {
-            return false;
-        }
-        if Matrix::LONGEST_SIDE < p {
-            return false;
-        }
-        if k < 1 {
-            return false;
-        }
-        if Matrix::LONGEST_INNER < k {
-            return false;
-        }
-        if Matrix::MOST_RESIDUES < m * k {
-            return false;
-        }
-        if Matrix::MOST_RESIDUES < k * p {
-            return false;
-        }
-        true
+        (1..=Matrix::LONGEST_SIDE).contains(&m)
+            && (1..=Matrix::LONGEST_SIDE).contains(&p)
+            && (1..=Matrix::LONGEST_INNER).contains(&k)
+            && m * k <= Matrix::MOST_RESIDUES
+            && k * p <= Matrix::MOST_RESIDUES
     }
 
     // Whether a system may have n unknowns.
     pub fn unknowns_fit(n: u32) -> bool
         ensures { result ≡ within 1 most_unknowns n }
     {
-        if n < 1 {
-            return false;
-        }
-        if Matrix::MOST_UNKNOWNS < n {
-            return false;
-        }
-        true
+        (1..=Matrix::MOST_UNKNOWNS).contains(&n)
     }
 
     // Whether these are the sides of a system: n, n and n + 1, or n where its determinant is asked for.
     pub fn system_sides_fit(m: u32, k: u32, p: u32) -> bool
         ensures { result ≡ sides_fit system m k p }
     {
-        if !Matrix::unknowns_fit(m) {
-            return false;
-        }
-        if k != m {
-            return false;
-        }
-        if p < m {
-            return false;
-        }
-        p <= m + 1
+        Matrix::unknowns_fit(m) && k == m && (m..=m + 1).contains(&p)
     }
 }

@@ -5,19 +5,18 @@
 --   no-line-longer  no message of the kind, with these q, m, k, p, has a longer line
 --   none-written-longer   the same of every message that passes its own tests
 -- Assumes nothing.
-use mathlib.Core.Path.{◌≡◌, refl, ap, ap₂, ◌∙◌}
-use mathlib.Core.Bool.{Bool, true, false}
+use mathlib.Core.Path.{◌≡◌, ap, ap₂, ◌∙◌}
+use mathlib.Core.Bool.{true}
 use mathlib.Core.List.{List, [], ◌∷◌}
 use Prim.Native.Nat.{ℕ, zero, suc, ◌+◌, ◌*◌, ◌-◌, ◌^◌, ◌≤◌, ◌<◌}
 use native.Mathlib.Omega.{arith}
 use lib.ListN.{length, length-append}
 use borrow.Author.Tests.{ltb-true, leb-true, le-leb}
-use Rattle.algebra.specs.Count.{both}
 use Rattle.algebra.specs.Matrix.{tabulate, Residues}
 use Rattle.algebra.proofs.Tests.{and_left, and_right, and_both}
 use Rattle.protocol.specs.declared.Head.{Head}
-use Rattle.protocol.specs.Bounds.{within, all_below, terms_tests, largest_modulus, field_fits, sides_fit}
-use Rattle.protocol.specs.Message.{Message, message_with, kind_known, kind_sort, last_fits, message_size, message_tests}
+use Rattle.protocol.specs.Bounds.{within, all_below, terms_tests}
+use Rattle.protocol.specs.Message.{Message, message_with, kind_known, kind_sort, message_size, message_tests}
 use Rattle.protocol.specs.Line.{decimal, end_byte, line, message_line}
 use Rattle.protocol.proofs.Tests.{TermsFit, terms-tests, input-tests}
 use Rattle.protocol.proofs.Judge.{Pass, split, here, rest}
@@ -52,12 +51,6 @@ line-most q (x ∷ xs) b =
 pub message-length : (h : Head) (rs : List ℕ) → length (message_line (message_with h rs)) ≡ length (line (head_numbers h)) + length (line rs)
 message-length h rs = message-bytes h rs ∙ ap₂ (λ (a b : ℕ). a + b) (before-length (length rs) (head_numbers h)) (before-length 0 rs)
 
--- what is joined to a failing test fails
-and-false : (a : Bool) (b : Bool) → false ≡ b → false ≡ both a b
-unfolding both
-and-false true b e = e
-and-false false b e = refl
-
 module _ (kind q m k p : ℕ) where
   pub longest-length : length (message_line (longest_message kind q m k p))
       ≡ length (line (kind ∷ largest_id ∷ largest_id ∷ q ∷ m ∷ k ∷ p ∷ [])) + message_size kind (longest_terms q m k p) * (length (decimal (q - 1)) + 1)
@@ -85,35 +78,6 @@ module _ (kind q m k p : ℕ) where
         sides = and_left _ _ (and_right _ _ e2);
         tape = omega arith;
       }
-
-  -- each test by itself
-  pub fits-not-kind : kind_known kind ≡ false → false ≡ kind_fits kind q m k p
-  unfolding kind_fits both
-  fits-not-kind e = rw e
-
-  pub fits-not-sides : sides_fit (kind_sort kind) m k p ≡ false → false ≡ kind_fits kind q m k p
-  unfolding kind_fits
-  fits-not-sides e = rw e (go (kind_known kind) (within 2 largest_modulus q) (field_fits (kind_sort kind) q))
-    where
-      go : (z a b : Bool) → false ≡ both z (both a (both b (both false (last_fits kind m p))))
-      go z a b = unfold both in and-false z _ (and-false a _ (and-false b _ refl))
-
-  pub fits-not-last : last_fits kind m p ≡ false → false ≡ kind_fits kind q m k p
-  unfolding kind_fits
-  fits-not-last e = rw e (go (kind_known kind) (within 2 largest_modulus q) (field_fits (kind_sort kind) q) (sides_fit (kind_sort kind) m k p))
-    where
-      go : (z a b c : Bool) → false ≡ both z (both a (both b (both c false)))
-      go z a b c = and-false z _ (and-false a _ (and-false b _ (and-false c _ refl)))
-
-  pub fits-modulus : kind_known kind ≡ true → sides_fit (kind_sort kind) m k p ≡ true → last_fits kind m p ≡ true
-      → both (within 2 largest_modulus q) (field_fits (kind_sort kind) q) ≡ kind_fits kind q m k p
-  unfolding kind_fits both
-  fits-modulus e f l = rw (e, f, l) (go (within 2 largest_modulus q) (field_fits (kind_sort kind) q))
-    where
-      go : (a b : Bool) → both a b ≡ both true (both a (both b true))
-      go true true = refl
-      go true false = refl
-      go false b = refl
 
   pub few-residues : kind_fits kind q m k p ≡ true → message_size kind (longest_terms q m k p) ≤ 3072
   few-residues e = sent-size kind (longest_terms q m k p) (fit-kind e) (fit-terms e)

@@ -3,6 +3,8 @@
 //   scratch                  the blinder's scratch, and its coins
 //   coins                    left's coins
 //   product_draws, system_draws   a dealing
+#![tactic(auto, unfolding(crate::specs::Sizes::in_bounds, protocol::specs::System::scratch_size, protocol::specs::Deal::draw_size, protocol::specs::Bounds::sides_fit, protocol::specs::Bounds::within, algebra::specs::Count::both))]
+
 ghost use Rattle.std.specs.Prelude.{◌≡◌, [], ◌*◌};
 ghost use Rattle.protocol.specs.Bounds.{product, system, sides_fit};
 ghost use Rattle.protocol.specs.Tape.{tape_size};
@@ -64,16 +66,15 @@ pub fn product_draws(m: u32, k: u32, p: u32) -> usize
     if !Matrix::sides_fit(m, k, p) {
         return 0;
     }
-    times(m, k) + (times(k, p) + times(m, p))
+    times(m, k) + times(k, p) + times(m, p)
 }
 
-// The same, and Q, R and G.
+// The same, and Q, R and G, each with as many residues as X0.
 pub fn system_draws(m: u32, k: u32, p: u32) -> usize
     ensures { result ≡ in_bounds system m k p (draw_size (request_of system 0 0 m k p [])) }
 {
     if !Matrix::system_sides_fit(m, k, p) {
         return 0;
     }
-    let mk = times(m, k);
-    mk + (times(k, p) + (times(m, p) + (mk + (mk + mk))))
+    4 * times(m, k) + times(k, p) + times(m, p)
 }

@@ -16,16 +16,11 @@ use vectors::{all_below, times};
 use words::get_words;
 
 // So many bytes are n × n words.
+#[tactic(auto, unfolding(crate::specs::Inverse::is_square, algebra::specs::Count::both))]
 fn is_square(n: u32, bytes: usize) -> bool
     ensures { result ≡ is_square n bytes }
 {
-    if !Matrix::unknowns_fit(n) {
-        return false;
-    }
-    if bytes % 4 != 0 {
-        return false;
-    }
-    bytes / 4 == times(n, n)
+    Matrix::unknowns_fit(n) && bytes % 4 == 0 && bytes / 4 == times(n, n)
 }
 
 fn check_square(q: u32, n: u32, bytes: usize) -> Check
@@ -41,10 +36,7 @@ fn check_inverse(q: u32, n: u32, words: &[u32]) -> Check
     requires { (is_prime q ≡ true) × (q < 2147483648) × (n ≤ 16) × (length words.now ≡ n * n) }
     ensures { checked result ≡ judged (matrix_tests q n words.now) }
 {
-    let residues = need(Refusal::Residue, all_below(q, words));
-    let Check::Passed = residues else {
-        return residues;
-    };
+    need(Refusal::Residue, all_below(q, words))?;
     need(Refusal::Singular, has_inverse(q, n as usize, words))
 }
 
@@ -61,9 +53,6 @@ fn check_words(q: u32, n: u32, bytes: &[u8]) -> Check
 pub fn check_matrix(q: u32, n: u32, bytes: &[u8]) -> Check
     ensures { checked result ≡ judged (inverse_tests q n bytes.now) }
 {
-    let square = check_square(q, n, bytes.len());
-    let Check::Passed = square else {
-        return square;
-    };
+    check_square(q, n, bytes.len())?;
     check_words(q, n, bytes)
 }

@@ -3,7 +3,7 @@
 //   counts   words and residues by an end's or a sort's number
 //   line     the longest line of a kind
 //   inverse  a square matrix, judged
-//   text     a word over a slice
+//   text     the word of a refusal's number, and a text over a slice
 #![tactic(auto)]
 
 mod counts;
@@ -22,13 +22,12 @@ ghost use Rattle.sizes.specs.Inverse.{inverse_number};
 ghost use Rattle.sizes.specs.Words.{Told, told, refusal_word};
 
 use counts::{coins, half_words, product_draws, scratch, system_draws};
-use field::{ResidueAnswer, ScoreAnswer};
+use entry::{BLINDER, LEFT, RIGHT, SOLVER};
 use inverse::check_matrix;
-use judging::{Check, number_of};
 use line::{kind_fits, line_length};
 use sides::Matrix;
 use tape::End;
-use text::put_text;
+use text::{put_text, refusal_word};
 
 // ---- sizes
 
@@ -47,29 +46,32 @@ pub fn host_record_words() -> usize
 }
 
 // The words of an end's half.
+#[tactic(auto, unfolding(crate::specs::Sizes::tape_words, crate::specs::Sizes::by_end))]
 pub fn host_tape_words(end: u32, m: u32, k: u32, p: u32) -> usize
     ensures { result ≡ tape_words end m k p }
 {
     match end {
-        1 => half_words(End::Left, Matrix::sides_fit(m, k, p), m, k, p),
-        2 => half_words(End::Right, Matrix::sides_fit(m, k, p), m, k, p),
-        3 => half_words(End::Blinder, Matrix::system_sides_fit(m, k, p), m, k, p),
-        4 => half_words(End::Solver, Matrix::system_sides_fit(m, k, p), m, k, p),
+        LEFT => half_words(End::Left, Matrix::sides_fit(m, k, p), m, k, p),
+        RIGHT => half_words(End::Right, Matrix::sides_fit(m, k, p), m, k, p),
+        BLINDER => half_words(End::Blinder, Matrix::system_sides_fit(m, k, p), m, k, p),
+        SOLVER => half_words(End::Solver, Matrix::system_sides_fit(m, k, p), m, k, p),
         _ => 0,
     }
 }
 
 // The words of an end's scratch.
+#[tactic(auto, unfolding(crate::specs::Sizes::scratch_words))]
 pub fn host_scratch_words(end: u32, m: u32, k: u32, p: u32) -> usize
     ensures { result ≡ scratch_words end m k p }
 {
-    if end != 3 {
-        return 0;
+    match end {
+        BLINDER => scratch(m, k, p),
+        _ => 0,
     }
-    scratch(m, k, p)
 }
 
 // The bytes of the longest line of a kind.
+#[tactic(auto, unfolding(crate::specs::Sizes::longest_line))]
 pub fn host_line_bytes(kind: u32, q: u32, m: u32, k: u32, p: u32) -> usize
     ensures { result ≡ longest_line kind q m k p }
 {
@@ -80,17 +82,19 @@ pub fn host_line_bytes(kind: u32, q: u32, m: u32, k: u32, p: u32) -> usize
 }
 
 // The residues that an end's first step draws.
+#[tactic(auto, unfolding(crate::specs::Sizes::coin_count, crate::specs::Sizes::by_end, crate::specs::Sizes::in_bounds, protocol::specs::System::scratch_size))]
 pub fn host_coin_count(end: u32, m: u32, k: u32, p: u32) -> usize
     ensures { result ≡ coin_count end m k p }
 {
     match end {
-        1 => coins(m, k, p),
-        3 => scratch(m, k, p),
+        LEFT => coins(m, k, p),
+        BLINDER => scratch(m, k, p),
         _ => 0,
     }
 }
 
 // The residues that a dealing draws.
+#[tactic(auto, unfolding(crate::specs::Sizes::deal_count, crate::specs::Sizes::by_sort))]
 pub fn host_deal_count(sort: u32, m: u32, k: u32, p: u32) -> usize
     ensures { result ≡ deal_count sort m k p }
 {
@@ -107,19 +111,17 @@ pub fn host_deal_count(sort: u32, m: u32, k: u32, p: u32) -> usize
 pub fn host_is_prime(n: u32) -> u32
     ensures { result ≡ bit (is_prime n) }
 {
-    if prime::is_prime(n) {
-        return 1;
-    }
-    0
+    u32::from(prime::is_prime(n))
 }
 
 // 0 for an n by n matrix of residues that has an inverse; else the lowest number that applies.
+#[tactic(auto, unfolding(crate::specs::Inverse::inverse_number))]
 pub fn host_has_inverse(q: u32, n: u32, matrix: &[u8]) -> u32
     ensures { result ≡ inverse_number q n matrix.now }
 {
     match check_matrix(q, n, matrix) {
-        Check::Passed => 0,
-        Check::Refused(r) => number_of(r),
+        Ok(()) => 0,
+        Err(r) => u32::from(r),
     }
 }
 
@@ -143,9 +145,9 @@ pub fn host_to_residue(q: u32, score: i32) -> Residue
     ensures { ◌≡◌ {A = Reply ℕ} (record { number = result.number; values = result.residue }) (reply_of 0 (to_residue q score)) }
 {
     match field::to_residue(q, score) {
-        ResidueAnswer::Taken(residue) => Residue { number: 0, residue },
-        ResidueAnswer::Refused(r) => Residue {
-            number: number_of(r),
+        Ok(residue) => Residue { number: 0, residue },
+        Err(r) => Residue {
+            number: u32::from(r),
             residue: 0,
         },
     }
@@ -155,9 +157,9 @@ pub fn host_to_score(q: u32, residue: u32) -> Score
     ensures { ◌≡◌ {A = Reply ℤ} (record { number = result.number; values = result.score }) (reply_of (pos 0) (to_score q residue)) }
 {
     match field::to_score(q, residue) {
-        ScoreAnswer::Read(score) => Score { number: 0, score },
-        ScoreAnswer::Refused(r) => Score {
-            number: number_of(r),
+        Ok(score) => Score { number: 0, score },
+        Err(r) => Score {
+            number: u32::from(r),
             score: 0,
         },
     }
@@ -169,17 +171,5 @@ pub fn host_to_score(q: u32, residue: u32) -> Score
 pub fn host_refusal_word(number: u32, word: &mut [u8]) -> usize
     ensures { ◌≡◌ {A = Told} (record { bytes = result; slice = word.new }) (told (refusal_word number) word.old) }
 {
-    match number {
-        1 => put_text(b"form", word),
-        2 => put_text(b"modulus", word),
-        3 => put_text(b"composite", word),
-        4 => put_text(b"size", word),
-        5 => put_text(b"turn", word),
-        6 => put_text(b"mark", word),
-        7 => put_text(b"stranger", word),
-        8 => put_text(b"residue", word),
-        9 => put_text(b"dry", word),
-        10 => put_text(b"singular", word),
-        _ => 0,
-    }
+    put_text(refusal_word(number), word)
 }

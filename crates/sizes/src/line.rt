@@ -30,34 +30,21 @@ fn longest_terms(q: u32, m: u32, k: u32, p: u32) -> Terms
 }
 
 // Kinds 3 to 6 are of systems, whose modulus is prime.
+#[tactic(auto, unfolding(algebra::specs::Count::both, protocol::specs::Bounds::within, protocol::specs::Bounds::field_fits, protocol::specs::Message::kind_sort))]
 fn modulus_fits(kind: u32, q: u32) -> bool
     ensures { result ≡ both (within 2 largest_modulus q) (field_fits (kind_sort kind) q) }
 {
-    if q < 2 {
-        return false;
-    }
-    if Field::LARGEST < q {
-        return false;
-    }
-    if kind <= 2 {
-        return true;
-    }
-    is_prime(q)
+    (2..=Field::LARGEST).contains(&q) && (kind <= 2 || is_prime(q))
 }
 
+#[tactic(auto, unfolding(crate::specs::Sizes::kind_fits, algebra::specs::Count::both))]
 pub fn kind_fits(kind: u32, q: u32, m: u32, k: u32, p: u32) -> bool
     ensures { result ≡ kind_fits kind q m k p }
 {
-    if !kind_known(kind) {
-        return false;
-    }
-    if !kind_sides_fit(kind, m, k, p) {
-        return false;
-    }
-    if !last_fits(kind, longest_terms(q, m, k, p)) {
-        return false;
-    }
-    modulus_fits(kind, q)
+    kind_known(kind)
+        && kind_sides_fit(kind, m, k, p)
+        && last_fits(kind, longest_terms(q, m, k, p))
+        && modulus_fits(kind, q)
 }
 
 pub fn line_length(kind: u32, q: u32, m: u32, k: u32, p: u32) -> usize

@@ -19,10 +19,8 @@ fn first_size(end: End, t: Terms) -> usize
     ensures { result ≡ get_or (layout (role end) t.m t.k t.p) 0 0 }
 {
     match end {
-        End::Left => times(t.m, t.k),
-        End::Right => times(t.k, t.p),
-        End::Blinder => times(t.m, t.k),
-        End::Solver => times(t.k, t.p),
+        End::Left | End::Blinder => times(t.m, t.k),
+        End::Right | End::Solver => times(t.k, t.p),
     }
 }
 
@@ -31,10 +29,8 @@ fn later_size(end: End, t: Terms) -> usize
     ensures { result ≡ get_or (layout (role end) t.m t.k t.p) 2 0 }
 {
     match end {
-        End::Left => 0,
-        End::Right => 0,
-        End::Blinder => times(t.m, t.k),
-        End::Solver => times(t.m, t.k),
+        End::Left | End::Right => 0,
+        End::Blinder | End::Solver => times(t.m, t.k),
     }
 }
 
@@ -43,13 +39,11 @@ fn matrix_size(end: End, t: Terms, j: usize) -> usize
     requires { j ≤ 3 }
     ensures { result ≡ get_or (layout (role end) t.m t.k t.p) j 0 }
 {
-    if j == 0 {
-        return first_size(end, t);
+    match j {
+        0 => first_size(end, t),
+        1 => times(t.m, t.p),
+        _ => later_size(end, t),
     }
-    if j == 1 {
-        return times(t.m, t.p);
-    }
-    later_size(end, t)
 }
 
 pub fn matrix_at(end: End, t: Terms, j: usize) -> usize

@@ -50,21 +50,15 @@ pub fn is_free(slot: &[u32]) -> bool
     requires { header_size ≤ length slot.now }
     ensures { result ≡ is_free (status_of slot.now) }
 {
-    let status = slot[STATUS_AT];
-    if status == EMPTY {
-        return true;
-    }
-    status == SPENT
+    status_is(EMPTY, slot) || status_is(SPENT, slot)
 }
 
 fn sort_number(end: End) -> u32
     ensures { result ≡ sort_number (sort end) }
 {
     match end {
-        End::Left => 0,
-        End::Right => 0,
-        End::Blinder => 1,
-        End::Solver => 1,
+        End::Left | End::Right => 0,
+        End::Blinder | End::Solver => 1,
     }
 }
 
@@ -72,22 +66,12 @@ fn numbers_are(tape: u32, sort: u32, q: u32, m: u32, k: u32, p: u32, slot: &[u32
     requires { header_size ≤ length slot.now }
     ensures { result ≡ numbers_are tape sort q m k p slot.now }
 {
-    if slot[TAPE_AT] != tape {
-        return false;
-    }
-    if slot[SORT_AT] != sort {
-        return false;
-    }
-    if slot[Q_AT] != q {
-        return false;
-    }
-    if slot[M_AT] != m {
-        return false;
-    }
-    if slot[K_AT] != k {
-        return false;
-    }
-    slot[P_AT] == p
+    slot[TAPE_AT] == tape
+        && slot[SORT_AT] == sort
+        && slot[Q_AT] == q
+        && slot[M_AT] == m
+        && slot[K_AT] == k
+        && slot[P_AT] == p
 }
 
 // The tape number, the end's sort, and the terms' q, m, k and p.

@@ -36,10 +36,7 @@ pub struct Place {
 pub fn is_slot(pool: usize, at: Place) -> bool
     ensures { result ≡ ltb at.index (pool / at.size) }
 {
-    if at.size == 0 {
-        return false;
-    }
-    at.index < pool / at.size
+    at.size != 0 && at.index < pool / at.size
 }
 
 // The words of a slot.

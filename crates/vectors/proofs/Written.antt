@@ -1,4 +1,5 @@
 -- Words written over a list one after the other, and parts of slices that are lent.
+--   front-over                         `xs[..n]` overwritten
 --   over-part, over-then, after-over   words over the start: read back, followed by others, and how many there are
 --   first_word                         one word stored at the start
 --   written-length                     a list that words were written into is as long as before
@@ -7,10 +8,10 @@
 -- Assumes nothing.
 use mathlib.Core.Path.{◌≡◌, refl, ap, ◌∙◌}
 use mathlib.Core.List.{List, [], ◌∷◌, ◌++◌, append-nil, append_assoc}
-use Prim.Native.Nat.{ℕ, zero, suc, ◌+◌, ◌-◌, ◌≤◌, ◌<◌}
+use Prim.Native.Nat.{ℕ, ◌+◌, ◌-◌, ◌≤◌, ◌<◌}
 use native.Mathlib.Omega.{arith}
 use lib.ListN.{length, set, take, drop, length-append, length-take, length-drop, drop_of_length-le}
-use lib.Seq.{take_all, take_at, take-take, drop_at, drop-drop}
+use lib.Seq.{take_all, take_at, drop_at, drop-drop}
 use borrow.Rule.Slice.PartMut.{mid_of, put_mid}
 use Rattle.algebra.specs.Words.{over, written_at}
 use Rattle.protocol.proofs.Residues.{over-length}
@@ -18,6 +19,11 @@ use Rattle.protocol.proofs.Residues.{over-length}
 pub over-part : (n : ℕ) (ws d : List ℕ) {l : List ℕ} → l ≡ over ws d → length ws ≡ n → take n l ≡ ws
 unfolding over
 over-part n ws d e h = ap (take n) e ∙ take_at ws (drop (length ws) d) n h
+
+-- `xs[..n]` was overwritten by ws
+pub front-over : (ws d ys : List ℕ) (n : ℕ) → length ws ≡ n → ys ≡ ws → ys ++ drop n d ≡ over ws d
+unfolding over
+front-over ws d ys n h e = rw (e, h)
 
 pub over-then : (a b d : List ℕ) (n : ℕ) → length a ≡ n → written_at n b (over a d) ≡ over (a ++ b) d
 unfolding written_at over

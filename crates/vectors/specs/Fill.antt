@@ -3,9 +3,9 @@
 --   first_words  n words of a list, 0 past its end
 --   negated     the negatives of n words
 --   Below       the first n words of a list are below q
---   sum_at, difference_at, word_at, none_at, negative_at   what is stored at a place
+--   word_at     what a copy stores at a place
 use Rattle.std.specs.Prelude.{List, ◌++◌, ℕ, ◌<◌, get_or, drop}
-use Rattle.algebra.specs.Residue.{add_mod, sub_mod}
+use Rattle.algebra.specs.Residue.{sub_mod}
 use Rattle.algebra.specs.Matrix.{tabulate}
 
 unfoldable pub filled : ℕ → (ℕ → ℕ) → List ℕ → List ℕ
@@ -17,20 +17,8 @@ first_words n a = tabulate n (λ e. get_or a e 0)
 unfoldable pub negated : ℕ → ℕ → List ℕ → List ℕ
 negated q n a = tabulate n (λ e. sub_mod q 0 (get_or a e 0))
 
-unfoldable pub sum_at : ℕ → List ℕ → List ℕ → ℕ → ℕ
-sum_at q a b e = add_mod q (get_or a e 0) (get_or b e 0)
-
-unfoldable pub difference_at : ℕ → List ℕ → List ℕ → ℕ → ℕ
-difference_at q a b e = sub_mod q (get_or a e 0) (get_or b e 0)
-
 unfoldable pub word_at : List ℕ → ℕ → ℕ
 word_at a e = get_or a e 0
-
-unfoldable pub none_at : ℕ → ℕ
-none_at e = 0
-
-unfoldable pub negative_at : ℕ → List ℕ → ℕ → ℕ
-negative_at q a e = sub_mod q 0 (get_or a e 0)
 
 abbrev pub Below : ℕ → ℕ → List ℕ → Type 0
 Below q n a = (j : ℕ) → j < n → get_or a j 0 < q

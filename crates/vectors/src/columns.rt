@@ -14,6 +14,7 @@ pub fn times(a: u32, b: u32) -> usize
 }
 
 // p columns, from column s on, of a matrix with m rows and w columns.
+#[tactic(auto, using(crate::proofs::Rows::row_fits))]
 pub fn write_cols(m: usize, w: usize, s: usize, p: usize, a: &[u32], out: &mut [u32])
     requires { (s + p ≤ w) × (m * w ≤ length a.now) × (m * p ≤ length out.old) }
     ensures { out.new ≡ over (cols m w s p a.now) out.old }
@@ -35,6 +36,7 @@ fn write_row(p: usize, r: usize, a: &[u32], b: &[u32], out: &mut [u32])
 }
 
 // [A, B]: p columns of a and r columns of b, with m rows.
+#[tactic(auto, using(crate::proofs::Rows::row_fits))]
 pub fn write_beside(m: usize, p: usize, r: usize, a: &[u32], b: &[u32], out: &mut [u32])
     requires { (m * p ≤ length a.now) × (m * r ≤ length b.now) × (m * (p + r) ≤ length out.old) }
     ensures { out.new ≡ over (beside m p r a.now b.now) out.old }

@@ -8,11 +8,13 @@
 #![tactic(auto)]
 
 mod columns;
+mod each;
 mod entries;
 mod residues;
 pub mod rest;
 
 pub use columns::{times, write_beside, write_cols};
+pub use each::set_each;
 pub use entries::{
     add_to, subtract_from, write_copy, write_difference, write_negative, write_sum, write_zeros,
 };

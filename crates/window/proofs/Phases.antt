@@ -1,7 +1,7 @@
 -- The tests of a window's numbers are made first, and then those of the days that are used: what either comes to.
---   Early, words-early, bytes-early          why the numbers may be first, on words and on bytes
---   known, taken, handed                     past a check of the numbers: what is known, what is left to judge; a refusal
---   by-words                                 the words of the bytes, counted
+--   Early                                    why the numbers may be first
+--   words-known, words-taken, words-handed   past a check of the numbers: what is known, what is left to judge; a refusal
+--   bytes-known, bytes-taken, bytes-handed   the same on bytes
 --   days-refused, days-taken                 of the days that are used;  three-below: of three words
 --   flags-phases, flag-words, all-flags     a run of flags
 -- Assumes nothing.
@@ -21,14 +21,16 @@ use Rattle.protocol.specs.Bounds.{largest_modulus, within, all_below}
 use Rattle.protocol.specs.Window.{window_fits, window_tests, share_tests, flags_tests, flags_fit}
 use Rattle.protocol.proofs.Judge.{all_split, accepts, passed, one-fails}
 use Rattle.protocol.proofs.Window.{Fits, fits-known, positive}
-use Rattle.judging.specs.InOrder.{Check}
-use Rattle.std.specs.Prelude.{Ok, Err}
-use Rattle.judging.specs.InOrder.{checked, only, sorted_by, sorted, judged, after}
+use Rattle.std.specs.Prelude.{Result, IsErrAnd}
+use Rattle.std.proofs.lemmas.Result.{err_from_is_err_and}
+use Rattle.field.specs.Field.{residue_reply}
+use Rattle.judging.specs.InOrder.{only, sorted_by, sorted, judged, after}
 use Rattle.judging.proofs.InOrder.{after_last}
 use Rattle.judging.proofs.Join.{sorted_phases, judged-phases}
 use Rattle.local.specs.Seen.{on_done}
 use Rattle.local.proofs.Outcomes.{by-verdict, also-judge}
 use Rattle.entry.specs.Bytes.{words_of}
+use Rattle.entry.specs.Steps.{also}
 use Rattle.entry.specs.Entry.{whole_tests}
 use Rattle.entry.proofs.Bytes.{words-length}
 use Rattle.window.specs.Entries.{flags_fit_on, flags_tests_on}
@@ -38,7 +40,7 @@ use Rattle.window.specs.Entries.{flags_fit_on, flags_tests_on}
 -- own: the tests of an entry by itself, none for a call on words
 module _ (own : List Test) (q run first w : ℕ) where
   -- none of the numbers' tests comes after one of the days, so that they may be made first
-  abbrev pub Early : Type 0
+  abbrev Early : Type 0
   Early = (used : List ℕ) → sorted (own ++ (window_tests q run first w ++ share_tests q used))
       ≡ sorted_phases ((own ++ window_tests q run first w) ∷ share_tests q used ∷ [])
 
@@ -50,11 +52,11 @@ module _ (own : List Test) (q run first w : ℕ) where
       by-verdict (own ++ (window_tests q run first w ++ days)) v
       ∙ ap (on_done (λ (u : Unit). v)) (judged-phases _ (numbers ∷ days ∷ []) (early used) ∙ ap (after (judged numbers)) (sym (after_last (judged days))))
 
-pub words-early : (q run first w : ℕ) → Early [] q run first w
+words-early : (q run first w : ℕ) → Early [] q run first w
 unfolding sorted sorted_by only window_tests share_tests
 words-early q run first w used = refl
 
-pub bytes-early : (n q run first w : ℕ) → Early (whole_tests n) q run first w
+bytes-early : (n q run first w : ℕ) → Early (whole_tests n) q run first w
 unfolding sorted sorted_by only window_tests share_tests whole_tests
 bytes-early n q run first w used = refl
 
@@ -74,7 +76,7 @@ three-below q a b c e =
     let rest = and_right _ _ e in
     (ltb-true a q (and_left _ _ e), ltb-true b q (and_left _ _ rest), ltb-true c q (and_left _ _ (and_right _ _ rest)))
 
--- ---- a check of the numbers: x is what it answered, and `fits` what it was told of the window
+-- ---- a check of the numbers, which was told by `fits` whether the window does
 
 -- what is known where it passed
 pub record Known (q run first w : ℕ) : Type 0 where
@@ -86,32 +88,75 @@ small : {q : ℕ} → within 2 largest_modulus q ≡ true → q < 2147483648
 unfolding within
 small {q} e = let most = leb-true q 2147483647 (and_right _ _ e) in omega arith
 
-module _ (own : List Test) (x : Check) {fits : Bool} (q run first w : ℕ) (early : Early own q run first w)
-    (told : checked x ≡ judged (own ++ (needs Modulus (within 2 largest_modulus q) ∷ needs Size fits ∷ []))) (is : fits ≡ window_fits q run first w) where
-  checks : checked x ≡ judged (own ++ window_tests q run first w)
+module _ (own : List Test) {fits : Bool} (q run first w : ℕ) (early : Early own q run first w) (is : fits ≡ window_fits q run first w) where
+  checks : {j : Judged Unit} → j ≡ judged (own ++ (needs Modulus (within 2 largest_modulus q) ∷ needs Size fits ∷ []))
+      → j ≡ judged (own ++ window_tests q run first w)
   unfolding window_tests
-  checks = told ∙ ap (λ (b : Bool). judged (own ++ (needs Modulus (within 2 largest_modulus q) ∷ needs Size b ∷ []))) is
+  checks e = e ∙ ap (λ (b : Bool). judged (own ++ (needs Modulus (within 2 largest_modulus q) ∷ needs Size b ∷ []))) is
 
-  pub known : x ≡ Ok tt → Known q run first w
+  known : done tt ≡ judged (own ++ (needs Modulus (within 2 largest_modulus q) ∷ needs Size fits ∷ [])) → Known q run first w
   unfolding window_tests
   known e =
-      let a = (all_split own (window_tests q run first w) (passed (own ++ window_tests q run first w) (sym checks ∙ ap checked e)).0).1 in
+      let a = (all_split own (window_tests q run first w) (passed (own ++ window_tests q run first w) (sym (checks e))).0).1 in
       record { positive-q = positive a.0; small-q = small a.0; fits = fits-known q run first w a.1.0 }
 
   -- what is left to judge
-  pub taken : (used : List ℕ) (v : ℕ) → x ≡ Ok tt → judge (own ++ (window_tests q run first w ++ share_tests q used)) v ≡ judge (share_tests q used) v
+  taken : (used : List ℕ) (v : ℕ) → done tt ≡ judged (own ++ (needs Modulus (within 2 largest_modulus q) ∷ needs Size fits ∷ []))
+      → judge (own ++ (window_tests q run first w ++ share_tests q used)) v ≡ judge (share_tests q used) v
   taken used v e =
       phases own q run first w early used v
-      ∙ (ap (λ (j : Judged Unit). on_done (λ (u : Unit). v) (after j (judged (share_tests q used)))) (sym checks ∙ ap checked e) ∙ sym (by-verdict (share_tests q used) v))
+      ∙ (ap (λ (j : Judged Unit). on_done (λ (u : Unit). v) (after j (judged (share_tests q used)))) (sym (checks e)) ∙ sym (by-verdict (share_tests q used) v))
 
-  pub handed : (used : List ℕ) (v : ℕ) (r : Refusal) → x ≡ Err r → judge (own ++ (window_tests q run first w ++ share_tests q used)) v ≡ refused r
-  handed used v r e =
+  handed : (used : List ℕ) (v : ℕ) {r : Refusal} → refused r ≡ judged (own ++ (needs Modulus (within 2 largest_modulus q) ∷ needs Size fits ∷ []))
+      → judge (own ++ (window_tests q run first w ++ share_tests q used)) v ≡ refused r
+  handed used v e =
       phases own q run first w early used v
-      ∙ ap (λ (j : Judged Unit). on_done (λ (u : Unit). v) (after j (judged (share_tests q used)))) (sym checks ∙ ap checked e)
+      ∙ ap (λ (j : Judged Unit). on_done (λ (u : Unit). v) (after j (judged (share_tests q used)))) (sym (checks e))
 
--- the code counts the words of the bytes by their length
-pub by-words : (q first w : ℕ) (bytes : List ℕ) → window_fits q (length bytes / 4) first w ≡ window_fits q (length (words_of bytes)) first w
+-- a refusal that was handed on
+tells : (x : Result ℕ Refusal) {r : Refusal} {j : Judged ℕ} → IsErrAnd x (λ s. s ≡ r) → j ≡ refused r → residue_reply x ≡ reply_of 0 j
+tells x gives e = let p = err_from_is_err_and x gives in rw (p.1, p.2, e) refl
+
+-- a call on words
+module _ {fits : Bool} (q run first w : ℕ) (is : fits ≡ window_fits q run first w) where
+  pub words-known : done tt ≡ judged (needs Modulus (within 2 largest_modulus q) ∷ needs Size fits ∷ []) → Known q run first w
+  words-known = known [] q run first w (words-early q run first w) is
+
+  pub words-taken : (used : List ℕ) (v : ℕ) → done tt ≡ judged (needs Modulus (within 2 largest_modulus q) ∷ needs Size fits ∷ [])
+      → reply_of 0 (judge (share_tests q used) v) ≡ reply_of 0 (judge (window_tests q run first w ++ share_tests q used) v)
+  words-taken used v e = sym (ap (reply_of 0) (taken [] q run first w (words-early q run first w) is used v e))
+
+  pub words-handed : (used : List ℕ) (v : ℕ) (x : Result ℕ Refusal) {r : Refusal} → IsErrAnd x (λ s. s ≡ r)
+      → refused r ≡ judged (needs Modulus (within 2 largest_modulus q) ∷ needs Size fits ∷ [])
+      → residue_reply x ≡ reply_of 0 (judge (window_tests q run first w ++ share_tests q used) v)
+  words-handed used v x gives e = tells x gives (handed [] q run first w (words-early q run first w) is used v e)
+
+-- a call on bytes, whose words the code counts by their length
+by-words : (q first w : ℕ) (bytes : List ℕ) → window_fits q (length bytes / 4) first w ≡ window_fits q (length (words_of bytes)) first w
 by-words q first w bytes = ap (λ (run : ℕ). window_fits q run first w) (sym (words-length bytes))
+
+module _ {fits : Bool} (q first w : ℕ) (bytes : List ℕ) (is : fits ≡ window_fits q (length bytes / 4) first w) where
+  pub bytes-known : done tt ≡ judged (whole_tests (length bytes) ++ (needs Modulus (within 2 largest_modulus q) ∷ needs Size fits ∷ []))
+      → Known q (length bytes / 4) first w
+  bytes-known = known (whole_tests (length bytes)) q (length bytes / 4) first w (bytes-early (length bytes) q (length bytes / 4) first w) is
+
+  pub bytes-taken : (used : List ℕ) (v : ℕ)
+      → done tt ≡ judged (whole_tests (length bytes) ++ (needs Modulus (within 2 largest_modulus q) ∷ needs Size fits ∷ []))
+      → reply_of 0 (judge (share_tests q used) v)
+      ≡ reply_of 0 (also (whole_tests (length bytes)) (judge (window_tests q (length (words_of bytes)) first w ++ share_tests q used) v))
+  bytes-taken used v e =
+      let run = length (words_of bytes) in
+      let early = bytes-early (length bytes) q run first w in
+      sym (ap (reply_of 0) (also-judge _ _ _ ∙ taken (whole_tests (length bytes)) q run first w early (is ∙ by-words q first w bytes) used v e))
+
+  pub bytes-handed : (used : List ℕ) (v : ℕ) (x : Result ℕ Refusal) {r : Refusal} → IsErrAnd x (λ s. s ≡ r)
+      → refused r ≡ judged (whole_tests (length bytes) ++ (needs Modulus (within 2 largest_modulus q) ∷ needs Size fits ∷ []))
+      → residue_reply x
+      ≡ reply_of 0 (also (whole_tests (length bytes)) (judge (window_tests q (length (words_of bytes)) first w ++ share_tests q used) v))
+  bytes-handed used v x gives e =
+      let run = length (words_of bytes) in
+      let early = bytes-early (length bytes) q run first w in
+      tells x gives (also-judge _ _ _ ∙ handed (whole_tests (length bytes)) q run first w early (is ∙ by-words q first w bytes) used v e)
 
 -- ---- flags
 

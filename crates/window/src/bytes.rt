@@ -1,6 +1,7 @@
 // The entries on bytes (RULES 12.3): the call on the words that the bytes are, and a run that is not whole words is refused.
 //   share_on, next_on   the share of a window, and of the next one
 //   flags_on            a run of flags
+//   Share               an answer, by its number and its share
 ghost use Rattle.std.specs.Prelude.{◌≡◌, [], ◌∷◌, ◌++◌, ℕ, ◌*◌, ◌/◌, ◌%◌, ◌<◌, ◌≤◌, length, take};
 ghost use Rattle.protocol.specs.declared.Refusal.TheVariants.{Modulus, Size, Residue};
 ghost use Rattle.protocol.specs.Judge.{needs, Reply, reply_of, judge};
@@ -14,8 +15,7 @@ ghost use Rattle.window.specs.Entries.{window_share_on, next_window_on, flags_fi
 
 use crate::days::{add_days, move_on};
 use crate::fits::{check_window, next_fits, run_fits, window_fits};
-use field::ResidueAnswer;
-use judging::{Check, need, number_of, worst};
+use judging::{Check, need, worst};
 use protocol::Refusal;
 use vectors::all_below;
 use words::{get_words, word_at};
@@ -28,15 +28,17 @@ pub struct Share {
     pub share: u32,
 }
 
-fn share_of(answer: ResidueAnswer) -> Share
-    ensures { ◌≡◌ {A = Reply ℕ} (record { number = result.number; values = result.share }) (residue_reply answer) }
-{
-    match answer {
-        ResidueAnswer::Taken(share) => Share { number: 0, share },
-        ResidueAnswer::Refused(r) => Share {
-            number: number_of(r),
-            share: 0,
-        },
+impl From<Result<u32, Refusal>> for Share {
+    ghost from_gives = { λ answer s. ◌≡◌ {A = Reply ℕ} (record { number = s.number; values = s.share }) (residue_reply answer) };
+
+    fn from(answer: Result<u32, Refusal>) -> Share {
+        match answer {
+            Ok(share) => Share { number: 0, share },
+            Err(r) => Share {
+                number: u32::from(r),
+                share: 0,
+            },
+        }
     }
 }
 
@@ -50,7 +52,7 @@ fn check_bytes(bytes: usize, q: u32, fits: bool) -> Check
 }
 
 // The first w words of the bytes, added.
-fn add_words(q: u32, w: usize, bytes: &[u8]) -> ResidueAnswer
+fn add_words(q: u32, w: usize, bytes: &[u8]) -> Result<u32, Refusal>
     requires { (0 < q) × (w ≤ 2048) × (w * 4 ≤ length bytes.now) }
     ensures { residue_reply result
         ≡ reply_of 0 (judge (share_tests q (take w (words_of bytes.now))) (sum (take w (words_of bytes.now)) % q)) }
@@ -60,29 +62,36 @@ fn add_words(q: u32, w: usize, bytes: &[u8]) -> ResidueAnswer
     add_days(q, &words[..w])
 }
 
+fn window_share_on(q: u32, shares: &[u8], first: usize, w: usize) -> Result<u32, Refusal>
+    ensures { residue_reply result ≡ reply_of 0 (window_share_on q shares.now first w) }
+{
+    let n = shares.len();
+    check_bytes(n, q, window_fits(q, n / 4, first, w))?;
+    add_words(q, w, &shares[first * 4..])
+}
+
 // The share of the window of w days from day `first` on.
 pub fn share_on(q: u32, shares: &[u8], first: usize, w: usize) -> Share
     ensures { ◌≡◌ {A = Reply ℕ} (record { number = result.number; values = result.share }) (reply_of 0 (window_share_on q shares.now first w)) }
 {
-    let n = shares.len();
-    match check_bytes(n, q, window_fits(q, n / 4, first, w)) {
-        Check::Passed => share_of(add_words(q, w, &shares[first * 4..])),
-        Check::Refused(r) => share_of(ResidueAnswer::Refused(r)),
-    }
+    Share::from(window_share_on(q, shares, first, w))
 }
 
-// The share of the window that begins a day after `first`, from that of the window before it: eight bytes of the run are looked at.
+// Eight bytes of the run are looked at.
+fn next_window_on(q: u32, shares: &[u8], first: usize, w: usize, share: u32) -> Result<u32, Refusal>
+    ensures { residue_reply result ≡ reply_of 0 (next_window_on q shares.now first w share) }
+{
+    let n = shares.len();
+    check_bytes(n, q, next_fits(q, n / 4, first, w))?;
+    let new = word_at(shares, (first + w) * 4);
+    move_on(q, share, new, word_at(shares, first * 4))
+}
+
+// The share of the window that begins a day after `first`, from that of the window before it.
 pub fn next_on(q: u32, shares: &[u8], first: usize, w: usize, share: u32) -> Share
     ensures { ◌≡◌ {A = Reply ℕ} (record { number = result.number; values = result.share }) (reply_of 0 (next_window_on q shares.now first w share)) }
 {
-    let n = shares.len();
-    match check_bytes(n, q, next_fits(q, n / 4, first, w)) {
-        Check::Passed => {
-            let new = word_at(shares, (first + w) * 4);
-            share_of(move_on(q, share, new, word_at(shares, first * 4)))
-        }
-        Check::Refused(r) => share_of(ResidueAnswer::Refused(r)),
-    }
+    Share::from(next_window_on(q, shares, first, w, share))
 }
 
 // Whole words, of which there are 1 to 2,048.
@@ -107,19 +116,17 @@ fn check_all_flags(flags: &[u8]) -> Check
     ensures { checked result ≡ flags_fit_on flags.now }
 {
     let n = flags.len();
-    let run = check_run(n);
-    let Check::Passed = run else {
-        return run;
-    };
+    check_run(n)?;
     check_flags(n / 4, flags)
 }
 
 // 0 for a run of flags; else the lowest number that applies.
+#[tactic(auto, unfolding(crate::specs::Entries::flags_number))]
 pub fn flags_on(flags: &[u8]) -> u32
     ensures { result ≡ flags_number flags.now }
 {
     match check_all_flags(flags) {
-        Check::Passed => 0,
-        Check::Refused(r) => number_of(r),
+        Ok(()) => 0,
+        Err(r) => u32::from(r),
     }
 }

@@ -2,46 +2,41 @@
 //   add_days   their sum modulo q
 //   move_on    a share, with one day more and one less
 ghost use Rattle.std.specs.Prelude.{◌≡◌, [], ◌∷◌, ◌%◌, ◌<◌, ◌≤◌, length};
+ghost use Rattle.std.specs.List.{sum as plain_sum};
 ghost use Rattle.protocol.specs.Judge.{reply_of, judge};
 ghost use Rattle.protocol.specs.Window.{sum, share_tests, moved};
 ghost use Rattle.field.specs.Field.{residue_reply};
 
-use field::ResidueAnswer;
 use protocol::Refusal;
 use reduction::reduce_once;
 use vectors::all_below;
 
 fn total(days: &[u32]) -> u64
     requires { length days.now ≤ 2048 }
-    ensures { result ≡ sum days.now }
+    ensures { result ≡ plain_sum days.now }
 {
-    let n = days.len();
-    let mut total: u64 = 0;
-    for i in 0..n {
-        total = total + days[i] as u64;
-    }
-    total
+    days.iter().map(|&day| u64::from(day)).sum()
 }
 
-pub fn add_days(q: u32, days: &[u32]) -> ResidueAnswer
+pub fn add_days(q: u32, days: &[u32]) -> Result<u32, Refusal>
     requires { (0 < q) × (length days.now ≤ 2048) }
     ensures { residue_reply result ≡ reply_of 0 (judge (share_tests q days.now) (sum days.now % q)) }
 {
     if !all_below(q, days) {
-        return ResidueAnswer::Refused(Refusal::Residue);
+        return Err(Refusal::Residue);
     }
-    ResidueAnswer::Taken((total(days) % (q as u64)) as u32)
+    Ok((total(days) % u64::from(q)) as u32)
 }
 
 // Day shares are secret: one flag is gathered of all three words and branched on once, and nothing else is chosen by them.
-pub fn move_on(q: u32, share: u32, new: u32, oldest: u32) -> ResidueAnswer
+pub fn move_on(q: u32, share: u32, new: u32, oldest: u32) -> Result<u32, Refusal>
     requires { q < 2147483648 }
     ensures { residue_reply result ≡ reply_of 0 (judge (share_tests q (share ∷ new ∷ oldest ∷ [])) (moved q share new oldest)) }
 {
     let used = [share, new, oldest];
     if !all_below(q, &used) {
-        return ResidueAnswer::Refused(Refusal::Residue);
+        return Err(Refusal::Residue);
     }
     let sum = reduce_once(share + new, q);
-    ResidueAnswer::Taken(reduce_once(sum + (q - oldest), q))
+    Ok(reduce_once(sum + (q - oldest), q))
 }

@@ -17,30 +17,31 @@ ghost use Rattle.judging.specs.InOrder.{checked};
 
 pub use bytes::{Share, flags_on, next_on, share_on};
 use days::{add_days, move_on};
-use field::ResidueAnswer;
 use fits::{check_window, next_fits, run_fits, window_fits};
 use judging::{Check, need, worst};
 use protocol::Refusal;
 use vectors::all_below;
 
 // The share of the window of w days from day `first` on.
-pub fn window_share(q: u32, shares: &[u32], first: usize, w: usize) -> ResidueAnswer
+pub fn window_share(q: u32, shares: &[u32], first: usize, w: usize) -> Result<u32, Refusal>
     ensures { residue_reply result ≡ reply_of 0 (window_share q shares.now first w) }
 {
-    match check_window(q, window_fits(q, shares.len(), first, w)) {
-        Check::Passed => add_days(q, &shares[first..first + w]),
-        Check::Refused(r) => ResidueAnswer::Refused(r),
-    }
+    check_window(q, window_fits(q, shares.len(), first, w))?;
+    add_days(q, &shares[first..first + w])
 }
 
 // The share of the window that begins a day after `first`, from that of the window before it: two days are looked at.
-pub fn next_window(q: u32, shares: &[u32], first: usize, w: usize, share: u32) -> ResidueAnswer
+pub fn next_window(
+    q: u32,
+    shares: &[u32],
+    first: usize,
+    w: usize,
+    share: u32,
+) -> Result<u32, Refusal>
     ensures { residue_reply result ≡ reply_of 0 (next_window q shares.now first w share) }
 {
-    match check_window(q, next_fits(q, shares.len(), first, w)) {
-        Check::Passed => move_on(q, share, shares[first + w], shares[first]),
-        Check::Refused(r) => ResidueAnswer::Refused(r),
-    }
+    check_window(q, next_fits(q, shares.len(), first, w))?;
+    move_on(q, share, shares[first + w], shares[first])
 }
 
 // A run of flags: 1 for a day that was missed, 0 for any other.

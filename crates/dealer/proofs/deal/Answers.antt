@@ -21,7 +21,7 @@ returns-in_err-check c =
 pub overflow_mul-from : goal.overflow_mul-from
 overflow_mul-from c =
     let a = c.args in
-    let k = deal-known _ a.t _ _ _ _ _ (sym c.in_ok-check.ensures) in
+    let k = deal-known _ a.t _ _ _ _ _ c.in_ok-check.ensures in
     let i = k.first-inside in
     let j = k.second-inside in
     search rules
@@ -29,7 +29,7 @@ overflow_mul-from c =
 pub overflow_add-stop : goal.overflow_add-stop
 overflow_add-stop c =
     let a = c.args in
-    let k = deal-known _ a.t _ _ _ _ _ (sym c.in_ok-check.ensures) in
+    let k = deal-known _ a.t _ _ _ _ _ c.in_ok-check.ensures in
     let i = k.first-inside in
     let j = k.second-inside in
     search rules
@@ -37,7 +37,7 @@ overflow_add-stop c =
 pub offset_bounds-first-from : goal.offset_bounds-first-from
 offset_bounds-first-from c =
     let a = c.args in
-    let k = deal-known _ a.t _ _ _ _ _ (sym c.in_ok-check.ensures) in
+    let k = deal-known _ a.t _ _ _ _ _ c.in_ok-check.ensures in
     let i = k.first-inside in
     let j = k.second-inside in
     search rules
@@ -45,7 +45,7 @@ offset_bounds-first-from c =
 pub slice_bounds-write_halves-end : goal.slice_bounds-write_halves-end
 slice_bounds-write_halves-end c =
     let a = c.args in
-    let k = deal-known _ a.t _ _ _ _ _ (sym c.in_ok-check.ensures) in
+    let k = deal-known _ a.t _ _ _ _ _ c.in_ok-check.ensures in
     let i = k.first-inside in
     let j = k.second-inside in
     search rules
@@ -53,7 +53,7 @@ slice_bounds-write_halves-end c =
 pub offset_bounds-second-from : goal.offset_bounds-second-from
 offset_bounds-second-from c =
     let a = c.args in
-    let k = deal-known _ a.t _ _ _ _ _ (sym c.in_ok-check.ensures) in
+    let k = deal-known _ a.t _ _ _ _ _ c.in_ok-check.ensures in
     let i = k.first-inside in
     let j = k.second-inside in
     search rules
@@ -61,7 +61,7 @@ offset_bounds-second-from c =
 pub slice_bounds-write_halves-end-2 : goal.slice_bounds-write_halves-end-2
 slice_bounds-write_halves-end-2 c =
     let a = c.args in
-    let k = deal-known _ a.t _ _ _ _ _ (sym c.in_ok-check.ensures) in
+    let k = deal-known _ a.t _ _ _ _ _ c.in_ok-check.ensures in
     let i = k.first-inside in
     let j = k.second-inside in
     search rules
@@ -69,7 +69,7 @@ slice_bounds-write_halves-end-2 c =
 pub write_halves-read-requires : goal.write_halves-read-requires
 write_halves-read-requires c =
     let a = c.args in
-    let k = deal-known _ a.t _ _ _ _ _ (sym c.in_ok-check.ensures) in
+    let k = deal-known _ a.t _ _ _ _ _ c.in_ok-check.ensures in
     let first = slot-part-length a.first.now a.at.size a.at.index k.first-inside in
     let second = slot-part-length a.second.now a.at.size a.at.index k.second-inside in
     let r = k.room in
@@ -86,7 +86,7 @@ returns c =
     let far = c in
     let a = far.args in
     let write-halves = c.write_halves-read in
-    let k = deal-known _ a.t _ _ _ _ _ (sym c.in_ok-check.ensures) in
+    let k = deal-known _ a.t _ _ _ _ _ c.in_ok-check.ensures in
     let e = write-halves.ensures in
     let first = slot-part-length a.first.now a.at.size a.at.index k.first-inside in
     let second = slot-part-length a.second.now a.at.size a.at.index k.second-inside in

@@ -10,16 +10,12 @@ use Rattle.decimal.specs.Writing.{line_before}
 use Rattle.decimal.proofs.put_numbers.Goals as goal
 
 pub loop-j-init : goal.loop-j-init
-loop-j-init c = let p = c.requires in (refl, refl, refl, omega arith, p.0, p.1)
+loop-j-init c = record { contents = refl; place = refl }
 
 pub put_number-p-requires : goal.put_number-p-requires
 put_number-p-requires c =
     let a = c.args in
-    let more = a.more in
-    let xs = a.xs.now in
-    let l = c.loop-j in
-    let h = c.loop-j-test.true in
-    omega (arith, before-length-step more xs l.j h)
+    omega (arith, before-length-step a.more a.xs.now c.loop-j.j c.loop-j-test.true)
 
 pub loop-j-preserved : goal.loop-j-preserved
 loop-j-preserved c =
@@ -27,21 +23,18 @@ loop-j-preserved c =
     let more = a.more in
     let xs = a.xs.now in
     let l = c.loop-j in
-    let h = c.loop-j-test.true in (
-      ap₂ (λ (d : List ℕ) (k : ℕ). sets d k (line_before more (drop (l.j + 1) xs))) c.put_number-p.ensures.contents
+    let h = c.loop-j-test.true in
+    record {
+      contents = ap₂ (λ (d : List ℕ) (k : ℕ). sets d k (line_before more (drop (l.j + 1) xs))) c.put_number-p.ensures.contents
           c.put_number-p.ensures.place ∙ part-turn more l.out xs l.p l.j _ h c.end_byte.ensures
-          ∙ l.invariant.0,
-      omega (arith, before-length-step more xs l.j h),
-      omega arith,
-      omega arith,
-      l.invariant.4,
-      l.invariant.5,
-    )
+          ∙ l.invariant.contents;
+      place = omega (arith, before-length-step more xs l.j h);
+    }
 
 pub returns : goal.returns
 returns c =
     let a = c.args in
     let none = before-none a.more a.xs.now c.loop-j.j c.loop-j-test.false in record {
       place = omega (arith, ap length none);
-      contents = rw none at c.loop-j.invariant.0;
+      contents = rw none at c.loop-j.invariant.contents;
     }

@@ -1,8 +1,11 @@
 -- `drawing::collect` meets its contract: both of its ways do. Assumes nothing.
+use mathlib.Core.Path.{refl}
+use borrow.Author.Rules.{rules}
 use Prim.Native.Nat.{◌≤◌}
 use native.Mathlib.Omega.{arith}
 use lib.ListN.{length}
 use Rattle.drawing.proofs.Turns.{residues-few, kept_read, kept-collected}
+use Rattle.drawing.proofs.Sifting.{sifted-collected}
 use Rattle.drawing.proofs.collect.Goals as goal
 
 pub all_kept-requires : goal.all_kept-requires
@@ -25,3 +28,9 @@ returns-then-all_kept c =
       collected = kept-collected a.q a.n a.words.now a.out.now fits start.requires.2 all
           c.write_copy.ensures;
     }
+
+pub returns-clause-collected : goal.returns-clause-collected
+returns-clause-collected c =
+    let a = c.args in
+    let s = c.sift_each.ensures a.words.now refl (λ i w h e. search rules) in
+    sifted-collected a.q a.n a.words.now a.out.now _ _ s c.requires.1 (search rules)

@@ -4,9 +4,9 @@ use mathlib.Core.List.{List}
 use Prim.Native.Nat.{ℕ}
 use native.Mathlib.Omega.{arith}
 use lib.ListN.{drop}
+use lib.Seq.{sets}
 use Rattle.algebra.specs.Words.{over}
-use Rattle.protocol.specs.Line.{numbers_of}
-use Rattle.decimal.proofs.Entry.{tallied, stored-behind, sets_over}
+use Rattle.decimal.proofs.Entry.{before-all, sets_over}
 use Rattle.line.proofs.Words.{all-residues}
 use Rattle.line.proofs.store.Goals as goal
 
@@ -22,6 +22,6 @@ returns-then-count-le3072 c =
 
 pub returns : goal.returns
 returns c =
-    let load = c.load_behind in
-    λ h l. stored-behind 7 (numbers_of _) l.values _ _ load.result l.reads (tallied 7 _ _ _ _ load.ensures.answered load.ensures.contents)
+    let a = c.args in
+    λ h l. c.load_behind.ensures.contents ∙ ap (λ (xs : List ℕ). sets a.out.now 0 (drop 7 xs)) (before-all a.s.now l.values l.reads)
     ∙ sets_over (drop 7 l.values) _ (omega (arith, l.count))

@@ -2,29 +2,28 @@
 use mathlib.Core.Path.{refl, sym, ap, ◌∙◌}
 use Prim.Native.Nat.{ℕ}
 use lib.ListN.{length}
+use Rattle.std.specs.Prelude.{Ok}
 use Rattle.protocol.specs.Message.{message_with, message_tests}
 use Rattle.protocol.specs.Line.{message_line, write_tests, write_into}
-use Rattle.judging.specs.InOrder.{checked}
 use Rattle.judging.proofs.InOrder.{refused-by, accepted-by}
-use Rattle.line.specs.declared.Written.TheVariants as written
-use Rattle.line.specs.Entries.{written_by, written_reply}
+use Rattle.decimal.proofs.Exits.{err-exit}
+use Rattle.line.specs.Entries.{written_reply}
 use Rattle.line.proofs.Fits.{message-few, has_room}
 use Rattle.line.proofs.write.Goals as goal
 
-pub returns-in_default : goal.returns-in_default
+pub returns-in_err-check_write : goal.returns-in_err-check_write
 unfolding write_into
-returns-in_default c =
+returns-in_err-check_write c =
     let a = c.args in
     let m = message_with a.h a.residues.now in
-    let k = c.in_default.is in
-    rw (refused-by (write_tests (length a.out.now) m) (message_line m) (sym c.check_write-check.ensures ∙ ap checked k))
-    (record { answered = ap written_reply (c.unwritten.ensures ∙ ap written_by k); contents = refl })
+    rw (err-exit c.from_residual.result c.from_residual.ensures.1, refused-by (write_tests (length a.out.now) m) (message_line m) (sym c.in_err-check_write.ensures))
+    (record { answered = refl; contents = refl })
 
-pub put_message-n-requires : goal.put_message-n-requires
-put_message-n-requires c =
+pub put_message-requires : goal.put_message-requires
+put_message-requires c =
     let a = c.args in
     let m = message_with a.h a.residues.now in
-    let e = sym c.check_write-check.ensures ∙ ap checked c.in-Passed.is in
+    let e = sym c.in_ok-check_write.ensures in
     let o = has_room (message_tests m) (length (message_line m)) (length a.out.now) e in
     (message-few m o.0, o.1)
 
@@ -33,8 +32,7 @@ unfolding write_into
 returns c =
     let a = c.args in
     let m = message_with a.h a.residues.now in
-    let put = c.put_message-n.ensures in
-    let check = c.check_write-check in
-    let e = sym check.ensures ∙ ap checked c.in-Passed.is in
+    let put = c.put_message.ensures in
+    let e = sym c.in_ok-check_write.ensures in
     rw (accepted-by (write_tests (length a.out.now) m) (message_line m) e)
-    (record { answered = ap (λ (n : ℕ). written_reply (written.Bytes n)) put.place; contents = put.contents })
+    (record { answered = ap (λ (n : ℕ). written_reply (Ok n)) put.place; contents = put.contents })

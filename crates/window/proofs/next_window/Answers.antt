@@ -1,63 +1,43 @@
 -- `window::next_window` meets its contract: numbers, and then the move. Assumes nothing.
-use mathlib.Core.Path.{sym, ap, ◌∙◌}
-use mathlib.Core.List.{[]}
+use mathlib.Core.Path.{◌∙◌}
 use native.Mathlib.Omega.{arith}
-use Rattle.protocol.specs.Judge.{reply_of}
 use Rattle.protocol.specs.Window.{next_window}
-use Rattle.window.proofs.Phases.{words-early, known, taken, handed}
+use Rattle.window.proofs.Phases.{words-known, words-taken, words-handed}
 use Rattle.window.proofs.next_window.Goals as goal
+
+pub returns-in_err-check_window : goal.returns-in_err-check_window
+unfolding next_window
+returns-in_err-check_window c =
+    words-handed _ _ _ _ c.next_fits.ensures _ _ c.from_residual.result c.from_residual.ensures.1 c.in_err-check_window.ensures
 
 pub overflow_add-first : goal.overflow_add-first
 overflow_add-first c =
-    let check = c.check_window in
-    let is = c.next_fits.ensures in
-    let k = (known [] check.result _ _ _ _ (words-early _ _ _ _) check.ensures is c.in-Passed.is).fits in
+    let k = (words-known _ _ _ _ c.next_fits.ensures c.in_ok-check_window.ensures).fits in
     omega (arith, k.ends, k.run-bound, k.some-window)
 
 pub offset_bounds-shares-first : goal.offset_bounds-shares-first
 offset_bounds-shares-first c =
-    let check = c.check_window in
-    let is = c.next_fits.ensures in
-    let k = (known [] check.result _ _ _ _ (words-early _ _ _ _) check.ensures is c.in-Passed.is).fits in
+    let k = (words-known _ _ _ _ c.next_fits.ensures c.in_ok-check_window.ensures).fits in
     omega (arith, k.ends, k.run-bound, k.some-window)
 
 pub bounds-shares-first : goal.bounds-shares-first
 bounds-shares-first c =
-    let check = c.check_window in
-    let is = c.next_fits.ensures in
-    let k = (known [] check.result _ _ _ _ (words-early _ _ _ _) check.ensures is c.in-Passed.is).fits in
+    let k = (words-known _ _ _ _ c.next_fits.ensures c.in_ok-check_window.ensures).fits in
     omega (arith, k.ends, k.run-bound, k.some-window)
 
-pub offset_bounds-shares-first-in-Passed : goal.offset_bounds-shares-first-in-Passed
-offset_bounds-shares-first-in-Passed c =
-    let check = c.check_window in
-    let is = c.next_fits.ensures in
-    let k = (known [] check.result _ _ _ _ (words-early _ _ _ _) check.ensures is c.in-Passed.is).fits in
+pub offset_bounds-shares-first-2 : goal.offset_bounds-shares-first-2
+offset_bounds-shares-first-2 c =
+    let k = (words-known _ _ _ _ c.next_fits.ensures c.in_ok-check_window.ensures).fits in
     omega (arith, k.ends, k.run-bound, k.some-window)
 
-pub bounds-shares-first-in-Passed : goal.bounds-shares-first-in-Passed
-bounds-shares-first-in-Passed c =
-    let check = c.check_window in
-    let is = c.next_fits.ensures in
-    let k = (known [] check.result _ _ _ _ (words-early _ _ _ _) check.ensures is c.in-Passed.is).fits in
+pub bounds-shares-first-2 : goal.bounds-shares-first-2
+bounds-shares-first-2 c =
+    let k = (words-known _ _ _ _ c.next_fits.ensures c.in_ok-check_window.ensures).fits in
     omega (arith, k.ends, k.run-bound, k.some-window)
 
 pub move_on-requires : goal.move_on-requires
-move_on-requires c =
-    let check = c.check_window in
-    let is = c.next_fits.ensures in
-    (known [] check.result _ _ _ _ (words-early _ _ _ _) check.ensures is c.in-Passed.is).small-q
+move_on-requires c = (words-known _ _ _ _ c.next_fits.ensures c.in_ok-check_window.ensures).small-q
 
-pub returns-in-Passed : goal.returns-in-Passed
+pub returns : goal.returns
 unfolding next_window
-returns-in-Passed c =
-    let check = c.check_window in
-    let is = c.next_fits.ensures in
-    c.move_on.ensures ∙ sym (ap (reply_of 0) (taken [] check.result _ _ _ _ (words-early _ _ _ _) check.ensures is _ _ c.in-Passed.is))
-
-pub returns-in-Refused : goal.returns-in-Refused
-unfolding next_window
-returns-in-Refused c =
-    let check = c.check_window in
-    let is = c.next_fits.ensures in
-    sym (ap (reply_of 0) (handed [] check.result _ _ _ _ (words-early _ _ _ _) check.ensures is _ _ _ c.in-Refused.is))
+returns c = c.move_on.ensures ∙ words-taken _ _ _ _ c.next_fits.ensures _ _ c.in_ok-check_window.ensures

@@ -13,7 +13,9 @@ returns-in_err-check_numbers c =
     ∙ sym (deal-phases (sort a.s) a.t a.first.now a.second.now a.at.size a.at.index a.words.now c.requires)
 
 pub check_words-requires : goal.check_words-requires
-check_words-requires c = numbers_fit (sort c.args.s) c.args.t _ _ _ _ (sym c.in_ok-check_numbers.ensures)
+check_words-requires c =
+    let a = c.args in
+    numbers_fit (sort a.s) a.t _ _ _ _ c.in_ok-check_numbers.ensures
 
 pub returns : goal.returns
 returns c =

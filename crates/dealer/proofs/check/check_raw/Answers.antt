@@ -15,7 +15,7 @@ returns-in_err-check_coins c =
 pub check_mask-requires : goal.check_mask-requires
 check_mask-requires c =
     let a = c.args in
-    (c.requires, coins-enough a.t.q _ a.words.now (sym (rw c.draw_count.ensures at c.in_ok-check_coins.ensures)))
+    (c.requires, coins-enough a.t.q _ a.words.now (rw c.draw_count.ensures at c.in_ok-check_coins.ensures))
 
 pub returns : goal.returns
 returns c =

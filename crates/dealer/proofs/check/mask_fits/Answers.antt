@@ -29,7 +29,7 @@ has_inverse_at-requires c =
     let t = a.t in
     let n = masks_count t.m t.k t.p in
     let told = rw c.masks_count.ensures at c.read.ensures in
-    let here = (enough-many t.q n a.words.now (sym told ∙ c.in-Enough.is)).1 in (
+    let here = (enough-many t.q n a.words.now (sym told ∙ c.in-Some.is)).1 in (
       prime-of h.0,
       unknowns-of h.0,
       next-inside t.q n a.words.now _ here,
@@ -43,6 +43,6 @@ returns c =
     let t = a.t in
     let n = masks_count t.m t.k t.p in
     let told = rw c.masks_count.ensures at c.read.ensures in
-    let here = (enough-many t.q n a.words.now (sym told ∙ c.in-Enough.is)).1 in
+    let here = (enough-many t.q n a.words.now (sym told ∙ c.in-Some.is)).1 in
     let many = enough-masks system t.m t.k t.p h.1 in
     c.has_inverse_at.ensures ∙ ap (regular t.q t.m) (mask-part t a.words.now (square h.0) here many)

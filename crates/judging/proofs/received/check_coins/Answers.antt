@@ -6,14 +6,14 @@ use Rattle.judging.proofs.Join.{judged-true, judged-false}
 use Rattle.drawing.proofs.Then.{dry-few, enough-many}
 use Rattle.judging.proofs.received.check_coins.Goals as goal
 
-pub returns-in-Enough : goal.returns-in-Enough
+pub returns-in-Some : goal.returns-in-Some
 unfolding draw_tests
-returns-in-Enough c =
+returns-in-Some c =
     let a = c.args in
-    judged-true Dry (enough-many a.q a.n a.words.now (sym c.read.ensures ∙ c.in-Enough.is)).0
+    judged-true Dry (enough-many a.q a.n a.words.now (sym c.read.ensures ∙ c.in-Some.is)).0
 
-pub returns-in-Dry : goal.returns-in-Dry
+pub returns-in-None : goal.returns-in-None
 unfolding draw_tests
-returns-in-Dry c =
+returns-in-None c =
     let a = c.args in
-    judged-false Dry (dry-few a.q a.n a.words.now (sym c.read.ensures ∙ c.in-Dry.is))
+    judged-false Dry (dry-few a.q a.n a.words.now (sym c.read.ensures ∙ c.in-None.is))

@@ -1,13 +1,11 @@
 -- `tape::header::is_free` meets its contract. Assumes nothing.
-use borrow.Author.Tests.{ne_eqb, eq-eqb}
-use Rattle.protocol.specs.Tape.{status_of}
 use Rattle.protocol.specs.Deal.{is_free}
 use Rattle.tape.proofs.header.is_free.Goals as goal
 
-pub returns-then-status-eq-EMPTY : goal.returns-then-status-eq-EMPTY
-unfolding is_free status_of
-returns-then-status-eq-EMPTY c = simp (eq-eqb _ _ c.if-status-eq-EMPTY.true)
+pub returns-then-status_is : goal.returns-then-status_is
+unfolding is_free
+returns-then-status_is c = rw (← c.status_is.ensures, c.if-status_is.true)
 
-pub returns : goal.returns
-unfolding is_free status_of
-returns c = simp (ne_eqb _ _ c.if-status-eq-EMPTY.false)
+pub returns-else-status_is : goal.returns-else-status_is
+unfolding is_free
+returns-else-status_is c = rw (← c.status_is.ensures, c.if-status_is.false, c.status_is-else-status_is.ensures)

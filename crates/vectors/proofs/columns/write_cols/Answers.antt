@@ -1,7 +1,7 @@
 -- `vectors::columns::write_cols` meets its contract. Assumes nothing.
 use mathlib.Core.Path.{◌≡◌, refl, ap, ◌∙◌}
 use mathlib.Core.List.{List, ◌++◌}
-use Prim.Native.Nat.{ℕ, ◌+◌, ◌*◌, ◌-◌}
+use Prim.Native.Nat.{ℕ, ◌+◌, ◌*◌}
 use native.Mathlib.Omega.{arith}
 use borrow.Author.Rules.{rules}
 use Rattle.vectors.proofs.Rows.{row_fits, cols-none, cols-next}
@@ -14,90 +14,6 @@ use Rattle.vectors.proofs.columns.write_cols.Goals as goal
 
 pub loop-i-init : goal.loop-i-init
 loop-i-init c = (search rules, cols-none _ _ _ _ _, refl)
-
-pub overflow_mul-from : goal.overflow_mul-from
-overflow_mul-from c =
-    let a = c.args in
-    let f = row_fits c.loop-i.i a.m a.w c.loop-i-test.true in
-    let g = row_fits c.loop-i.i a.m a.p c.loop-i-test.true in
-    search rules
-
-pub overflow_add-from : goal.overflow_add-from
-overflow_add-from c =
-    let a = c.args in
-    let f = row_fits c.loop-i.i a.m a.w c.loop-i-test.true in
-    let g = row_fits c.loop-i.i a.m a.p c.loop-i-test.true in
-    search rules
-
-pub overflow_mul-to : goal.overflow_mul-to
-overflow_mul-to c =
-    let a = c.args in
-    let f = row_fits c.loop-i.i a.m a.w c.loop-i-test.true in
-    let g = row_fits c.loop-i.i a.m a.p c.loop-i-test.true in
-    search rules
-
-pub offset_bounds-a-from : goal.offset_bounds-a-from
-offset_bounds-a-from c =
-    let a = c.args in
-    let f = row_fits c.loop-i.i a.m a.w c.loop-i-test.true in
-    let g = row_fits c.loop-i.i a.m a.p c.loop-i-test.true in
-    search rules
-
-pub slice_bounds-write_copy-count : goal.slice_bounds-write_copy-count
-slice_bounds-write_copy-count c =
-    let a = c.args in
-    let f = row_fits c.loop-i.i a.m a.w c.loop-i-test.true in
-    let g = row_fits c.loop-i.i a.m a.p c.loop-i-test.true in
-    search rules
-
-pub slice_bounds-write_copy-start : goal.slice_bounds-write_copy-start
-slice_bounds-write_copy-start c =
-    let a = c.args in
-    let f = row_fits c.loop-i.i a.m a.w c.loop-i-test.true in
-    let g = row_fits c.loop-i.i a.m a.p c.loop-i-test.true in
-    search rules
-
-pub slice_bounds-write_copy-end : goal.slice_bounds-write_copy-end
-slice_bounds-write_copy-end c =
-    let a = c.args in
-    let f = row_fits c.loop-i.i a.m a.w c.loop-i-test.true in
-    let g = row_fits c.loop-i.i a.m a.p c.loop-i-test.true in
-    search rules
-
-pub offset_bounds-out-to : goal.offset_bounds-out-to
-offset_bounds-out-to c =
-    let a = c.args in
-    let f = row_fits c.loop-i.i a.m a.w c.loop-i-test.true in
-    let g = row_fits c.loop-i.i a.m a.p c.loop-i-test.true in
-    search rules
-
-pub slice_bounds-write_copy-count-in-loop-i : goal.slice_bounds-write_copy-count-in-loop-i
-slice_bounds-write_copy-count-in-loop-i c =
-    let a = c.args in
-    let f = row_fits c.loop-i.i a.m a.w c.loop-i-test.true in
-    let g = row_fits c.loop-i.i a.m a.p c.loop-i-test.true in
-    search rules
-
-pub slice_bounds-write_copy-start-in-loop-i : goal.slice_bounds-write_copy-start-in-loop-i
-slice_bounds-write_copy-start-in-loop-i c =
-    let a = c.args in
-    let f = row_fits c.loop-i.i a.m a.w c.loop-i-test.true in
-    let g = row_fits c.loop-i.i a.m a.p c.loop-i-test.true in
-    search rules
-
-pub slice_bounds-write_copy-end-in-loop-i : goal.slice_bounds-write_copy-end-in-loop-i
-slice_bounds-write_copy-end-in-loop-i c =
-    let a = c.args in
-    let f = row_fits c.loop-i.i a.m a.w c.loop-i-test.true in
-    let g = row_fits c.loop-i.i a.m a.p c.loop-i-test.true in
-    search rules
-
-pub write_copy-requires : goal.write_copy-requires
-write_copy-requires c =
-    let a = c.args in
-    let f = row_fits c.loop-i.i a.m a.w c.loop-i-test.true in
-    let g = row_fits c.loop-i.i a.m a.p c.loop-i-test.true in
-    search rules
 
 pub loop-i-preserved : goal.loop-i-preserved
 loop-i-preserved c =

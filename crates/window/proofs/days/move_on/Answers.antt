@@ -1,56 +1,37 @@
 -- `window::days::move_on` meets its contract: three residues, and then the move. Assumes nothing.
 use mathlib.Core.Path.{sym, ap, ◌∙◌}
-use Prim.Native.Nat.{ℕ, ◌+◌, ◌-◌, ◌%◌, ◌<◌}
-use native.Mathlib.Nat.{mod-lt, mod-eq_of_lt}
+use Prim.Native.Nat.{ℕ, ◌+◌, ◌-◌, ◌%◌}
+use native.Mathlib.Nat.{mod-eq_of_lt}
 use native.Mathlib.Omega.{arith}
 use Rattle.algebra.specs.Residue.{add_mod, sub_mod}
 use Rattle.protocol.specs.Window.{moved}
-use Rattle.judging.proofs.Flags.{fails, holds}
 use Rattle.window.proofs.Phases.{days-refused, days-taken, three-below}
 use Rattle.window.proofs.days.move_on.Goals as goal
 
 pub returns-then-not-all_below : goal.returns-then-not-all_below
-returns-then-not-all_below c = sym (days-refused _ _ _ (fails c.all_below.ensures c.if-not-all_below.true))
+returns-then-not-all_below c = sym (days-refused _ _ _ (sym c.if-not-all_below.ensures))
 
 pub overflow_add-share : goal.overflow_add-share
-overflow_add-share c =
-    let a = c.args in
-    let low = three-below a.q a.share a.new a.oldest (holds c.all_below.ensures c.if-not-all_below.false) in
-    omega (arith, low.0, low.1, c.requires)
+overflow_add-share c = let low = three-below _ _ _ _ (sym c.if-not-all_below.ensures) in omega (arith, low)
 
 pub reduce_once-sum-requires : goal.reduce_once-sum-requires
-reduce_once-sum-requires c =
-    let a = c.args in
-    let low = three-below a.q a.share a.new a.oldest (holds c.all_below.ensures c.if-not-all_below.false) in
-    (omega (arith, low.0, low.1), c.requires)
+reduce_once-sum-requires c = let low = three-below _ _ _ _ (sym c.if-not-all_below.ensures) in (omega (arith, low), c.requires)
 
 pub overflow_sub-q : goal.overflow_sub-q
-overflow_sub-q c =
-    let a = c.args in
-    let low = three-below a.q a.share a.new a.oldest (holds c.all_below.ensures c.if-not-all_below.false) in
-    omega (arith, low.2)
+overflow_sub-q c = let low = three-below _ _ _ _ (sym c.if-not-all_below.ensures) in omega (arith, low)
 
 pub overflow_add-sum : goal.overflow_add-sum
-overflow_add-sum c =
-    let a = c.args in
-    let low = three-below a.q a.share a.new a.oldest (holds c.all_below.ensures c.if-not-all_below.false) in
-    let some : 0 < a.q = omega (arith, low.2) in
-    omega (arith, mod-lt (a.share + a.new) some, c.reduce_once-sum.ensures, c.requires, low.2)
+overflow_add-sum c = let low = three-below _ _ _ _ (sym c.if-not-all_below.ensures) in omega (arith, low)
 
 pub reduce_once-requires : goal.reduce_once-requires
-reduce_once-requires c =
-    let a = c.args in
-    let low = three-below a.q a.share a.new a.oldest (holds c.all_below.ensures c.if-not-all_below.false) in
-    let some : 0 < a.q = omega (arith, low.2) in
-    (omega (arith, mod-lt (a.share + a.new) some, c.reduce_once-sum.ensures, low.2), c.requires)
+reduce_once-requires c = let low = three-below _ _ _ _ (sym c.if-not-all_below.ensures) in (omega (arith, low), c.requires)
 
 pub returns : goal.returns
 unfolding moved add_mod sub_mod
 returns c =
     let a = c.args in
-    let low = three-below a.q a.share a.new a.oldest (holds c.all_below.ensures c.if-not-all_below.false) in
+    let low = three-below _ _ _ _ (sym c.if-not-all_below.ensures) in
     let is = c.reduce_once.ensures ∙ ap (λ (s : ℕ). (s + (a.q - a.oldest)) % a.q) c.reduce_once-sum.ensures
     ∙ ap (λ (o : ℕ). ((a.share + a.new) % a.q + (a.q - o)) % a.q) (sym (mod-eq_of_lt low.2))
     in
-    ap (λ (v : ℕ). record { number = 0; values = v }) is
-    ∙ sym (days-taken a.q _ _ (holds c.all_below.ensures c.if-not-all_below.false))
+    ap (λ (v : ℕ). record { number = 0; values = v }) is ∙ sym (days-taken _ _ _ (sym c.if-not-all_below.ensures))

@@ -1,13 +1,13 @@
 -- `window::fits::next_fits` meets its contract: how long it is, and then where it begins. Assumes nothing.
-use Rattle.judging.proofs.Flags.{fails, holds}
+use mathlib.Core.Path.{sym, ◌∙◌}
 use Rattle.window.proofs.Numbers.{length-fails, length-known, next_known}
 use Rattle.window.proofs.fits.next_fits.Goals as goal
 
-pub returns-then-not-length_fits : goal.returns-then-not-length_fits
-returns-then-not-length_fits c = rw (length-fails _ _ _ _ (fails c.length_fits.ensures c.if-not-length_fits.true))
-
 pub overflow_sub-result : goal.overflow_sub-result
-overflow_sub-result c = length-known _ _ _ (holds c.length_fits.ensures c.if-not-length_fits.false)
+overflow_sub-result c = length-known _ _ _ (sym c.if-length_fits.ensures)
 
-pub returns : goal.returns
-returns c = next_known _ _ _ _ (holds c.length_fits.ensures c.if-not-length_fits.false)
+pub returns-then-length_fits : goal.returns-then-length_fits
+returns-then-length_fits c = next_known _ _ _ _ (sym c.if-length_fits.ensures)
+
+pub returns-else-length_fits : goal.returns-else-length_fits
+returns-else-length_fits c = c.if-length_fits.false ∙ sym (length-fails _ _ _ _ (sym c.if-length_fits.ensures))

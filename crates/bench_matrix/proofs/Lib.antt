@@ -1,2 +1,0 @@
--- Refused  a test that failed shows nothing
-pub mod Refused
