@@ -6,7 +6,7 @@
 --   more-count, first_more, second_more       and for a system's other matrices
 --   coins-enough, never-dry, drawn-residues, no-mask     the tests on raw words
 -- Assumes nothing.
-use mathlib.Core.Path.{◌≡◌, refl, sym, ap, ◌∙◌}
+use mathlib.Core.Path.{◌≡◌, refl, sym, ap}
 use mathlib.Core.List.{List}
 use Prim.Native.Nat.{ℕ, ◌+◌, ◌*◌, ◌≤◌, ◌<◌}
 use native.Mathlib.Nat.{mul-le-mul}
@@ -26,9 +26,7 @@ use Rattle.protocol.specs.Deal.{first_role, second_role, draw_size, deal_tests, 
 use Rattle.protocol.proofs.Judge.{passed}
 use Rattle.protocol.proofs.Dealing.{DealFits, deal-step}
 use Rattle.protocol.proofs.Residues.{residues-drawn}
-use Rattle.judging.specs.InOrder.{Check}
-use Rattle.std.specs.Prelude.{Ok}
-use Rattle.judging.specs.InOrder.{checked, judged}
+use Rattle.judging.specs.InOrder.{judged}
 use Rattle.judging.specs.Groups.{modulus_tests, number_tests, place_tests}
 use Rattle.judging.proofs.InOrder.{accepted-by}
 use Rattle.judging.proofs.Join.{judged-true}

@@ -74,10 +74,10 @@ fn check_mask(s: Sort, t: Terms, words: &[u32]) -> Check
     requires { Fits (sort s) t × (draw_count (sort s) t.m t.k t.p ≤ length (residues_of t.q words.now)) }
     ensures { checked result ≡ judged (mask_tests (sort s) t words.now) }
 {
-    let Sort::System = s else {
-        return Ok(());
-    };
-    need(Refusal::Singular, mask_fits(t, words))
+    match s {
+        Sort::Product => Ok(()),
+        Sort::System => need(Refusal::Singular, mask_fits(t, words)),
+    }
 }
 
 fn check_raw(s: Sort, t: Terms, words: &[u32]) -> Check

@@ -15,7 +15,7 @@ ghost use Rattle.dealer.specs.Dealt.{first_half_words, second_half_words};
 
 use crate::sort::{Sort, first_end};
 use drawing::draw;
-use matrix::{Sides, write_deal, write_masked};
+use matrix::{Sides, sides_of, write_deal, write_masked};
 use protocol::Terms;
 use tape::half::matrix_at;
 use tape::header::write_header;
@@ -70,18 +70,19 @@ fn write_headers(s: Sort, t: Terms, first: &mut [u32], second: &mut [u32])
 }
 
 // B0 after Y0, from X0 and A0 after the first header and Y0 after the second.
-fn write_b(q: u32, m: usize, k: usize, p: usize, first: &[u32], second: &mut [u32])
-    requires { Masks q m k p × (header_size + m * k + m * p ≤ length first.now) × (header_size + k * p + m * p ≤ length second.old) }
-    ensures { second.new ≡ written_at (header_size + k * p) (b_from q m k p first.now second.old) second.old }
+fn write_b(s: Sides, first: &[u32], second: &mut [u32])
+    requires { Masks s.q s.m s.k s.p × (header_size + s.m * s.k + s.m * s.p ≤ length first.now)
+        × (header_size + s.k * s.p + s.m * s.p ≤ length second.old) }
+    ensures { second.new ≡ written_at (header_size + s.k * s.p) (b_from s.q s.m s.k s.p first.now second.old) second.old }
 {
-    let n = m * p;
+    let n = s.m * s.p;
     let start = header::SIZE;
-    let a = start + m * k;
-    let b = start + k * p;
+    let a = start + s.m * s.k;
+    let b = start + s.k * s.p;
     let end = a + n;
     let mut b0 = [0u32; 1024];
     write_deal(
-        Sides { q, m, k, p },
+        s,
         &first[start..a],
         &second[start..b],
         &first[a..end],
@@ -91,36 +92,19 @@ fn write_b(q: u32, m: usize, k: usize, p: usize, first: &[u32], second: &mut [u3
 }
 
 // X0, A0 and Y0, B0, behind headers that stand. The answer is how many words were read.
-fn fill_masks(
-    q: u32,
-    m: u32,
-    k: u32,
-    p: u32,
-    words: &[u32],
-    first: &mut [u32],
-    second: &mut [u32],
-) -> usize
-    requires { Masks q m k p × (masks_count m k p ≤ length (residues_of q words.now))
-        × (header_size + m * k + m * p ≤ length first.old) × (header_size + k * p + m * p ≤ length second.old) }
-    ensures value { result ≡ words_read q (masks_count m k p) words.now }
-    ensures first_after { first.new ≡ written_at header_size (xa q m k p words.now) first.old }
-    ensures second_after { second.new ≡ written_at header_size (yb q m k p words.now) second.old }
+fn fill_masks(t: Terms, words: &[u32], first: &mut [u32], second: &mut [u32]) -> usize
+    requires { Masks t.q t.m t.k t.p × (masks_count t.m t.k t.p ≤ length (residues_of t.q words.now))
+        × (header_size + t.m * t.k + t.m * t.p ≤ length first.old) × (header_size + t.k * t.p + t.m * t.p ≤ length second.old) }
+    ensures value { result ≡ words_read t.q (masks_count t.m t.k t.p) words.now }
+    ensures first_after { first.new ≡ written_at header_size (xa t.q t.m t.k t.p words.now) first.old }
+    ensures second_after { second.new ≡ written_at header_size (yb t.q t.m t.k t.p words.now) second.old }
 {
-    let mk = times(m, k);
-    let kp = times(k, p);
-    let mp = times(m, p);
-    let read = draw_three(
-        q,
-        mk,
-        kp,
-        mp,
-        words,
-        first,
-        header::SIZE,
-        second,
-        header::SIZE,
-    );
-    write_b(q, m as usize, k as usize, p as usize, first, second);
+    let mk = times(t.m, t.k);
+    let kp = times(t.k, t.p);
+    let mp = times(t.m, t.p);
+    let start = header::SIZE;
+    let read = draw_three(t.q, mk, kp, mp, words, first, start, second, start);
+    write_b(sides_of(t), first, second);
     read
 }
 
@@ -184,7 +168,7 @@ fn write_masks(s: Sort, t: Terms, words: &[u32], first: &mut [u32], second: &mut
     ensures second_after { second.new ≡ over (second_masks (sort s) t words.now) second.old }
 {
     write_headers(s, t, first, second);
-    fill_masks(t.q, t.m, t.k, t.p, words, first, second)
+    fill_masks(t, words, first, second)
 }
 
 // A system's matrices behind these, from the words behind those that were read.
@@ -215,8 +199,8 @@ pub fn write_halves(
     ensures second_after { second.new ≡ over (second_half_words (request (sort s) t words.now)) second.old }
 {
     let read = write_masks(s, t, words, first, second);
-    let Sort::System = s else {
-        return read;
-    };
-    write_more(t, words, read, first, second)
+    match s {
+        Sort::Product => read,
+        Sort::System => write_more(t, words, read, first, second),
+    }
 }

@@ -60,9 +60,8 @@ pub fn deal_product(
     ensures { ◌≡◌ {A = Pools} (record { answer = answer_reply result; first = first.new; second = second.new })
         (pools first.old second.old (deal first.old second.old at.size at.index (product_request tape q m k p words.now))) }
 {
-    let session = SessionId(1);
     let t = Terms {
-        session,
+        session: SessionId(1),
         tape,
         q,
         m,
@@ -86,9 +85,8 @@ pub fn deal_system(
     ensures { ◌≡◌ {A = Pools} (record { answer = answer_reply result; first = first.new; second = second.new })
         (pools first.old second.old (deal first.old second.old at.size at.index (system_request tape q n p words.now))) }
 {
-    let session = SessionId(1);
     let t = Terms {
-        session,
+        session: SessionId(1),
         tape,
         q,
         m: n,

@@ -50,9 +50,11 @@ pub fn draw_count(s: Sort, t: Terms) -> usize
     ensures { result ≡ draw_count (sort s) t.m t.k t.p }
 {
     let masks = masks_count(t);
-    let Sort::System = s else {
-        return masks;
-    };
-    let mk = times(t.m, t.k);
-    masks + (mk + (mk + mk))
+    match s {
+        Sort::Product => masks,
+        Sort::System => {
+            let mk = times(t.m, t.k);
+            masks + (mk + (mk + mk))
+        }
+    }
 }

@@ -3,15 +3,15 @@ use Rattle.dealer.specs.Groups.{mask_tests}
 use Rattle.dealer.proofs.Known.{no-mask}
 use Rattle.dealer.proofs.check.check_mask.Goals as goal
 
-pub returns-in_default : goal.returns-in_default
-returns-in_default c =
+pub returns-in-Product : goal.returns-in-Product
+returns-in-Product c =
     let a = c.args in
-    no-mask a.t a.words.now c.in_default.is
+    no-mask a.t a.words.now c.in-Product.is
 
 pub mask_fits-requires : goal.mask_fits-requires
 mask_fits-requires c = rw c.in-System.is at c.requires
 
-pub returns : goal.returns
+pub returns-in-System : goal.returns-in-System
 unfolding mask_tests
-returns c =
+returns-in-System c =
     rw c.in-System.is (rw c.mask_fits.ensures at c.need.ensures)

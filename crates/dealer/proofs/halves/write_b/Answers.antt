@@ -8,5 +8,5 @@ returns c =
     let far = c in
     let a = far.args in
     let h = far.requires in
-    b-written a.q a.m a.k a.p a.first.now a.second.now _ _ _ (omega (arith, h.0.few-mp)) (omega (arith, h.2))
+    b-written a.s.q a.s.m a.s.k a.s.p a.first.now a.second.now _ _ _ (omega (arith, h.0.few-mp)) (omega (arith, h.2))
     c.write_deal.ensures c.write_copy.ensures

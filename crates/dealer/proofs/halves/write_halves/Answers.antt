@@ -8,11 +8,11 @@ use Rattle.protocol.specs.Drawing.{words_read}
 use Rattle.dealer.proofs.Whole.{same_count, same_first, same_second, system-first, system-second}
 use Rattle.dealer.proofs.halves.write_halves.Goals as goal
 
-pub returns-in_default : goal.returns-in_default
-returns-in_default c =
+pub returns-in-Product : goal.returns-in-Product
+returns-in-Product c =
     let a = c.args in
     let e = c.write_masks-read.ensures in
-    let told = c.in_default.is in record {
+    let told = c.in-Product.is in record {
       value = e.value ∙ ap (λ (n : ℕ). words_read a.t.q n a.words.now) (same_count a.t a.words.now told);
       first_after = e.first_after ∙ ap (λ (l : List ℕ). over l a.first.now) (same_first a.t a.words.now told);
       second_after = e.second_after ∙ ap (λ (l : List ℕ). over l a.second.now) (same_second a.t a.words.now told);
@@ -28,8 +28,8 @@ write_more-requires c =
       write-masks.ensures.value,
     )
 
-pub returns : goal.returns
-returns c =
+pub returns-in-System : goal.returns-in-System
+returns-in-System c =
     let far = c in
     let h = far.requires in
     let write-masks = far.write_masks-read in

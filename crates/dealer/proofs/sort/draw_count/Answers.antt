@@ -9,9 +9,9 @@ masks_count-masks-requires c =
     let a = c.args in
     let b = sides-of (sort a.s) a.t.m a.t.k a.t.p c.requires in (b.few-mk, b.few-kp, b.few-mp)
 
-pub returns-in_default : goal.returns-in_default
+pub returns-in-Product : goal.returns-in-Product
 unfolding draw_count
-returns-in_default c = rw c.in_default.is c.masks_count-masks.ensures
+returns-in-Product c = rw c.in-Product.is c.masks_count-masks.ensures
 
 pub overflow_add-result : goal.overflow_add-result
 overflow_add-result c =
@@ -19,19 +19,19 @@ overflow_add-result c =
     let b = sides-of (sort a.s) a.t.m a.t.k a.t.p c.requires in
     omega (arith, c.masks_count-masks.ensures, c.times-mk.ensures, b.few-mk, b.few-kp, b.few-mp)
 
-pub overflow_add-result-2 : goal.overflow_add-result-2
-overflow_add-result-2 c =
+pub overflow_add-result-in-System : goal.overflow_add-result-in-System
+overflow_add-result-in-System c =
     let a = c.args in
     let b = sides-of (sort a.s) a.t.m a.t.k a.t.p c.requires in
     omega (arith, c.masks_count-masks.ensures, c.times-mk.ensures, b.few-mk, b.few-kp, b.few-mp)
 
-pub overflow_add-result-3 : goal.overflow_add-result-3
-overflow_add-result-3 c =
+pub overflow_add-result-in-System-2 : goal.overflow_add-result-in-System-2
+overflow_add-result-in-System-2 c =
     let a = c.args in
     let b = sides-of (sort a.s) a.t.m a.t.k a.t.p c.requires in
     omega (arith, c.masks_count-masks.ensures, c.times-mk.ensures, b.few-mk, b.few-kp, b.few-mp)
 
-pub returns : goal.returns
+pub returns-in-System : goal.returns-in-System
 unfolding draw_count
-returns c =
+returns-in-System c =
     rw c.in-System.is (omega (arith, c.masks_count-masks.ensures, c.times-mk.ensures))
