@@ -67,8 +67,7 @@ pub extern "C" fn bench_right_first(
     out: &mut [u32],
 ) -> bool {
     let done = right_first(pool, first_slot(size), terms(q, m, k, p), y, out);
-    let answer = done.answer;
-    accepted(answer)
+    accepted(done.answer)
 }
 
 #[unsafe(no_mangle)]
@@ -98,8 +97,7 @@ pub extern "C" fn bench_left(
         out,
         share,
     );
-    let answer = done.answer;
-    accepted(answer)
+    accepted(done.answer)
 }
 
 #[unsafe(no_mangle)]
@@ -117,8 +115,7 @@ pub extern "C" fn bench_right_last(
     let open = RightSession { terms: t, due: 2 };
     let two = Head { kind: 2, terms: t };
     let done = right_last(pool, first_slot(size), open, two, residues, share);
-    let answer = done.answer;
-    accepted(answer)
+    accepted(done.answer)
 }
 
 // How many bytes the message's line has, 0 of a refusal.
@@ -142,38 +139,32 @@ pub extern "C" fn bench_write(
     }
 }
 
-// How many residues the line's message has, 0 of a refusal: by its form alone, and with all checks.
-#[unsafe(no_mangle)]
-pub extern "C" fn bench_parse(s: &[u8], out: &mut [u32]) -> usize {
-    match line::parse(s, out) {
+// How many residues a message has, 0 of a refusal.
+fn residues_in(received: Received) -> usize {
+    match received {
         Received::Message(_, n) => n,
         Received::Refused(_) => 0,
     }
 }
 
+// How many residues the line's message has: by its form alone, and with all checks.
+#[unsafe(no_mangle)]
+pub extern "C" fn bench_parse(s: &[u8], out: &mut [u32]) -> usize {
+    residues_in(line::parse(s, out))
+}
+
 #[unsafe(no_mangle)]
 pub extern "C" fn bench_read(s: &[u8], out: &mut [u32]) -> usize {
-    match line::read(s, out) {
-        Received::Message(_, n) => n,
-        Received::Refused(_) => 0,
-    }
+    residues_in(line::read(s, out))
 }
 
 // The inner product of x and y, 0 where they don't fit.
 #[unsafe(no_mangle)]
 pub extern "C" fn bench_inner(q: u32, x: &[u32], y: &[u32]) -> u32 {
     let k = x.len();
-    if q == 0 {
-        return 0;
+    if (1..=Field::LARGEST).contains(&q) && k <= 2048 && k <= y.len() {
+        matrix::inner_product(q, k, x, y)
+    } else {
+        0
     }
-    if Field::LARGEST < q {
-        return 0;
-    }
-    if 2048 < k {
-        return 0;
-    }
-    if y.len() < k {
-        return 0;
-    }
-    matrix::inner_product(q, k, x, y)
 }

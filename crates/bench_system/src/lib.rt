@@ -9,7 +9,6 @@ use blinder::{blinder_determinant, blinder_first, blinder_last, blinder_second, 
 use protocol::{Answer, BlinderSession, Head, SessionId, SolverSession, TapeId, Terms};
 use solver::{solver_determinant, solver_first, solver_last, solver_second};
 use tape::Place;
-use vectors::write_copy;
 
 fn accepted(answer: Answer) -> bool {
     match answer {
@@ -38,23 +37,10 @@ fn terms(q: u32, n: u32, p: u32) -> Terms {
 fn session(t: Terms, due: u32, mm: &[u32], y: &[u32]) -> BlinderSession
     requires { (length mm.now ≤ 256) × (length y.now ≤ 16) }
 {
-    let first = opened(t, mm, y);
-    let matrix = first.mm;
-    let vector = first.y;
     BlinderSession {
-        terms: t,
         due,
-        mm: matrix,
-        y: vector,
+        ..opened(t, mm, y)
     }
-}
-
-// What the solver's session keeps.
-fn keep(session: SolverSession, kept: &mut [u32])
-    requires { 16 ≤ length kept.old }
-{
-    let s = session.s;
-    write_copy(16, &s, kept);
 }
 
 #[unsafe(no_mangle)]
@@ -69,8 +55,7 @@ pub extern "C" fn bench_solver_first(
     out: &mut [u32],
 ) -> bool {
     let done = solver_first(pool, first_slot(size), terms(q, n, p), l, x, out);
-    let answer = done.answer;
-    accepted(answer)
+    accepted(done.answer)
 }
 
 #[unsafe(no_mangle)]
@@ -101,8 +86,7 @@ pub extern "C" fn bench_blinder_first(
         residues,
         out,
     );
-    let answer = done.answer;
-    accepted(answer)
+    accepted(done.answer)
 }
 
 #[unsafe(no_mangle)]
@@ -119,18 +103,15 @@ pub extern "C" fn bench_solver_second(
     requires { 16 ≤ length kept.old }
 {
     let t = terms(q, n, p);
-    let none = [0u32; 16];
     let before = SolverSession {
         terms: t,
         due: 2,
-        s: none,
+        s: [0; 16],
     };
     let a = Head { kind: 2, terms: t };
     let done = solver_second(pool, first_slot(size), before, a, residues, out);
-    let after = done.session;
-    keep(after, kept);
-    let answer = done.answer;
-    accepted(answer)
+    kept[..16].copy_from_slice(&done.session.s);
+    accepted(done.answer)
 }
 
 #[unsafe(no_mangle)]
@@ -159,8 +140,7 @@ pub extern "C" fn bench_blinder_second(
         residues,
         out,
     );
-    let answer = done.answer;
-    accepted(answer)
+    accepted(done.answer)
 }
 
 #[unsafe(no_mangle)]
@@ -178,21 +158,19 @@ pub extern "C" fn bench_solver_last(
 {
     let t = terms(q, n, p);
     let mut s = [0u32; 16];
-    write_copy(16, kept, &mut s);
+    s.copy_from_slice(&kept[..16]);
     let before = SolverSession {
         terms: t,
         due: 4,
-        s: s,
+        s,
     };
     let a = Head { kind: 4, terms: t };
     if p == n {
         let done = solver_determinant(pool, first_slot(size), before, a, residues, out);
-        let answer = done.answer;
-        return accepted(answer);
+        return accepted(done.answer);
     }
     let done = solver_last(pool, first_slot(size), before, a, residues, out);
-    let answer = done.answer;
-    accepted(answer)
+    accepted(done.answer)
 }
 
 #[unsafe(no_mangle)]
@@ -222,8 +200,7 @@ pub extern "C" fn bench_blinder_last(
             residues,
             out,
         );
-        let answer = done.answer;
-        return accepted(answer);
+        return accepted(done.answer);
     }
     let a = Head { kind: 5, terms: t };
     let done = blinder_last(
@@ -235,6 +212,5 @@ pub extern "C" fn bench_blinder_last(
         residues,
         out,
     );
-    let answer = done.answer;
-    accepted(answer)
+    accepted(done.answer)
 }

@@ -3,23 +3,22 @@
 //   divisor              what it divides by, which is 0 where P or Q has no inverse
 //   compute              the answer, and what is kept no longer
 //   blinder_determinant  the step
-ghost use Rattle.std.specs.Prelude.{◌≡◌, [], ◌∷◌, length, get_or};
+ghost use Rattle.std.specs.Prelude.{◌≡◌, [], ◌∷◌, length, get_or, Ok};
 ghost use Rattle.algebra.specs.Matrix.{zeros};
 ghost use Rattle.algebra.specs.Residue.{mul_mod, inverse};
 ghost use Rattle.algebra.specs.Words.{over};
-ghost use Rattle.protocol.specs.declared.Answer.TheVariants.{Accepted};
 ghost use Rattle.protocol.specs.Message.{no_message};
 ghost use Rattle.protocol.specs.System.{scratch_size, blinder_determinant};
 ghost use Rattle.tape.specs.Placed.{slot_in};
 ghost use Rattle.judging.specs.Leaves.{leaves, leaving, computing};
 ghost use Rattle.blinder.specs.Division.{divisor_of, Dividing, Divided};
 
-use crate::{BlinderAnswer, drawn_p, forget, later, refused};
+use crate::{BlinderAnswer, drawn_p, forget, later};
 use elimination::determinant;
 use field::{inverse_mod, mul_mod};
-use judging::Check;
+use judging::Stepped;
 use judging::message::{has_room, no_head};
-use protocol::{Answer, BlinderSession, Head, Refusal, Terms};
+use protocol::{BlinderSession, Head, Refusal, Terms};
 use tape::change::spend_at;
 use tape::half::matrix;
 use tape::{End, Place};
@@ -45,16 +44,12 @@ fn compute(
 ) -> BlinderAnswer
     requires { Divided t by (length scratch.old) (length residues.now) (length out.old) }
     ensures { computing result.answer result.session result.head scratch.new [] out.new
-        ≡ computing (Accepted 0) (record { terms = t; due = 0; mm = zeros 256; y = zeros 16 }) no_message.head
+        ≡ computing (Ok 0) (record { terms = t; due = 0; mm = zeros 256; y = zeros 16 }) no_message.head
         (over (zeros (scratch_size t)) scratch.old) []
         (over (mul_mod t.q (get_or residues.now 0 0) (inverse t.q by) ∷ []) out.old) }
 {
     out[0] = mul_mod(t.q, residues[0], inverse_mod(t.q, by));
-    BlinderAnswer {
-        answer: Answer::Accepted(0),
-        session: forget(t, scratch),
-        head: no_head(),
-    }
+    Stepped::accepted(forget(t, scratch), no_head())
 }
 
 // Step 6 of a determinant (RULES 5.11): d divided by the determinants of P and Q. Where P or Q, as the host lent them, has no inverse, it is refused.
@@ -74,13 +69,12 @@ pub fn blinder_determinant(
 {
     let t = s.terms;
     let fits = has_room(6, t, out.len());
-    let checked = later::check(6, fits, pool, at, scratch, s, a, residues);
-    let Check::Passed = checked else {
-        return refused(checked, s);
-    };
+    if let Err(r) = later::check(6, fits, pool, at, scratch, s, a, residues) {
+        return Stepped::refused(r, s);
+    }
     let by = divisor(pool, at, scratch, t);
     if by == 0 {
-        return refused(Check::Refused(Refusal::Singular), s);
+        return Stepped::refused(Refusal::Singular, s);
     }
     let done = compute(by, t, scratch, residues, out);
     spend_at(End::Blinder, t, pool, at);

@@ -13,17 +13,12 @@ ghost use Rattle.judging.specs.Leaves.{leaves, leaving};
 
 use crate::{forget, scratch_fits};
 use judging::step::{check_open, check_room};
-use judging::{Check, answer_of, worst};
-use protocol::{Answer, BlinderSession};
+use judging::{Check, Dropped, worst};
+use protocol::BlinderSession;
 use tape::change::spend_at;
 use tape::{End, Place};
 
-// What a drop answers, and the session as it then is.
-#[derive(Clone, Copy)]
-pub struct BlinderDropped {
-    pub answer: Answer,
-    pub session: BlinderSession,
-}
+pub type BlinderDropped = Dropped<BlinderSession>;
 
 // Of the scratch is told how many words it has.
 fn check(pool: &[u32], at: Place, room: usize, s: BlinderSession) -> Check
@@ -45,17 +40,16 @@ pub fn blinder_drop(
         ≡ leaves s (slot_in pool.old at) scratch.old [] [] (drop_blinder s (slot_in pool.old at) scratch.old) }
 {
     let t = s.terms;
-    let checked = check(pool, at, scratch.len(), s);
-    let Check::Passed = checked else {
-        return BlinderDropped {
-            answer: answer_of(checked),
+    if let Err(r) = check(pool, at, scratch.len(), s) {
+        return Dropped {
+            answer: Err(r),
             session: s,
         };
-    };
+    }
     let session = forget(t, scratch);
     spend_at(End::Blinder, t, pool, at);
-    BlinderDropped {
-        answer: Answer::Accepted(0),
-        session: session,
+    Dropped {
+        answer: Ok(0),
+        session,
     }
 }

@@ -14,17 +14,15 @@ ghost use Rattle.judging.specs.InOrder.{checked, judged, after};
 ghost use Rattle.judging.specs.Leaves.{leaves, leaving, computed, computing, taken};
 ghost use Rattle.blinder.specs.First.{Eliminable, Masking, first_inputs, first_regular, first_sent};
 
-use crate::{
-    BlinderAnswer, drawn_p, drawn_u0, no_session, opened, refused, scratch_fits, scratch_size,
-};
+use crate::{BlinderAnswer, drawn_p, drawn_u0, no_session, opened, scratch_fits, scratch_size};
 use drawing::draw;
 use elimination::has_inverse;
 use judging::message::{has_room, side_size};
 use judging::received::check_coins;
 use judging::step::{check_first_received, check_input};
-use judging::{Check, need, worst};
+use judging::{Check, Stepped, need, worst};
 use matrix::{sides_of, write_reply};
-use protocol::{Answer, Head, Refusal, Terms};
+use protocol::{Head, Refusal, Terms};
 use tape::change::take_up_at;
 use tape::half::matrix;
 use tape::{End, Place};
@@ -61,10 +59,7 @@ fn check_drawn(t: Terms, mm: &[u32], words: &[u32]) -> Check
     ensures { checked result ≡ after (judged (draw_tests t.q (scratch_size t) words.now))
         (judged (first_regular t mm.now words.now)) }
 {
-    let coins = check_coins(t.q, scratch_size(t), words);
-    let Check::Passed = coins else {
-        return coins;
-    };
+    check_coins(t.q, scratch_size(t), words)?;
     check_regular(t, mm, words)
 }
 
@@ -85,10 +80,7 @@ pub fn check(
 {
     let session = check_first_received(End::Blinder, 1, t, a, residues, pool, at);
     let inputs = check_inputs(t, mm, y, scratch, room);
-    let numbers = worst(session, inputs);
-    let Check::Passed = numbers else {
-        return numbers;
-    };
+    worst(session, inputs)?;
     check_drawn(t, mm, words)
 }
 
@@ -127,8 +119,8 @@ fn compute(
     let x0 = matrix(End::Blinder, t, 0, pool, at);
     let a0 = matrix(End::Blinder, t, 1, pool, at);
     send(t, residues, scratch, x0, a0, out);
-    BlinderAnswer {
-        answer: Answer::Accepted(count),
+    Stepped {
+        answer: Ok(count),
         session: opened(t, mm, y),
         head: Head { kind: 2, terms: t },
     }
@@ -154,10 +146,9 @@ pub fn blinder_first(
 {
     let room = out.len();
     let lent = scratch.len();
-    let checked = check(pool, at, lent, t, mm, y, words, a, residues, room);
-    let Check::Passed = checked else {
-        return refused(checked, no_session());
-    };
+    if let Err(r) = check(pool, at, lent, t, mm, y, words, a, residues, room) {
+        return Stepped::refused(r, no_session());
+    }
     let done = compute(pool, at, scratch, t, mm, y, words, residues, out);
     take_up_at(End::Blinder, t, pool, at);
     done

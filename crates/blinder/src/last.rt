@@ -8,11 +8,11 @@ ghost use Rattle.tape.specs.Placed.{slot_in};
 ghost use Rattle.judging.specs.InOrder.{checked, judged};
 ghost use Rattle.judging.specs.Leaves.{leaves, leaving, computed, computing, taken};
 
-use crate::{BlinderAnswer, forget, later, refused};
-use judging::Check;
+use crate::{BlinderAnswer, forget, later};
+use judging::Stepped;
 use judging::message::{no_head, side_size};
 use matrix::{Sides, write_product};
-use protocol::{Answer, BlinderSession, Head};
+use protocol::{BlinderSession, Head};
 use tape::change::spend_at;
 use tape::half::matrix;
 use tape::{End, Place};
@@ -42,11 +42,7 @@ fn compute(
         p: rhs,
     };
     write_product(sides, qm, residues, out);
-    BlinderAnswer {
-        answer: Answer::Accepted(0),
-        session: forget(t, scratch),
-        head: no_head(),
-    }
+    Stepped::accepted(forget(t, scratch), no_head())
 }
 
 // Step 6 (RULES 5.8): z = Q × t.
@@ -64,10 +60,9 @@ pub fn blinder_last(
         (blinder_last s (slot_in pool.old at) scratch.old (record { head = a; residues = residues.now }) (length out.old)) }
 {
     let fits = side_size(s.terms) <= out.len();
-    let checked = later::check(5, fits, pool, at, scratch, s, a, residues);
-    let Check::Passed = checked else {
-        return refused(checked, s);
-    };
+    if let Err(r) = later::check(5, fits, pool, at, scratch, s, a, residues) {
+        return Stepped::refused(r, s);
+    }
     let done = compute(pool, at, scratch, s, residues, out);
     spend_at(End::Blinder, s.terms, pool, at);
     done

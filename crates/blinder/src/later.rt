@@ -30,10 +30,8 @@ fn check_kept(s: BlinderSession, scratch: &[u32]) -> Check
     ensures { checked result ≡ judged (kept_words s scratch.now) }
 {
     let t = s.terms;
-    let mm = s.mm;
-    let y = s.y;
-    let matrix = check_start(t.q, times(t.m, t.m), &mm);
-    let vector = check_start(t.q, side_size(t), &y);
+    let matrix = check_start(t.q, times(t.m, t.m), &s.mm);
+    let vector = check_start(t.q, side_size(t), &s.y);
     let coins = check_start(t.q, scratch_size(t), scratch);
     worst(matrix, worst(vector, coins))
 }
@@ -55,9 +53,6 @@ pub fn check(
     let session = check_later(End::Blinder, step, s.due, t, a, residues, pool, at);
     let lent = check_room(s.due, scratch_fits(t, scratch.len()));
     let written = check_room(s.due, fits);
-    let numbers = worst(session, worst(lent, written));
-    let Check::Passed = numbers else {
-        return numbers;
-    };
+    worst(session, worst(lent, written))?;
     check_kept(s, scratch)
 }

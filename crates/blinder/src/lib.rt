@@ -1,11 +1,11 @@
 // The blinder's steps, and its drop.
-//   BlinderAnswer         what each of them answers
+//   BlinderAnswer         what each step answers
 //   first, second, last   the steps: blinder_first, blinder_second, blinder_last
 //   det                   the last step of a determinant: blinder_determinant
 //   later                 what the second and either last step check
 //   formula               W = (U' − F) × Q + P × M × Q − G and c = u + P × y, where U0 = [U', u]
 //   drop                  blinder_drop
-//   refused, no_session   what a refused step answers and leaves
+//   no_session            what a refused first step leaves
 //   opened, closed        the sessions, which keep M and y; forget zeroes the scratch too
 //   scratch_size, scratch_fits   how many residues P and U0 have, and room for them
 //   drawn_p, drawn_u0     P and U0, which stand in the scratch
@@ -25,38 +25,20 @@ ghost use Rattle.algebra.specs.Count.{part};
 ghost use Rattle.algebra.specs.Matrix.{zeros};
 ghost use Rattle.algebra.specs.Words.{over};
 ghost use Rattle.protocol.specs.Bounds.{sides_fit, system};
-ghost use Rattle.protocol.specs.Message.{no_message};
 ghost use Rattle.protocol.specs.System.{padded, no_blinder, scratch_size, scratch_parts};
-ghost use Rattle.judging.specs.InOrder.{answer_of};
 
 pub use det::blinder_determinant;
 pub use drop::{BlinderDropped, blinder_drop};
 pub use first::blinder_first;
+use judging::Stepped;
 use judging::message::no_head;
-use judging::{Check, answer_of};
 pub use last::blinder_last;
-use protocol::{Answer, BlinderSession, Head, Terms};
+use protocol::{BlinderSession, Terms};
 pub use second::blinder_second;
 use vectors::{times, write_copy, write_zeros};
 
-// The session is as handed over where the step is refused; `head` is that of the message it sends.
-#[derive(Clone, Copy)]
-pub struct BlinderAnswer {
-    pub answer: Answer,
-    pub session: BlinderSession,
-    pub head: Head,
-}
-
-// A refused step: the session is as it was, and nothing is sent.
-fn refused(c: Check, s: BlinderSession) -> BlinderAnswer
-    ensures { result ≡ record { answer = answer_of c; session = s; head = no_message.head } }
-{
-    BlinderAnswer {
-        answer: answer_of(c),
-        session: s,
-        head: no_head(),
-    }
-}
+// What a step of the blinder answers.
+pub type BlinderAnswer = Stepped<BlinderSession>;
 
 // The session after the first step: it keeps M and y, each at the start of its array.
 pub fn opened(t: Terms, mm: &[u32], y: &[u32]) -> BlinderSession
@@ -79,13 +61,11 @@ pub fn opened(t: Terms, mm: &[u32], y: &[u32]) -> BlinderSession
 pub fn closed(t: Terms) -> BlinderSession
     ensures { result ≡ record { terms = t; due = 0; mm = zeros 256; y = zeros 16 } }
 {
-    let matrix = [0u32; 256];
-    let vector = [0u32; 16];
     BlinderSession {
         terms: t,
         due: 0,
-        mm: matrix,
-        y: vector,
+        mm: [0; 256],
+        y: [0; 16],
     }
 }
 
@@ -93,8 +73,7 @@ pub fn closed(t: Terms) -> BlinderSession
 fn no_session() -> BlinderSession
     ensures { result ≡ no_blinder }
 {
-    let none = no_head();
-    closed(none.terms)
+    closed(no_head().terms)
 }
 
 // How many residues P and U0 have.
@@ -110,10 +89,7 @@ fn scratch_fits(t: Terms, room: usize) -> bool
     ensures { result ≡ leb (scratch_size t) room }
 {
     let square = times(t.m, t.m);
-    if room < square {
-        return false;
-    }
-    times(t.m, t.p) <= room - square
+    square <= room && times(t.m, t.p) <= room - square
 }
 
 // P of the scratch.

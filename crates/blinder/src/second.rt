@@ -11,10 +11,10 @@ ghost use Rattle.judging.specs.Leaves.{leaves, leaving, computed, computing, tak
 ghost use Rattle.blinder.specs.Second.{Sending, second_sent};
 
 use crate::formula::{Unknowns, write_c, write_w};
-use crate::{BlinderAnswer, drawn_p, drawn_u0, later, refused};
-use judging::Check;
+use crate::{BlinderAnswer, drawn_p, drawn_u0, later};
+use judging::Stepped;
 use judging::message::{has_room, last_kind, side_size};
-use protocol::{Answer, BlinderSession, Head, Terms};
+use protocol::{BlinderSession, Head, Terms};
 use tape::half::matrix;
 use tape::{End, Place};
 use vectors::times;
@@ -61,23 +61,25 @@ fn compute(
         (blinder_second_effect s (slot_in pool.now at) scratch.now (taken 3 s.terms residues.now)) }
 {
     let t = s.terms;
-    let mm = s.mm;
-    let y = s.y;
     let square = times(t.m, t.m);
     let side = side_size(t);
     let qm = matrix(End::Blinder, t, 2, pool, at);
     let g = matrix(End::Blinder, t, 3, pool, at);
-    send(t, &mm[..square], &y[..side], residues, scratch, qm, g, out);
-    BlinderAnswer {
-        answer: Answer::Accepted(0),
-        session: BlinderSession {
-            terms: t,
-            due: last_kind(t),
-            mm: mm,
-            y: y,
-        },
-        head: Head { kind: 4, terms: t },
-    }
+    send(
+        t,
+        &s.mm[..square],
+        &s.y[..side],
+        residues,
+        scratch,
+        qm,
+        g,
+        out,
+    );
+    let waiting = BlinderSession {
+        due: last_kind(t),
+        ..s
+    };
+    Stepped::accepted(waiting, Head { kind: 4, terms: t })
 }
 
 // Step 4 (RULES 5.6): W = (U' − F) × Q + P × M × Q − G and c = u + P × y. The pool and the scratch stay as they are.
@@ -95,9 +97,8 @@ pub fn blinder_second(
         (blinder_second s (slot_in pool.now at) scratch.now (record { head = a; residues = residues.now }) (length out.old)) }
 {
     let fits = has_room(4, s.terms, out.len());
-    let checked = later::check(3, fits, pool, at, scratch, s, a, residues);
-    let Check::Passed = checked else {
-        return refused(checked, s);
-    };
+    if let Err(r) = later::check(3, fits, pool, at, scratch, s, a, residues) {
+        return Stepped::refused(r, s);
+    }
     compute(pool, at, scratch, s, residues, out)
 }

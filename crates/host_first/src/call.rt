@@ -21,7 +21,6 @@ use host_parts::seen::{get_input, sift_coins};
 use host_parts::taken::{opening_of, residues_in, take_line};
 use judging::message::no_head;
 use judging::worst;
-use line::Loaded;
 use protocol::{Head, Refusal, Terms};
 use tape::Place;
 
@@ -128,11 +127,10 @@ fn first_with(
             coins,
         );
     }
-    let loaded = take_line(message, numbers);
-    let Loaded::Message(head, count) = loaded else {
+    let Some(taken) = take_line(message, numbers) else {
         return refusal(Refusal::Form);
     };
-    let opened = opening_of(head, count);
+    let opened = opening_of(taken);
     let residues = residues_in(numbers, opened.count);
     first_on(
         f,

@@ -8,7 +8,6 @@ use entry::Report;
 use host_parts::own::{check_session, refusal};
 use host_parts::taken::{residues_in, seen_count, take_line};
 use judging::message::no_head;
-use line::Loaded;
 use protocol::Refusal;
 use tape::Place;
 
@@ -30,16 +29,15 @@ fn next_with(
         ≡ next_on (lent_of session.old pool.old scratch.old line.old res.old) at.size at.index message.now }
 {
     let own = check_session(session.len(), pool.len(), scratch.len(), res.len());
-    let loaded = take_line(message, numbers);
-    let Loaded::Message(head, count) = loaded else {
+    let Some(taken) = take_line(message, numbers) else {
         return refusal(Refusal::Form);
     };
     let q = Asked {
         drops: false,
         own,
-        head,
+        head: taken.head,
     };
-    let seen = seen_count(count);
+    let seen = seen_count(taken.count);
     let residues = residues_in(numbers, seen);
     with_room(q, at, residues, session, pool, scratch, line, res)
 }

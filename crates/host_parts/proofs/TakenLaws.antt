@@ -1,6 +1,5 @@
 -- A line's form, by what loading it told, and what a step is handed of it.
 --   message-wrong, message-other, message-taken
---   taken-message, taken-wrong   what reading a line told            its form
 --   seen_none, seen_all                                    how many residues are looked at
 --   opening-kept, other-kind, other-count, opening-reply   the message that a first step is handed
 -- Assumes nothing.
@@ -20,9 +19,7 @@ use Rattle.protocol.specs.Message.{message_with, kind_known}
 use Rattle.protocol.specs.Line.{numbers_of, parsed, parse_message}
 use Rattle.local.specs.Seen.{seen_count, sent_size, is_reply, shrunk, opening_head, opening_count}
 use Rattle.line.specs.Reading.{Holds, NoMessage}
-use Rattle.line.specs.declared.Loaded.{Loaded}
-use Rattle.line.specs.declared.Loaded.TheVariants as loaded
-use Rattle.host_parts.specs.Taken.{MessageIn, TakenFrom}
+use Rattle.host_parts.specs.Taken.{MessageIn}
 
 pub message-wrong : (s : List ℕ) → NoMessage s → parse_message s ≡ refused Form
 unfolding parse_message judge judge_by clear both
@@ -88,11 +85,3 @@ module _ (h : Head) (n : ℕ) where
     omega arith,
     omega arith,
   )
-
--- ---- what reading a line told
-
-pub taken-message : (s words : List ℕ) {r : Loaded} {h : Head} {n : ℕ} → TakenFrom s words r → r ≡ loaded.Message h n → MessageIn s words h n
-taken-message s words t e = subst (TakenFrom s words) e t
-
-pub taken-wrong : (s words : List ℕ) {r : Loaded} → TakenFrom s words r → r ≡ loaded.Wrong → parse_message s ≡ refused Form
-taken-wrong s words t e = subst (TakenFrom s words) e t

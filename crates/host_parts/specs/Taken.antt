@@ -1,12 +1,11 @@
 -- A line whose form was read: its numbers stand in words, as far as there is room. Assumes nothing.
-use Rattle.std.specs.Prelude.{◌≡◌, true, List, ℕ, ◌+◌, ◌≤◌, length, take, drop}
+use Rattle.std.specs.Prelude.{◌≡◌, true, List, ℕ, ◌+◌, ◌≤◌, length, take, drop, Option, Some, None}
 use Rattle.protocol.specs.declared.Head.{Head}
 use Rattle.protocol.specs.declared.Refusal.TheVariants.{Form}
 use Rattle.protocol.specs.Judge.{refused, done}
 use Rattle.protocol.specs.Message.{message_with, kind_known}
 use Rattle.protocol.specs.Line.{parse_message}
-use Rattle.line.specs.declared.Loaded.{Loaded}
-use Rattle.line.specs.declared.Loaded.TheVariants as loaded
+use Rattle.line.specs.declared.Arrived.{Arrived}
 
 pub record MessageIn (line words : List ℕ) (h : Head) (n : ℕ) : Type 0 where
   pub residues : List ℕ
@@ -15,6 +14,6 @@ pub record MessageIn (line words : List ℕ) (h : Head) (n : ℕ) : Type 0 where
   pub count : length residues ≡ n
   pub stands : (j : ℕ) → j ≤ n → j + 7 ≤ length words → take j (drop 7 words) ≡ take j residues
 
-abbrev pub TakenFrom : (line words : List ℕ) → Loaded → Type 0
-TakenFrom line words (loaded.Message h n) = MessageIn line words h n
-TakenFrom line words loaded.Wrong = parse_message line ≡ refused Form
+abbrev pub TakenFrom : (line words : List ℕ) → Option Arrived → Type 0
+TakenFrom line words (Some a) = MessageIn line words a.head a.count
+TakenFrom line words None = parse_message line ≡ refused Form

@@ -8,22 +8,19 @@ ghost use Rattle.host_parts.specs.Taken.{TakenFrom};
 
 use crate::store::sent_count;
 use judging::message::kind_known;
-use line::{Loaded, load};
+use line::{Arrived, load};
 use protocol::{Head, Terms};
 
 // Its numbers go into `numbers`, as many as there is room for.
-pub fn take_line(message: &[u8], numbers: &mut [u32]) -> Loaded
+pub fn take_line(message: &[u8], numbers: &mut [u32]) -> Option<Arrived>
     requires { 7 ≤ length numbers.old }
     ensures { TakenFrom message.now numbers.new result }
 {
-    let loaded = load(message, numbers);
-    let Loaded::Message(head, count) = loaded else {
-        return Loaded::Wrong;
-    };
-    if !kind_known(head.kind) {
-        return Loaded::Wrong;
+    let loaded = load(message, numbers)?;
+    if !kind_known(loaded.head.kind) {
+        return None;
     }
-    Loaded::Message(head, count)
+    Some(loaded)
 }
 
 // `count` residues from behind the head.
@@ -47,13 +44,6 @@ pub fn seen_count(count: usize) -> usize
 
 // ---- for a first step
 
-// The message that a first step is handed: its head, and how many of the residues.
-#[derive(Clone, Copy)]
-pub struct Opened {
-    pub head: Head,
-    pub count: usize,
-}
-
 // The head with all sides 1.
 fn shrunk_of(h: Head) -> Head
     ensures { result ≡ shrunk h }
@@ -75,21 +65,23 @@ fn shrunk_of(h: Head) -> Head
     }
 }
 
-// A first step has room for 2,048 residues only. A longer message of kind 2 is made short: no first step is due one, and it is refused by
+// The message that a first step is handed: it has room for 2,048 residues only. A longer message of kind 2 is made short: no first step is due one, and it is refused by
 // its kind, whatever its residues. Any other that is longer is refused by 4 or lower, with none of them as well.
-pub fn opening_of(head: Head, count: usize) -> Opened
-    ensures { (result.head ≡ opening_head head count) × (result.count ≡ opening_count head count) × (result.count ≤ 2048) × (result.count ≤ count) }
+pub fn opening_of(taken: Arrived) -> Arrived
+    ensures { (result.head ≡ opening_head taken.head taken.count) × (result.count ≡ opening_count taken.head taken.count) × (result.count ≤ 2048) × (result.count ≤ taken.count) }
 {
+    let head = taken.head;
+    let count = taken.count;
     if count <= 2048 {
-        return Opened { head, count };
+        return taken;
     }
     if head.kind != 2 {
-        return Opened { head, count: 0 };
+        return Arrived { head, count: 0 };
     }
     if count != sent_count(head) {
-        return Opened { head, count: 0 };
+        return Arrived { head, count: 0 };
     }
-    Opened {
+    Arrived {
         head: shrunk_of(head),
         count: 2,
     }

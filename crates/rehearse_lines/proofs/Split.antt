@@ -1,19 +1,21 @@
 -- The lines of a run of bytes, by positions, and the numbers that were read of them.
---   first_ends, first_goes, first-none, first_fits   a line byte by byte
+--   first-found, first-whole, first_fits   a line by where its byte 10 stands
 --   line-next, line-part   from a line to the next, and a line as a part of the bytes
 --   holds        the words that a line was read into
 --   said         what the definition says of the five lines
 -- Assumes nothing.
-use Prim.Native.Nat.{ℕ, suc, ◌+◌, ◌-◌, ◌*◌, ◌≤◌, ◌<◌}
+use Prim.Native.Nat.{ℕ, suc, ◌+◌, ◌-◌, ◌*◌, ◌≤◌}
 use mathlib.Core.Path.{◌≡◌, refl, sym, ap, ◌∙◌}
 use mathlib.Core.Bool.{Bool, true, false, cond}
 use mathlib.Core.List.{List, [], ◌∷◌}
-use mathlib.Core.Option.{Option, some, none}
+use mathlib.Core.Option.{Option as Maybe, some, none}
+use Rattle.std.specs.Prelude.{Option, Some, None}
+use Rattle.std.specs.List.{position, position_from}
+use Rattle.std.proofs.lemmas.Iterator.Adapters.{position_from-zero}
 use native.Mathlib.Omega.{arith}
-use native.Mathlib.Numerals.{add-one}
 use lib.Dec.{eqb}
-use lib.ListN.{length, get_or, take, drop, length-append, length-drop, drop_of_length-le}
-use lib.Seq.{drop-cons, drop-drop, sets-eq, take_at, length-sets, take_all}
+use lib.ListN.{length, take, drop, length-append, length-drop}
+use lib.Seq.{drop-drop, sets-eq, take_at, length-sets, take_all}
 use borrow.Author.Tests.{eq-eqb, ne_eqb, eqb-true, eqb-false, leb-true}
 use Rattle.algebra.specs.Count.{both}
 use Rattle.algebra.proofs.Tests.{and_right}
@@ -28,25 +30,39 @@ use Rattle.protocol.proofs.RehearsalLowest.{rehearsal-lowest}
 use Rattle.protocol.proofs.LineRoundTrip.{line-was-written}
 use Rattle.protocol.proofs.DecimalLaws.{length-positive}
 use Rattle.decimal.specs.Reading.{Stored, Tallied}
-use Rattle.decimal.specs.declared.Tally.{Tally}
-use Rattle.decimal.specs.declared.Tally.TheVariants as tally
 use Rattle.rehearse_lines.specs.Says.{Holds, counts_of, Says}
-use Rattle.rehearse_lines.specs.declared.Lines.TheVariants.{Read, Wrong}
 
--- ---- a line, byte by byte
+-- ---- a line by where its byte 10 stands
 
-module _ (s : List ℕ) (i : ℕ) where
-  pub first_ends : i < length s → get_or s i 0 ≡ 10 → length (first_line (drop i s)) ≡ 1
-  unfolding first_line
-  first_ends h e = rw (drop-cons s i 0 h, eq-eqb (get_or s i 0) 10 e)
+abbrev pub ends : ℕ → Bool
+ends b = eqb b 10
 
-  pub first_goes : i < length s → (get_or s i 0 ≡ 10 → ⊥) → length (first_line (drop i s)) ≡ suc (length (first_line (drop (i + 1) s)))
-  unfolding first_line
-  first_goes h e = rw (drop-cons s i 0 h, ne_eqb (get_or s i 0) 10 e, add-one)
+-- k bytes stand in front
+found-from : (l : List ℕ) (k i : ℕ) → position_from ends k l ≡ Some i → k + length (first_line l) ≡ i + 1
+unfolding first_line
+found-from [] k i e = cc
+found-from (b ∷ l) k i e = go (eqb b 10) (λ f. found-from l (k + 1) i f) e
+  where
+    go : (t : Bool) → (position_from ends (k + 1) l ≡ Some i → k + 1 + length (first_line l) ≡ i + 1)
+        → cond t (Some k) (position_from ends (k + 1) l) ≡ Some i → k + suc (length (cond t [] (first_line l))) ≡ i + 1
+    go true again f = let same : k ≡ i = cc f in omega arith
+    go false again f = omega (arith, again f)
 
-  pub first-none : length s ≤ i → length (first_line (drop i s)) ≡ 0
-  unfolding first_line
-  first-none h = rw (drop_of_length-le s h)
+whole-from : (l : List ℕ) (k : ℕ) → position_from ends k l ≡ None → length (first_line l) ≡ length l
+unfolding first_line
+whole-from [] k e = refl
+whole-from (b ∷ l) k e = go (eqb b 10) (λ f. whole-from l (k + 1) f) e
+  where
+    go : (t : Bool) → (position_from ends (k + 1) l ≡ None → length (first_line l) ≡ length l)
+        → cond t (Some k) (position_from ends (k + 1) l) ≡ None → suc (length (cond t [] (first_line l))) ≡ suc (length l)
+    go true again f = cc
+    go false again f = omega (arith, again f)
+
+pub first-found : (l : List ℕ) (i : ℕ) → position ends l ≡ Some i → length (first_line l) ≡ i + 1
+first-found l i e = omega (arith, found-from l 0 i (sym (position_from-zero ends l) ∙ e))
+
+pub first-whole : (l : List ℕ) → position ends l ≡ None → length (first_line l) ≡ length l
+first-whole l e = whole-from l 0 (sym (position_from-zero ends l) ∙ e)
 
 first_short : (l : List ℕ) → length (first_line l) ≤ length l
 unfolding first_line
@@ -132,7 +148,7 @@ unfolding judge judge_by clear both
 form-fails ts a = refl
 
 module _ (s : List ℕ) where
-  abbrev at : ℕ → Option (List ℕ)
+  abbrev at : ℕ → Maybe (List ℕ)
   at n = numbers_of (line_at n s)
 
   abbrev all : Type 0
@@ -176,19 +192,19 @@ module _ (s : List ℕ) where
         ∙ ap printed (form-fails (call_tests input) (run input))
 
   -- from what each line was read into
-  pub said : (f₀ f x₀ x y₀ y d₀ d l₀ l : List ℕ) (tf tx ty td tl : Tally) → length f₀ ≡ 6
+  pub said : (f₀ f x₀ x y₀ y d₀ d l₀ l : List ℕ) (tf tx ty td tl : Option ℕ) → length f₀ ≡ 6
       → Tallied (at 0) f₀ f tf → Tallied (at 1) x₀ x tx → Tallied (at 2) y₀ y ty → Tallied (at 3) d₀ d td → Tallied (at 4) l₀ l tl
       → Says s f x y d l (counts_of tf tx ty td tl)
-  said f₀ f x₀ x y₀ y d₀ d l₀ l tally.Wrong tx ty td tl six a b c g k = wrong-0 a
-  said f₀ f x₀ x y₀ y d₀ d l₀ l (tally.Numbers n) tally.Wrong ty td tl six a b c g k = wrong-1 a.values a.reads b
-  said f₀ f x₀ x y₀ y d₀ d l₀ l (tally.Numbers n) (tally.Numbers nx) tally.Wrong td tl six a b c g k = wrong-2 a.values b.values a.reads b.reads c
-  said f₀ f x₀ x y₀ y d₀ d l₀ l (tally.Numbers n) (tally.Numbers nx) (tally.Numbers ny) tally.Wrong tl six a b c g k =
+  said f₀ f x₀ x y₀ y d₀ d l₀ l None tx ty td tl six a b c g k = wrong-0 a
+  said f₀ f x₀ x y₀ y d₀ d l₀ l (Some n) None ty td tl six a b c g k = wrong-1 a.values a.reads b
+  said f₀ f x₀ x y₀ y d₀ d l₀ l (Some n) (Some nx) None td tl six a b c g k = wrong-2 a.values b.values a.reads b.reads c
+  said f₀ f x₀ x y₀ y d₀ d l₀ l (Some n) (Some nx) (Some ny) None tl six a b c g k =
       wrong-3 a.values b.values c.values a.reads b.reads c.reads g
-  said f₀ f x₀ x y₀ y d₀ d l₀ l (tally.Numbers n) (tally.Numbers nx) (tally.Numbers ny) (tally.Numbers nd) tally.Wrong six a b c g k =
+  said f₀ f x₀ x y₀ y d₀ d l₀ l (Some n) (Some nx) (Some ny) (Some nd) None six a b c g k =
       wrong-4 a.values b.values c.values g.values a.reads b.reads c.reads g.reads k
-  said f₀ f x₀ x y₀ y d₀ d l₀ l (tally.Numbers n) (tally.Numbers nx) (tally.Numbers ny) (tally.Numbers nd) (tally.Numbers nl) full a b c g k = go (eqb n 6) refl
+  said f₀ f x₀ x y₀ y d₀ d l₀ l (Some n) (Some nx) (Some ny) (Some nd) (Some nl) full a b c g k = go (eqb n 6) refl
     where
-      go : (z : Bool) → eqb n 6 ≡ z → Says s f x y d l (cond z (Read (record { x = nx; y = ny; dealer = nd; left = nl })) Wrong)
+      go : (z : Bool) → eqb n 6 ≡ z → Says s f x y d l (cond z (Some (record { x = nx; y = ny; dealer = nd; left = nl })) None)
       go true e = record {
         input = input a.values b.values c.values g.values k.values a.reads b.reads c.reads g.reads k.reads;
         prints = six a.values b.values c.values g.values k.values a.reads b.reads c.reads g.reads k.reads (sym a.count ∙ eqb-true n 6 e);

@@ -1,6 +1,5 @@
 -- What is printed, stored run by run.
 --   few_bytes      the numbers of a slice take at most 11 bytes each
---   text-turn      one byte more of a text
 --   named-bytes, named-stored   a text with a line of numbers behind it
 --   two_bytes, two-stored       one run behind another
 --   refusal-stored, result-stored   what is printed
@@ -9,9 +8,8 @@ use Prim.Native.Nat.{ℕ, suc, ◌+◌, ◌*◌, ◌^◌, ◌≤◌, ◌<◌}
 use mathlib.Core.Path.{◌≡◌, sym, ap, ◌∙◌}
 use mathlib.Core.List.{List, [], ◌∷◌, ◌++◌, append_assoc}
 use native.Mathlib.Omega.{arith}
-use native.Mathlib.Numerals.{add-one}
-use lib.ListN.{length, get_or, set, take, length-append}
-use lib.Seq.{sets, take-suc, length-take-le}
+use lib.ListN.{length, get_or, length-append}
+use lib.Seq.{sets}
 use Rattle.algebra.specs.Words.{over}
 use Rattle.protocol.specs.declared.Head.{Head}
 use Rattle.protocol.specs.declared.Refusal.{Refusal}
@@ -33,14 +31,6 @@ words-all (x ∷ xs) h = (h 0, words-all xs (λ i. h (suc i)))
 
 pub few_bytes : (more : ℕ) (xs : List ℕ) → ((i : ℕ) → get_or xs i 0 < 2 ^ 32) → length (line_before more xs) ≤ 11 * length xs
 few_bytes more xs h = omega (arith, before-length more xs, line-short xs (words-all xs h))
-
--- ---- a text
-
-pub text-turn : (out text : List ℕ) (at j : ℕ) → j < length text → set (sets out at (take j text)) (at + j) (get_or text j 0) ≡ sets out at (take (j + 1) text)
-text-turn out text at j h =
-    let few : j ≤ length text = omega arith in
-    sets_then out at (take j text) (get_or text j 0 ∷ []) (at + j) (ap (λ (n : ℕ). at + n) (sym (length-take-le j text few)))
-    ∙ ap (sets out at) (sym (ap (λ (n : ℕ). take n text) (add-one j) ∙ take-suc text j 0 h))
 
 -- ---- a text with a line of numbers behind it
 

@@ -4,27 +4,22 @@
 --   Holds  words that hold a line's numbers, where there was room for them
 --   Said   an input, and the words that hold it
 -- Assumes nothing.
-use Rattle.std.specs.Prelude.{ℕ, ◌≤◌, ◌≡◌, cond, List, eqb, length, take}
+use Rattle.std.specs.Prelude.{ℕ, ◌≤◌, ◌≡◌, cond, List, eqb, length, take, Option, Some, None}
 use Rattle.std.proofs.lemmas.List.Edits.{sets}
 use Rattle.protocol.specs.declared.Refusal.TheVariants.{Form}
 use Rattle.protocol.specs.Judge.{refused, judge}
 use Rattle.protocol.specs.Rehearsal.{Input, terms_from, rehearsal_tests, run, printed, line_at, rehearse}
-use Rattle.decimal.specs.declared.Tally.{Tally}
-use Rattle.decimal.specs.declared.Tally.TheVariants as tally
 use Rattle.decimal.specs.Reading.{numbers_before}
 use Rattle.rehearse_lines.specs.declared.Counts.{Counts}
-use Rattle.rehearse_lines.specs.declared.Lines.{Lines}
-use Rattle.rehearse_lines.specs.declared.Lines.TheVariants.{Read, Wrong}
 
 -- the first line has six numbers
-abbrev pub counts_of : (first x y dealer left : Tally) → Lines
-counts_of tally.Wrong x y d l = Wrong
-counts_of (tally.Numbers n) tally.Wrong y d l = Wrong
-counts_of (tally.Numbers n) (tally.Numbers x) tally.Wrong d l = Wrong
-counts_of (tally.Numbers n) (tally.Numbers x) (tally.Numbers y) tally.Wrong l = Wrong
-counts_of (tally.Numbers n) (tally.Numbers x) (tally.Numbers y) (tally.Numbers d) tally.Wrong = Wrong
-counts_of (tally.Numbers n) (tally.Numbers x) (tally.Numbers y) (tally.Numbers d) (tally.Numbers l) =
-    cond (eqb n 6) (Read (record { x = x; y = y; dealer = d; left = l })) Wrong
+abbrev pub counts_of : (first x y dealer left : Option ℕ) → Option Counts
+counts_of None x y d l = None
+counts_of (Some n) None y d l = None
+counts_of (Some n) (Some x) None d l = None
+counts_of (Some n) (Some x) (Some y) None l = None
+counts_of (Some n) (Some x) (Some y) (Some d) None = None
+counts_of (Some n) (Some x) (Some y) (Some d) (Some l) = cond (eqb n 6) (Some (record { x = x; y = y; dealer = d; left = l })) None
 
 -- the numbers of line number n, up to its first fault, stand at the start of the words, as many as there is room for
 abbrev pub Loaded : (s : List ℕ) (n : ℕ) (before after : List ℕ) → Type 0
@@ -46,6 +41,6 @@ pub record Said (s first x y dealer left : List ℕ) (c : Counts) : Type 0 where
   pub in-dealer : Holds input.dealer_words c.dealer dealer
   pub in_left : Holds input.left_words c.left left
 
-abbrev pub Says : (s first x y dealer left : List ℕ) → Lines → Type 0
-Says s first x y dealer left (Read c) = Said s first x y dealer left c
-Says s first x y dealer left Wrong = rehearse s ≡ printed (refused Form)
+abbrev pub Says : (s first x y dealer left : List ℕ) → Option Counts → Type 0
+Says s first x y dealer left (Some c) = Said s first x y dealer left c
+Says s first x y dealer left None = rehearse s ≡ printed (refused Form)

@@ -15,10 +15,3 @@ pub struct Counts {
     pub dealer: usize,
     pub left: usize,
 }
-
-// All five lines can be read, and the first has six numbers, or not.
-#[derive(Clone, Copy)]
-pub enum Lines {
-    Read(Counts),
-    Wrong,
-}

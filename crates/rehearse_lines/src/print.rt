@@ -11,6 +11,7 @@ ghost use Rattle.protocol.specs.Message.{message_with};
 ghost use Rattle.rehearse_lines.specs.Prints.{MOST, shares_lines, run_of};
 
 use judging::number_of;
+use line::head_words;
 use protocol::{Head, Refusal};
 
 // The bytes of a text, and the position behind them.
@@ -19,12 +20,9 @@ fn put_text(text: &[u8], out: &mut [u8], at: usize) -> usize
     ensures place { result ≡ at + length text.now }
     ensures contents { out.new ≡ sets out.old at text.now }
 {
-    let mut j = 0;
-    while j < text.len() {
-        out[at + j] = text[j];
-        j += 1;
-    }
-    at + j
+    let behind = at + text.len();
+    out[at..behind].copy_from_slice(text);
+    behind
 }
 
 // Numbers of a line behind which `more` numbers are to stand: each takes at most 11 bytes.
@@ -44,10 +42,7 @@ fn put_message(h: Head, residues: &[u32], out: &mut [u8], at: usize) -> usize
     ensures few { result ≤ at + 11 * (7 + length residues.now) }
     ensures contents { out.new ≡ sets out.old at (message_line (message_with h residues.now)) }
 {
-    let t = h.terms;
-    let session = t.session;
-    let tape = t.tape;
-    let words = [h.kind, session.0, tape.0, t.q, t.m, t.k, t.p];
+    let words = head_words(h);
     let behind = put_run(&words, residues.len(), out, at);
     put_run(residues, 0, out, behind)
 }

@@ -6,19 +6,15 @@
 
 ghost use Rattle.std.specs.Prelude.{◌≡◌, ℕ, ◌+◌, ◌*◌, ◌≤◌, ◌<◌, length, get_or, take};
 ghost use Rattle.algebra.specs.Words.{over};
-ghost use Rattle.entry.specs.Bytes.{word_of, word_at, words_of, word_bytes, bytes_of};
+ghost use Rattle.entry.specs.Bytes.{word_at, words_of, word_bytes, bytes_of};
 
-fn word_of(a: u8, b: u8, c: u8, d: u8) -> u32
-    ensures { result ≡ word_of a b c d }
-{
-    a as u32 + b as u32 * 256 + c as u32 * 65536 + d as u32 * 16777216
-}
+use vectors::set_each;
 
 pub fn word_at(bytes: &[u8], at: usize) -> u32
     requires { at + 4 ≤ length bytes.now }
     ensures { result ≡ word_at bytes.now at }
 {
-    word_of(bytes[at], bytes[at + 1], bytes[at + 2], bytes[at + 3])
+    u32::from_le_bytes([bytes[at], bytes[at + 1], bytes[at + 2], bytes[at + 3]])
 }
 
 // The first n words of the bytes, over the start of `out`.
@@ -26,19 +22,14 @@ pub fn get_words(n: usize, bytes: &[u8], out: &mut [u32])
     requires { (n * 4 ≤ length bytes.now) × (n ≤ length out.old) }
     ensures { out.new ≡ over (take n (words_of bytes.now)) out.old }
 {
-    for i in 0..n {
-        out[i] = word_at(bytes, i * 4);
-    }
+    set_each(n, out, |i, _| word_at(bytes, i * 4));
 }
 
 fn put_word(w: u32, out: &mut [u8])
     requires { 4 ≤ length out.old }
     ensures { out.new ≡ over (word_bytes w) out.old }
 {
-    out[0] = (w % 256) as u8;
-    out[1] = (w / 256 % 256) as u8;
-    out[2] = (w / 65536 % 256) as u8;
-    out[3] = (w / 16777216 % 256) as u8;
+    out[..4].copy_from_slice(&w.to_le_bytes());
 }
 
 // The bytes of the first n words, over the start of `out`.

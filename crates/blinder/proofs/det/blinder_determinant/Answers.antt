@@ -1,5 +1,5 @@
 -- `blinder::det::blinder_determinant` meets its contract. Assumes nothing.
-use mathlib.Core.Path.{◌≡◌, sym, ap, ◌∙◌}
+use mathlib.Core.Path.{◌≡◌, refl, sym, ◌∙◌}
 use mathlib.Core.List.{List, []}
 use Prim.Native.Nat.{ℕ}
 use native.Mathlib.Nat.{mod-lt}
@@ -9,13 +9,13 @@ use lib.ListN.{length}
 use Rattle.algebra.specs.Residue.{mul_mod}
 use Rattle.algebra.proofs.Prime.{prime-test}
 use Rattle.protocol.specs.declared.BlinderSession.{BlinderSession}
+use Rattle.protocol.specs.declared.Refusal.{Refusal}
 use Rattle.protocol.specs.declared.Refusal.TheVariants.{Singular}
 use Rattle.protocol.specs.Judge.{refused, done}
 use Rattle.protocol.specs.Tape.{Slot, slot_at}
 use Rattle.protocol.specs.Message.{Message, message_with, message_size, message_parts}
 use Rattle.protocol.specs.System.{blinder_determinant_effect, blinder_determinant_tests, blinder_determinant}
-use Rattle.judging.specs.InOrder.{checked, judged}
-use Rattle.judging.proofs.Join.{hands_on}
+use Rattle.judging.specs.InOrder.{judged}
 use Rattle.judging.proofs.KindLaws.{size-6}
 use Rattle.judging.proofs.Leaving.{refused-leaves, step-leaves}
 use Rattle.blinder.specs.Later.{later_step}
@@ -45,28 +45,28 @@ module _ (x : BlinderSession) (s : Slot) (scratch : List ℕ) (a : Message) (roo
       determinant-phases x s scratch a room
       ∙ rw passed (judged-regular (prime-test _ dividing.prime) _ dividing.p-residues dividing.q-residues (λ z. some (is ∙ z)))
 
-pub returns-in_default : goal.returns-in_default
+-- ---- where one of them did not
+failed : (x : BlinderSession) (s : Slot) (scratch : List ℕ) (a : Message) (room : ℕ) {r : Refusal}
+    → refused r ≡ judged (later_step 6 (leb (message_size 6 x.terms) room) x s scratch a)
+    → judged (blinder_determinant_tests x s scratch a room) ≡ refused r
+failed x s scratch a room told = determinant-phases x s scratch a room ∙ rw (sym told) refl
+
+pub returns-in-Err : goal.returns-in-Err
 unfolding blinder_determinant
-returns-in_default c =
+returns-in-Err c =
     let a = c.args in
     let s = slot_at a.pool.now a.at.size a.at.index in
     let m = message_with a.a a.residues.now in
-    let told : checked c.check-checked.result ≡ judged (later_step 6 (leb (message_size 6 a.s.terms) (length a.out.now)) a.s s a.scratch.now m) =
-    rw c.has_room-fits.ensures at c.check-checked.ensures in
-    let e = c.in_default.is in
-    let failed = sym (hands_on c.check-checked.result _ told e
-    ∙ sym (determinant-phases a.s s a.scratch.now m (length a.out.now))) ∙ ap checked e in
-    rw (c.refused.ensures, e)
-    (sym (refused-leaves a.s s a.scratch.now [] a.out.now _ (blinder_determinant_effect a.s s a.scratch.now m) failed))
+    rw c.refused.ensures
+    (sym (refused-leaves a.s s a.scratch.now [] a.out.now _ (blinder_determinant_effect a.s s a.scratch.now m)
+    (failed a.s s a.scratch.now m (length a.out.now) (rw c.has_room-fits.ensures at c.in-Err.ensures))))
 
 pub divisor-by-requires : goal.divisor-by-requires
 divisor-by-requires c =
     let a = c.args in
     let s = slot_at a.pool.now a.at.size a.at.index in
     let m = message_with a.a a.residues.now in
-    let told : checked c.check-checked.result ≡ judged (later_step 6 (leb (message_size 6 a.s.terms) (length a.out.now)) a.s s a.scratch.now m) =
-    rw c.has_room-fits.ensures at c.check-checked.ensures in
-    let passed = sym told ∙ ap checked c.in-Passed.is in
+    let passed = sym (rw c.has_room-fits.ensures at c.in_default.ensures) in
     dividing-known a.s s a.scratch.now m _ passed
 
 pub returns-then-by-eq0 : goal.returns-then-by-eq0
@@ -75,9 +75,7 @@ returns-then-by-eq0 c =
     let a = c.args in
     let s = slot_at a.pool.now a.at.size a.at.index in
     let m = message_with a.a a.residues.now in
-    let told : checked c.check-checked.result ≡ judged (later_step 6 (leb (message_size 6 a.s.terms) (length a.out.now)) a.s s a.scratch.now m) =
-    rw c.has_room-fits.ensures at c.check-checked.ensures in
-    let passed = sym told ∙ ap checked c.in-Passed.is in
+    let passed = sym (rw c.has_room-fits.ensures at c.in_default.ensures) in
     rw c.refused-then-by-eq0.ensures
     (sym (refused-leaves a.s s a.scratch.now [] a.out.now _ (blinder_determinant_effect a.s s a.scratch.now m)
     (singular a.s s a.scratch.now m (length a.out.now) passed c.divisor-by.ensures c.if-by-eq0.true)))
@@ -88,9 +86,7 @@ compute-done-requires c =
     let a = c.args in
     let s = slot_at a.pool.now a.at.size a.at.index in
     let m = message_with a.a a.residues.now in
-    let told : checked c.check-checked.result ≡ judged (later_step 6 (leb (message_size 6 a.s.terms) (length a.out.now)) a.s s a.scratch.now m) =
-    rw c.has_room-fits.ensures at c.check-checked.ensures in
-    let passed = sym told ∙ ap checked c.in-Passed.is in
+    let passed = sym (rw c.has_room-fits.ensures at c.in_default.ensures) in
     let some = c.if-by-eq0.false in
     let d = dividing a.s s a.scratch.now m (length a.out.now) passed in
     let f = (determinant-known a.s s m a.scratch.now (length a.out.now) (accepted a.s s a.scratch.now m (length a.out.now) passed c.divisor-by.ensures some)).fits in
@@ -110,9 +106,7 @@ spend_at-requires c =
     let a = c.args in
     let s = slot_at a.pool.now a.at.size a.at.index in
     let m = message_with a.a a.residues.now in
-    let told : checked c.check-checked.result ≡ judged (later_step 6 (leb (message_size 6 a.s.terms) (length a.out.now)) a.s s a.scratch.now m) =
-    rw c.has_room-fits.ensures at c.check-checked.ensures in
-    let passed = sym told ∙ ap checked c.in-Passed.is in
+    let passed = sym (rw c.has_room-fits.ensures at c.in_default.ensures) in
     (dividing a.s s a.scratch.now m (length a.out.now) passed).placed
 
 pub returns : goal.returns
@@ -121,9 +115,7 @@ returns c =
     let a = c.args in
     let s = slot_at a.pool.now a.at.size a.at.index in
     let m = message_with a.a a.residues.now in
-    let told : checked c.check-checked.result ≡ judged (later_step 6 (leb (message_size 6 a.s.terms) (length a.out.now)) a.s s a.scratch.now m) =
-    rw c.has_room-fits.ensures at c.check-checked.ensures in
-    let passed = sym told ∙ ap checked c.in-Passed.is in
+    let passed = sym (rw c.has_room-fits.ensures at c.in_default.ensures) in
     step-leaves a.s s a.scratch.now [] a.out.now _ (blinder_determinant_effect a.s s a.scratch.now m)
     (accepted a.s s a.scratch.now m (length a.out.now) passed c.divisor-by.ensures c.if-by-eq0.false)
     (c.compute-done.ensures ∙ determinant-computed a.s s a.scratch.now a.out.now m c.divisor-by.ensures)

@@ -7,6 +7,7 @@ returns c =
     let start = c in
     let forget = c.forget in
     rw (
+      c.accepted.ensures,
       c.no_head.ensures,
       forget.ensures.value,
       forget.ensures.scratch_after,

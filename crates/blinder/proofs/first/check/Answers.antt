@@ -1,45 +1,49 @@
 -- `blinder::first::check` meets its contract. Assumes nothing.
-use mathlib.Core.Path.{◌≡◌, sym, ap, ◌∙◌}
-use Rattle.protocol.specs.Tape.{slot_at}
-use Rattle.protocol.specs.Message.{message_with}
-use Rattle.judging.specs.InOrder.{checked, judged}
+use mathlib.Core.Path.{◌≡◌, sym, ◌∙◌}
+use mathlib.Core.List.{List, ◌++◌}
+use Prim.Native.Nat.{ℕ}
+use Rattle.protocol.specs.declared.Terms.{Terms}
+use Rattle.protocol.specs.Judge.{Judged}
+use Rattle.protocol.specs.Tape.{Slot, blinder, slot_at}
+use Rattle.protocol.specs.Message.{Message, message_with, message_tests, due_tests}
+use Rattle.protocol.specs.Step.{first_tests}
+use Rattle.judging.specs.InOrder.{judged}
+use Rattle.judging.specs.Lowest.{lower}
 use Rattle.judging.proofs.Join.{also, hands_on, goes-past}
-use Rattle.blinder.specs.First.{first_numbers}
+use Rattle.blinder.specs.First.{first_inputs, first_numbers}
 use Rattle.blinder.proofs.Known.{eliminable}
 use Rattle.blinder.proofs.Order.{first-phases}
 use Rattle.blinder.proofs.first.check.Goals as goal
 
--- `told`, in each answer: what was told of the first phase
-
-pub returns-in_default : goal.returns-in_default
+-- the first phase, by its two checks
+numbers : (t : Terms) (s : Slot) (scratch : ℕ) (mm y : List ℕ) (a : Message) (room : ℕ) {shared own both : Judged Unit}
+    → both ≡ lower shared own → shared ≡ judged (message_tests a ++ (first_tests blinder t s ++ due_tests 1 t a))
+    → own ≡ judged (first_inputs t mm y scratch room) → both ≡ judged (first_numbers t s scratch mm y a room)
 unfolding first_numbers
-returns-in_default c =
+numbers t s scratch mm y a room both shared own = also _ _ both shared own
+
+pub returns-in_err-worst : goal.returns-in_err-worst
+returns-in_err-worst c =
     let a = c.args in
-    let told : checked c.worst-numbers.result
-    ≡ judged (first_numbers a.t (slot_at a.pool.now a.at.size a.at.index) a.scratch a.mm.now a.y.now (message_with a.a a.residues.now) a.room) =
-    also _ _ c.worst-numbers.ensures c.check_first_received-session.ensures c.check_inputs-inputs.ensures in
-    hands_on c.worst-numbers.result _ told c.in_default.is
-    ∙ sym (first-phases a.t (slot_at a.pool.now a.at.size a.at.index) a.scratch a.mm.now a.y.now a.words.now
-    (message_with a.a a.residues.now) a.room)
+    let s = slot_at a.pool.now a.at.size a.at.index in
+    let m = message_with a.a a.residues.now in
+    let told = numbers a.t s a.scratch a.mm.now a.y.now m a.room c.in_err-worst.ensures c.check_first_received-session.ensures c.check_inputs-inputs.ensures in
+    hands_on c.from_residual.result _ c.from_residual.ensures.1 told
+    ∙ sym (first-phases a.t s a.scratch a.mm.now a.y.now a.words.now m a.room)
 
 pub check_drawn-requires : goal.check_drawn-requires
-unfolding first_numbers
 check_drawn-requires c =
     let a = c.args in
-    let told : checked c.worst-numbers.result
-    ≡ judged (first_numbers a.t (slot_at a.pool.now a.at.size a.at.index) a.scratch a.mm.now a.y.now (message_with a.a a.residues.now) a.room) =
-    also _ _ c.worst-numbers.ensures c.check_first_received-session.ensures c.check_inputs-inputs.ensures in
-    eliminable a.t (slot_at a.pool.now a.at.size a.at.index) a.scratch a.mm.now a.y.now (message_with a.a a.residues.now) a.room
-    (sym told ∙ ap checked c.in-Passed.is)
+    let s = slot_at a.pool.now a.at.size a.at.index in
+    let m = message_with a.a a.residues.now in
+    let told = numbers a.t s a.scratch a.mm.now a.y.now m a.room c.in_ok-worst.ensures c.check_first_received-session.ensures c.check_inputs-inputs.ensures in
+    eliminable a.t s a.scratch a.mm.now a.y.now m a.room (sym told)
 
 pub returns : goal.returns
-unfolding first_numbers
 returns c =
     let a = c.args in
-    let told : checked c.worst-numbers.result
-    ≡ judged (first_numbers a.t (slot_at a.pool.now a.at.size a.at.index) a.scratch a.mm.now a.y.now (message_with a.a a.residues.now) a.room) =
-    also _ _ c.worst-numbers.ensures c.check_first_received-session.ensures c.check_inputs-inputs.ensures in
+    let s = slot_at a.pool.now a.at.size a.at.index in
+    let m = message_with a.a a.residues.now in
+    let told = numbers a.t s a.scratch a.mm.now a.y.now m a.room c.in_ok-worst.ensures c.check_first_received-session.ensures c.check_inputs-inputs.ensures in
     c.check_drawn.ensures
-    ∙ sym (first-phases a.t (slot_at a.pool.now a.at.size a.at.index) a.scratch a.mm.now a.y.now a.words.now
-    (message_with a.a a.residues.now) a.room
-    ∙ goes-past c.worst-numbers.result told c.in-Passed.is)
+    ∙ sym (first-phases a.t s a.scratch a.mm.now a.y.now a.words.now m a.room ∙ goes-past told)

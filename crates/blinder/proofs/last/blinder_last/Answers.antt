@@ -9,7 +9,7 @@ use Rattle.protocol.specs.Judge.{Judged}
 use Rattle.protocol.specs.Tape.{Slot, slot_at, blinder}
 use Rattle.protocol.specs.Message.{Message, message_with, message_parts}
 use Rattle.protocol.specs.System.{side_size, blinder_last_effect, blinder_last_tests, blinder_last}
-use Rattle.judging.specs.InOrder.{checked, judged}
+use Rattle.judging.specs.InOrder.{judged}
 use Rattle.judging.proofs.Fits.{open-placed}
 use Rattle.judging.proofs.Leaving.{refused-leaves, step-leaves, as-taken}
 use Rattle.blinder.specs.Later.{later_step}
@@ -22,23 +22,22 @@ tests : (x : BlinderSession) (s : Slot) (scratch : List ℕ) (m : Message) (room
     → v ≡ judged (later_step 5 (leb (side_size x.terms) room) x s scratch m) → v ≡ judged (blinder_last_tests x s scratch m room)
 tests x s scratch m room e = e ∙ ap judged (last-tests x s scratch m room)
 
-pub returns-in_default : goal.returns-in_default
+pub returns-in-Err : goal.returns-in-Err
 unfolding blinder_last
-returns-in_default c =
+returns-in-Err c =
     let told = c in
     let a = told.args in
     let s = slot_at a.pool.now a.at.size a.at.index in
     let m = message_with a.a a.residues.now in
-    let e = c.in_default.is in
-    rw (c.refused.ensures, e)
-    (sym (refused-leaves a.s s a.scratch.now [] a.out.now _ (blinder_last_effect a.s s a.scratch.now m) (sym (tests a.s s a.scratch.now (message_with a.a a.residues.now) (length a.out.now) (rw c.side_size.ensures at c.check-checked.ensures)) ∙ ap checked e)))
+    rw c.refused.ensures
+    (sym (refused-leaves a.s s a.scratch.now [] a.out.now _ (blinder_last_effect a.s s a.scratch.now m) (sym (tests a.s s a.scratch.now (message_with a.a a.residues.now) (length a.out.now) (rw c.side_size.ensures at c.in-Err.ensures)))))
 
 pub compute-done-requires : goal.compute-done-requires
 compute-done-requires c =
     let told = c in
     let a = told.args in
     let s = slot_at a.pool.now a.at.size a.at.index in
-    let passed = sym (tests a.s s a.scratch.now (message_with a.a a.residues.now) (length a.out.now) (rw c.side_size.ensures at c.check-checked.ensures)) ∙ ap checked told.in-Passed.is in
+    let passed = sym (tests a.s s a.scratch.now (message_with a.a a.residues.now) (length a.out.now) (rw c.side_size.ensures at c.in_default.ensures)) in
     let f = last-known a.s s (message_with a.a a.residues.now) a.scratch.now (length a.out.now) passed in
     as-taken (λ (m : Message). blinder_last_tests a.s s a.scratch.now m (length a.out.now)) f.message passed
 
@@ -47,7 +46,7 @@ spend_at-requires c =
     let told = c in
     let a = told.args in
     let s = slot_at a.pool.now a.at.size a.at.index in
-    let passed = sym (tests a.s s a.scratch.now (message_with a.a a.residues.now) (length a.out.now) (rw c.side_size.ensures at c.check-checked.ensures)) ∙ ap checked told.in-Passed.is in
+    let passed = sym (tests a.s s a.scratch.now (message_with a.a a.residues.now) (length a.out.now) (rw c.side_size.ensures at c.in_default.ensures)) in
     open-placed blinder a.s.terms s
     (last-known a.s s (message_with a.a a.residues.now) a.scratch.now (length a.out.now) passed).later.session-open
 
@@ -59,5 +58,5 @@ returns c =
     let s = slot_at a.pool.now a.at.size a.at.index in
     let m = message_with a.a a.residues.now in
     step-leaves a.s s a.scratch.now [] a.out.now _ (blinder_last_effect a.s s a.scratch.now m)
-    (sym (tests a.s s a.scratch.now (message_with a.a a.residues.now) (length a.out.now) (rw c.side_size.ensures at c.check-checked.ensures)) ∙ ap checked told.in-Passed.is)
+    (sym (tests a.s s a.scratch.now (message_with a.a a.residues.now) (length a.out.now) (rw c.side_size.ensures at c.in_default.ensures)))
     c.compute-done.ensures c.spend_at.ensures

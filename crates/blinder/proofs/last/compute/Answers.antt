@@ -59,6 +59,7 @@ returns c =
     let m = taken 5 a.s.terms a.residues.now in
     let t = a.s.terms in
     rw (
+      c.accepted.ensures,
       c.forget.ensures.value,
       c.forget.ensures.scratch_after,
       c.no_head.ensures,

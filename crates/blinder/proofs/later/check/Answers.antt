@@ -1,49 +1,58 @@
 -- `blinder::later::check` meets its contract. Assumes nothing.
-use mathlib.Core.Path.{◌≡◌, sym, ap, ◌∙◌}
-use Rattle.protocol.specs.Bounds.{room_tests}
-use Rattle.protocol.specs.Tape.{slot_at}
-use Rattle.protocol.specs.Message.{message_with}
-use Rattle.judging.specs.InOrder.{checked, judged}
-use Rattle.judging.proofs.Join.{also, hands_on, goes-past}
+use mathlib.Core.Path.{◌≡◌, sym, ◌∙◌}
+use mathlib.Core.Bool.{Bool}
+use mathlib.Core.List.{[], ◌∷◌, ◌++◌}
+use Prim.Native.Nat.{ℕ}
+use Rattle.std.specs.Prelude.{leb}
 use lib.ListN.{length}
+use Rattle.protocol.specs.declared.BlinderSession.{BlinderSession}
+use Rattle.protocol.specs.declared.Refusal.TheVariants.{Size}
+use Rattle.protocol.specs.Judge.{Judged, needs, given}
+use Rattle.protocol.specs.Bounds.{room_tests}
+use Rattle.protocol.specs.Tape.{Slot, blinder, slot_at}
+use Rattle.protocol.specs.Message.{Message, message_with, message_tests, due_tests}
+use Rattle.protocol.specs.Step.{is_open, later_tests}
+use Rattle.protocol.specs.System.{scratch_size}
+use Rattle.judging.specs.InOrder.{judged}
+use Rattle.judging.specs.Lowest.{lower}
+use Rattle.judging.proofs.Join.{also, hands_on, goes-past}
 use Rattle.blinder.specs.Later.{later_open}
 use Rattle.blinder.proofs.Known.{kept-known}
 use Rattle.blinder.proofs.Order.{later-phases}
 use Rattle.blinder.proofs.later.check.Goals as goal
 
--- `told`, in each answer: what was told of the first phase
-
-pub returns-in_default : goal.returns-in_default
+-- the first phase, by its three checks
+numbers : (step : ℕ) (fits : Bool) (x : BlinderSession) (s : Slot) (scratch : ℕ) (a : Message) {shared lent written rooms all : Judged Unit} {room : Bool}
+    → all ≡ lower shared rooms → shared ≡ judged (message_tests a ++ (later_tests blinder step x.due x.terms s ++ due_tests step x.terms a))
+    → rooms ≡ lower lent written → room ≡ leb (scratch_size x.terms) scratch → lent ≡ judged (given (is_open x.due) (needs Size room ∷ []))
+    → written ≡ judged (given (is_open x.due) (needs Size fits ∷ [])) → all ≡ judged (later_open step fits x s scratch a)
 unfolding later_open room_tests
-returns-in_default c =
+numbers step fits x s scratch a all shared rooms room lent written = also _ _ all shared (also _ _ rooms (rw room at lent) written)
+
+pub returns-in_err-worst : goal.returns-in_err-worst
+returns-in_err-worst c =
     let a = c.args in
-    let told : checked c.worst-numbers.result
-    ≡ judged (later_open a.step a.fits a.s (slot_at a.pool.now a.at.size a.at.index) (length a.scratch.now) (message_with a.a a.residues.now)) =
-    also _ _ c.worst-numbers.ensures c.check_later-session.ensures
-    (also _ _ c.worst.ensures (rw c.scratch_fits.ensures at c.check_room-lent.ensures) c.check_room-written.ensures) in
-    hands_on c.worst-numbers.result _ told c.in_default.is ∙ sym
-    (later-phases a.s (slot_at a.pool.now a.at.size a.at.index) a.scratch.now (message_with a.a a.residues.now) a.step a.fits)
+    let s = slot_at a.pool.now a.at.size a.at.index in
+    let m = message_with a.a a.residues.now in
+    let told = numbers a.step a.fits a.s s (length a.scratch.now) m c.in_err-worst.ensures c.check_later-session.ensures c.worst.ensures c.scratch_fits.ensures
+    c.check_room-lent.ensures c.check_room-written.ensures in
+    hands_on c.from_residual.result _ c.from_residual.ensures.1 told ∙ sym (later-phases a.s s a.scratch.now m a.step a.fits)
 
 pub check_kept-requires : goal.check_kept-requires
-unfolding later_open room_tests
 check_kept-requires c =
     let a = c.args in
-    let told : checked c.worst-numbers.result
-    ≡ judged (later_open a.step a.fits a.s (slot_at a.pool.now a.at.size a.at.index) (length a.scratch.now) (message_with a.a a.residues.now)) =
-    also _ _ c.worst-numbers.ensures c.check_later-session.ensures
-    (also _ _ c.worst.ensures (rw c.scratch_fits.ensures at c.check_room-lent.ensures) c.check_room-written.ensures) in
-    let f = kept-known a.s (slot_at a.pool.now a.at.size a.at.index) (message_with a.a a.residues.now) a.step a.fits (length a.scratch.now)
-    (sym told ∙ ap checked c.in-Passed.is) in
+    let s = slot_at a.pool.now a.at.size a.at.index in
+    let m = message_with a.a a.residues.now in
+    let told = numbers a.step a.fits a.s s (length a.scratch.now) m c.in_ok-worst.ensures c.check_later-session.ensures c.worst.ensures c.scratch_fits.ensures
+    c.check_room-lent.ensures c.check_room-written.ensures in
+    let f = kept-known a.s s m a.step a.fits (length a.scratch.now) (sym told) in
     (f.0.session-open.terms.sides, f.1)
 
 pub returns : goal.returns
-unfolding later_open room_tests
 returns c =
     let a = c.args in
-    let told : checked c.worst-numbers.result
-    ≡ judged (later_open a.step a.fits a.s (slot_at a.pool.now a.at.size a.at.index) (length a.scratch.now) (message_with a.a a.residues.now)) =
-    also _ _ c.worst-numbers.ensures c.check_later-session.ensures
-    (also _ _ c.worst.ensures (rw c.scratch_fits.ensures at c.check_room-lent.ensures) c.check_room-written.ensures) in
-    c.check_kept.ensures
-    ∙ sym (later-phases a.s (slot_at a.pool.now a.at.size a.at.index) a.scratch.now (message_with a.a a.residues.now) a.step a.fits
-    ∙ goes-past c.worst-numbers.result told c.in-Passed.is)
+    let s = slot_at a.pool.now a.at.size a.at.index in
+    let m = message_with a.a a.residues.now in
+    let told = numbers a.step a.fits a.s s (length a.scratch.now) m c.in_ok-worst.ensures c.check_later-session.ensures c.worst.ensures c.scratch_fits.ensures
+    c.check_room-lent.ensures c.check_room-written.ensures in
+    c.check_kept.ensures ∙ sym (later-phases a.s s a.scratch.now m a.step a.fits ∙ goes-past told)

@@ -10,7 +10,7 @@ use Rattle.protocol.specs.Tape.{Slot, slot_at}
 use Rattle.protocol.specs.Message.{Message, message_size, message_with, message_parts}
 use Rattle.protocol.specs.System.{blinder_second_effect, blinder_second_tests, blinder_second}
 use Rattle.tape.proofs.Slots.{same-pool}
-use Rattle.judging.specs.InOrder.{checked, judged}
+use Rattle.judging.specs.InOrder.{judged}
 use Rattle.judging.proofs.Leaving.{refused-leaves, step-leaves, as-taken}
 use Rattle.blinder.specs.Later.{later_step}
 use Rattle.blinder.proofs.Known.{second-known}
@@ -22,23 +22,22 @@ tests : (x : BlinderSession) (s : Slot) (scratch : List ℕ) (m : Message) (room
     → v ≡ judged (later_step 3 (leb (message_size 4 x.terms) room) x s scratch m) → v ≡ judged (blinder_second_tests x s scratch m room)
 tests x s scratch m room e = e ∙ ap judged (second-tests x s scratch m room)
 
-pub returns-in_default : goal.returns-in_default
+pub returns-in-Err : goal.returns-in-Err
 unfolding blinder_second
-returns-in_default c =
+returns-in-Err c =
     let told = c in
     let a = told.args in
     let s = slot_at a.pool.now a.at.size a.at.index in
     let m = message_with a.a a.residues.now in
-    let e = c.in_default.is in
-    rw (c.refused.ensures, e)
-    (sym (refused-leaves a.s s a.scratch.now a.out.now [] _ (blinder_second_effect a.s s a.scratch.now m) (sym (tests a.s s a.scratch.now (message_with a.a a.residues.now) (length a.out.now) (rw c.has_room-fits.ensures at c.check-checked.ensures)) ∙ ap checked e)))
+    rw c.refused.ensures
+    (sym (refused-leaves a.s s a.scratch.now a.out.now [] _ (blinder_second_effect a.s s a.scratch.now m) (sym (tests a.s s a.scratch.now (message_with a.a a.residues.now) (length a.out.now) (rw c.has_room-fits.ensures at c.in-Err.ensures)))))
 
 pub compute-requires : goal.compute-requires
 compute-requires c =
     let told = c in
     let a = told.args in
     let s = slot_at a.pool.now a.at.size a.at.index in
-    let passed = sym (tests a.s s a.scratch.now (message_with a.a a.residues.now) (length a.out.now) (rw c.has_room-fits.ensures at c.check-checked.ensures)) ∙ ap checked c.in-Passed.is in
+    let passed = sym (tests a.s s a.scratch.now (message_with a.a a.residues.now) (length a.out.now) (rw c.has_room-fits.ensures at c.in_default.ensures)) in
     let f = second-known a.s s (message_with a.a a.residues.now) a.scratch.now (length a.out.now) passed in
     as-taken (λ (m : Message). blinder_second_tests a.s s a.scratch.now m (length a.out.now)) f.message passed
 
@@ -49,7 +48,7 @@ returns c =
     let a = told.args in
     let s = slot_at a.pool.now a.at.size a.at.index in
     let m = message_with a.a a.residues.now in
-    let passed = sym (tests a.s s a.scratch.now (message_with a.a a.residues.now) (length a.out.now) (rw c.has_room-fits.ensures at c.check-checked.ensures)) ∙ ap checked c.in-Passed.is in
+    let passed = sym (tests a.s s a.scratch.now (message_with a.a a.residues.now) (length a.out.now) (rw c.has_room-fits.ensures at c.in_default.ensures)) in
     let f = second-known a.s s m a.scratch.now (length a.out.now) passed in
     step-leaves a.s s a.scratch.now a.out.now [] _ (blinder_second_effect a.s s a.scratch.now m) passed c.compute.ensures
     (sym (same-pool s f.later.session-open.half.inside))

@@ -28,13 +28,11 @@ matrix-g-requires c =
     let f = second-known a.s (slot_at a.pool.now a.at.size a.at.index) (taken 3 a.s.terms a.residues.now) a.scratch.now (length a.out.now) c.requires in
     (open-placed blinder a.s.terms (slot_at a.pool.now a.at.size a.at.index) f.later.session-open, omega arith)
 
-pub slice_bounds-mm-end : goal.slice_bounds-mm-end
-slice_bounds-mm-end c =
+pub shared_ref_as_front-send : goal.shared_ref_as_front-send
+shared_ref_as_front-send c =
     let a = c.args in
     let f = second-known a.s (slot_at a.pool.now a.at.size a.at.index) (taken 3 a.s.terms a.residues.now) a.scratch.now (length a.out.now) c.requires in
-    let m-fits = kept-fits a.s.mm 256 c.well_formed.1.1.1.0.1.1.1.1.0.1.0.1
-    c.times-square.ensures (square-bound a.s.terms f.later.session-open.terms.sides) in
-    m-fits
+    omega (arith, c.times-square.ensures, square-bound a.s.terms f.later.session-open.terms.sides)
 
 pub slice_bounds-send-end : goal.slice_bounds-send-end
 slice_bounds-send-end c =
@@ -44,13 +42,11 @@ slice_bounds-send-end c =
     c.times-square.ensures (square-bound a.s.terms f.later.session-open.terms.sides) in
     sym (length-take-le _ a.s.mm m-fits)
 
-pub slice_bounds-y-end : goal.slice_bounds-y-end
-slice_bounds-y-end c =
+pub shared_ref_as_front-send-2 : goal.shared_ref_as_front-send-2
+shared_ref_as_front-send-2 c =
     let a = c.args in
     let f = second-known a.s (slot_at a.pool.now a.at.size a.at.index) (taken 3 a.s.terms a.residues.now) a.scratch.now (length a.out.now) c.requires in
-    let y-fits = kept-fits a.s.y 16 c.well_formed.1.1.1.0.1.1.1.1.1.0.1.0.1
-    c.side_size-side.ensures (side-bound a.s.terms f.later.session-open.terms.sides) in
-    y-fits
+    omega (arith, c.side_size-side.ensures, side-bound a.s.terms f.later.session-open.terms.sides)
 
 pub slice_bounds-send-end-2 : goal.slice_bounds-send-end-2
 slice_bounds-send-end-2 c =
@@ -75,7 +71,8 @@ pub returns : goal.returns
 returns c =
     let a = c.args in
     let f = second-known a.s (slot_at a.pool.now a.at.size a.at.index) (taken 3 a.s.terms a.residues.now) a.scratch.now (length a.out.now) c.requires in
-    second-computed a.s (slot_at a.pool.now a.at.size a.at.index) (taken 3 a.s.terms a.residues.now) f
+    rw c.accepted.ensures
+    (second-computed a.s (slot_at a.pool.now a.at.size a.at.index) (taken 3 a.s.terms a.residues.now) f
     c.matrix-qm.ensures c.matrix-g.ensures
     a.out.now c.last_kind.ensures c.times-square.ensures c.side_size-side.ensures
-    c.send.ensures
+    c.send.ensures)

@@ -2,7 +2,6 @@
 use mathlib.Core.Path.{sym, ◌∙◌}
 use native.Mathlib.Omega.{arith}
 use Rattle.entry.specs.Entry.{Lent}
-use Rattle.host_parts.proofs.TakenLaws.{taken-message, taken-wrong}
 use Rattle.host_first.proofs.Opened.{opened-alone, opened-wrong, opened-sent}
 use Rattle.host_first.proofs.call.first_with.Goals as goal
 
@@ -30,11 +29,11 @@ returns-in_default c =
       result = a.res.now;
     } in
     opened-wrong l a.f.at.size a.f.at.index a.f.end a.f.terms a.input.now a.raw.now a.message.now
-    (sym c.takes_message.ensures ∙ c.if-not-takes_message.false) (taken-wrong _ _ c.take_line-loaded.ensures c.in_default.is) c.refusal.ensures
+    (sym c.takes_message.ensures ∙ c.if-not-takes_message.false) c.in_default.ensures c.refusal.ensures
 
 pub residues_in-residues-requires : goal.residues_in-residues-requires
 residues_in-residues-requires c =
-    omega (arith, c.opening_of-opened.ensures.2, c.take_line-loaded.auto, c.requires.0)
+    omega (arith, c.opening_of-opened.ensures.2, c.take_line.auto, c.requires.0)
 
 pub first_on-requires-2 : goal.first_on-requires-2
 first_on-requires-2 c =
@@ -52,5 +51,5 @@ returns c =
     } in
     let opened = c.opening_of-opened in
     opened-sent l a.f.at.size a.f.at.index a.f.end a.f.terms a.input.now a.raw.now a.message.now
-    (sym c.takes_message.ensures ∙ c.if-not-takes_message.false) (taken-message _ _ c.take_line-loaded.ensures c.in-Message.is) opened.ensures.0 opened.ensures.1 opened.ensures.3
-    (omega (arith, opened.ensures.2, c.take_line-loaded.auto, c.requires.0)) c.residues_in-residues.ensures c.first_on-2.ensures
+    (sym c.takes_message.ensures ∙ c.if-not-takes_message.false) c.in-Some.ensures opened.ensures.0 opened.ensures.1 opened.ensures.3
+    (omega (arith, opened.ensures.2, c.take_line.auto, c.requires.0)) c.residues_in-residues.ensures c.first_on-2.ensures

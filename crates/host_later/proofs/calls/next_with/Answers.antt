@@ -1,7 +1,6 @@
 -- `host_later::calls::next_with` meets its contract. Assumes nothing.
 use native.Mathlib.Omega.{arith}
 use Rattle.entry.specs.Entry.{Lent}
-use Rattle.host_parts.proofs.TakenLaws.{taken-message, taken-wrong}
 use Rattle.host_later.proofs.Opened.{later-long, next-opened, next-none}
 use Rattle.host_later.proofs.calls.next_with.Goals as goal
 
@@ -15,7 +14,7 @@ returns-in_default c =
       line = a.line.now;
       result = a.res.now;
     } in
-    next-none l a.at.size a.at.index a.message.now (taken-wrong _ _ c.take_line-loaded.ensures c.in_default.is) c.refusal.ensures
+    next-none l a.at.size a.at.index a.message.now c.in_default.ensures c.refusal.ensures
 
 pub with_room-requires : goal.with_room-requires
 with_room-requires c =
@@ -40,5 +39,5 @@ returns c =
       result = a.res.now;
     } in
     next-opened l c.check_session-own.ensures a.at.size a.at.index
-    (taken-message _ _ c.take_line-loaded.ensures c.in-Message.is) (omega (arith, c.requires)) c.seen_count-seen.ensures.0
+    c.in-Some.ensures (omega (arith, c.requires)) c.seen_count-seen.ensures.0
     c.residues_in-residues.ensures c.with_room.ensures

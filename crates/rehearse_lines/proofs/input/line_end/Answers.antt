@@ -1,26 +1,23 @@
 -- `rehearse_lines::input::line_end` meets its contract. Assumes nothing.
-use mathlib.Core.Path.{refl}
+use mathlib.Core.Path.{◌≡◌, sym, ap, ◌∙◌}
+use Prim.Native.Nat.{◌-◌}
 use native.Mathlib.Omega.{arith}
-use Rattle.rehearse_lines.proofs.Split.{first_ends, first_goes, first-none}
+use lib.ListN.{length, take, drop, length-drop}
+use lib.Seq.{take_all}
+use Rattle.std.specs.List.{position}
+use Rattle.rehearse_lines.proofs.Split.{ends, first-found, first-whole}
 use Rattle.rehearse_lines.proofs.input.line_end.Goals as goal
 
-pub loop-i-init : goal.loop-i-init
-loop-i-init c = (c.requires, refl)
-
-pub returns-then-b-eq10 : goal.returns-then-b-eq10
-returns-then-b-eq10 c =
+pub returns-in-Some : goal.returns-in-Some
+returns-in-Some c =
     let s = c.args.s.now in
-    let i = c.loop-i.i in
-    omega (arith, first_ends s i c.loop-i-test.true c.if-b-eq10.true, c.loop-i.invariant.1)
+    let rest = drop c.args.at s in
+    let all : take (length s - c.args.at) rest ≡ rest = take_all _ rest (omega (arith, length-drop c.args.at s)) in
+    omega (arith, first-found rest c.in-Some.i (ap (position ends) (sym all) ∙ sym c.in-Some.ensures))
 
-pub loop-i-preserved : goal.loop-i-preserved
-loop-i-preserved c =
+pub returns-in-None : goal.returns-in-None
+returns-in-None c =
     let s = c.args.s.now in
-    let i = c.loop-i.i in
-    (omega arith, omega (arith, first_goes s i c.loop-i-test.true c.if-b-eq10.false, c.loop-i.invariant.1))
-
-pub returns : goal.returns
-returns c =
-    let s = c.args.s.now in
-    let i = c.loop-i.i in
-    omega (arith, first-none s i c.loop-i-test.false, c.loop-i.invariant.1)
+    let rest = drop c.args.at s in
+    let all : take (length s - c.args.at) rest ≡ rest = take_all _ rest (omega (arith, length-drop c.args.at s)) in
+    omega (arith, first-whole rest (ap (position ends) (sym all) ∙ sym c.in-None.ensures), length-drop c.args.at s)

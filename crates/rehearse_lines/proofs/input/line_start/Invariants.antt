@@ -4,8 +4,9 @@ use lib.ListN.{length, drop}
 use Rattle.protocol.specs.Rehearsal.{line_at}
 use Rattle.rehearse_lines.proofs.input.line_start.Given as goal
 
-abbrev pub invariant-loop-i : goal.invariant-loop-i
-invariant-loop-i l = (l.i ≤ l.n) × (l.at ≤ length l.s) × (line_at (l.n - l.i) (drop l.at l.s) ≡ line_at l.n l.s)
-
-abbrev pub decreases-loop-i : goal.decreases-loop-i
-decreases-loop-i l = l.n - l.i
+-- the lines that are left to skip
+abbrev pub invariant-loop : goal.invariant-loop
+invariant-loop l = record {
+  inside : l.at ≤ length l.s;
+  begins : line_at (l.n - l.counter) (drop l.at l.s) ≡ line_at l.n l.s;
+}
