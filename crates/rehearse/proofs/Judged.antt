@@ -30,8 +30,7 @@ use Rattle.tape.proofs.Sides.{sides, modulus}
 use Rattle.judging.specs.Groups.{modulus_tests}
 use Rattle.judging.proofs.Join.{judged-phases, hands_on, goes-past}
 use Rattle.rehearse_lines.specs.declared.Counts.{Counts}
-use Rattle.rehearse_lines.specs.declared.Lines.{Lines}
-use Rattle.rehearse_lines.specs.declared.Lines.TheVariants.{Read, Wrong}
+use Rattle.std.specs.Prelude.{Option, Some, None}
 use Rattle.rehearse_lines.specs.Prints.{MOST}
 use Rattle.rehearse_lines.specs.Says.{Said, Says}
 use Rattle.rehearse.specs.Order.{input_of, size_tests, number_tests, residue_tests, word_tests, refusal_in, PrintsAll, Prints}
@@ -140,10 +139,10 @@ held-printed t x y xs ys d l n before after e f p =
 
 -- ---- and of the lines
 
-pub said-wrong : (s f x y d l : List ℕ) (r : Lines) → Says s f x y d l r → r ≡ Wrong → rehearse s ≡ printed (refused Form)
+pub said-wrong : (s f x y d l : List ℕ) (r : Option Counts) → Says s f x y d l r → r ≡ None → rehearse s ≡ printed (refused Form)
 said-wrong s f x y d l r said e = subst (Says s f x y d l) e said
 
-pub said_read : (s f x y d l : List ℕ) (r : Lines) (c : Counts) → Says s f x y d l r → r ≡ Read c → Said s f x y d l c
+pub said_read : (s f x y d l : List ℕ) (r : Option Counts) (c : Counts) → Says s f x y d l r → r ≡ Some c → Said s f x y d l c
 said_read s f x y d l r c said e = subst (Says s f x y d l) e said
 
 pub wrong-printed : (s : List ℕ) (n : ℕ) (before after : List ℕ) → rehearse s ≡ printed (refused Form) → n ≡ length (printed (refused Form))

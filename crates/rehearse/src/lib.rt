@@ -19,7 +19,7 @@ ghost use Rattle.rehearse.specs.Order.{input_of, number_tests, refusal_in, Print
 
 use judging::Check;
 use protocol::{Refusal, Terms};
-use rehearse_lines::{Counts, Lines, input, print};
+use rehearse_lines::{Counts, input, print};
 
 // The refusal of a check that did not pass.
 fn refusal_in(c: Check) -> Refusal
@@ -103,7 +103,7 @@ pub fn rehearse(bytes: &[u8], out: &mut [u8; 81920]) -> usize
     let mut dealer = [0u32; 32768];
     let mut coins = [0u32; 32768];
     let lines = input::read(bytes, &mut first, &mut x, &mut y, &mut dealer, &mut coins);
-    let Lines::Read(c) = lines else {
+    let Some(c) = lines else {
         return print::refusal(Refusal::Form, out);
     };
     said(c, &first, &x, &y, &dealer, &coins, out)

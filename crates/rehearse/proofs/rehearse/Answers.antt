@@ -20,7 +20,7 @@ pub said-requires : goal.said-requires
 said-requires c =
     let read = c in
     let a = read.args in
-    let s = said_read a.bytes.now _ _ _ _ _ read.read-lines.result c.in-Read.c read.read-lines.ensures.answered c.in-Read.is in
+    let s = said_read a.bytes.now _ _ _ _ _ read.read-lines.result c.in-Some.c read.read-lines.ensures.answered c.in-Some.is in
     let coins = c in (
       search rules,
       search rules,
@@ -35,7 +35,7 @@ returns c =
     let told = c in
     let read = c in
     let a = read.args in
-    let s = said_read a.bytes.now _ _ _ _ _ read.read-lines.result told.in-Read.c read.read-lines.ensures.answered told.in-Read.is in
+    let s = said_read a.bytes.now _ _ _ _ _ read.read-lines.result told.in-Some.c read.read-lines.ensures.answered told.in-Some.is in
     let z = c.said.ensures a.bytes.now s in record {
       place = z.place;
       few = z.few;
