@@ -1,5 +1,5 @@
 -- What the entry's code leaves is what its definition says.
---   fit_refused, fit_passed     its tests, as one
+--   fit-told                    its tests, as one
 --   part-taken, cut-back        words of a pool, and of an array of which the first words were lent
 --   sifted-none, sifted-some    the raw words
 --   copied-refused, copied-done a dealing on copies, in the pools
@@ -9,7 +9,7 @@
 use mathlib.Core.Path.{◌≡◌, refl, sym, ap, ◌∙◌}
 use mathlib.Core.Bool.{Bool, true, false, cond}
 use mathlib.Core.List.{List, [], ◌∷◌, ◌++◌}
-use Prim.Native.Nat.{ℕ, zero, suc, ◌+◌, ◌-◌, ◌*◌, ◌≤◌, ◌<◌}
+use Prim.Native.Nat.{ℕ, ◌+◌, ◌-◌, ◌*◌, ◌≤◌, ◌<◌}
 use native.Mathlib.Omega.{arith}
 use lib.Dec.{eqb, ltb}
 use lib.ListN.{length, take, drop, length-drop, length-take}
@@ -21,13 +21,15 @@ use Rattle.protocol.specs.declared.Terms.{Terms}
 use Rattle.protocol.specs.declared.Refusal.{Refusal}
 use Rattle.protocol.specs.declared.Refusal.TheVariants.{Size}
 use Rattle.protocol.specs.Answer.{Answer}
-use Rattle.std.specs.Prelude.{Ok, Err}
+use Rattle.std.specs.Prelude.{Ok, Err, Some, None, IsErrAnd, is_ok}
+use Rattle.std.proofs.lemmas.Result.{err_from_is_err_and}
+use Rattle.std.proofs.lemmas.Option.{none-some}
 use Rattle.protocol.specs.Judge.{refusal_number, Reply, needs, clear, Judged, refused, done, judge, judge_by}
 use Rattle.protocol.specs.Bounds.{Sort, product, system, sides_fit}
 use Rattle.protocol.specs.Step.{answer_reply}
 use Rattle.protocol.specs.Deal.{Dealt, deal}
 use Rattle.protocol.proofs.Judge.{not-zero, refused≢done}
-use Rattle.judging.specs.InOrder.{judged}
+use Rattle.judging.specs.InOrder.{Check, checked, judged}
 use Rattle.vectors.proofs.Written.{over-part, tail-part}
 use Rattle.entry.specs.Bytes.{words_of, bytes_of}
 use Rattle.entry.specs.Entry.{Dealing, whole_tests, dealing, deal_on}
@@ -47,7 +49,7 @@ use Rattle.host_deal.proofs.Fits.{few-drawn, fit-judged}
 -- ---- the tests
 
 module _ (s : Sort) (t : Terms) (first second words size index : ℕ) where
-  pub fit_refused : {r : Refusal} → judged (part_tests s t first second words size index) ≡ refused r → is_fit s t first second words size index ≡ false
+  fit_refused : {r : Refusal} → judged (part_tests s t first second words size index) ≡ refused r → is_fit s t first second words size index ≡ false
   unfolding is_fit
   fit_refused {r} e = go (clear Size (part_tests s t first second words size index)) refl
     where
@@ -56,7 +58,7 @@ module _ (s : Sort) (t : Terms) (first second words size index : ℕ) where
       go false h = rw h (both-no (ltb 0 t.q))
       go true h = absurd (refused≢done (sym e ∙ (fit-judged s t first second words size index ∙ rw h refl)))
 
-  pub fit_passed : 0 < t.q → judged (part_tests s t first second words size index) ≡ done tt → is_fit s t first second words size index ≡ true
+  fit_passed : 0 < t.q → judged (part_tests s t first second words size index) ≡ done tt → is_fit s t first second words size index ≡ true
   unfolding is_fit both
   fit_passed q e = go (clear Size (part_tests s t first second words size index)) refl
     where
@@ -64,6 +66,11 @@ module _ (s : Sort) (t : Terms) (first second words size index : ℕ) where
           → both (ltb 0 t.q) (clear Size (part_tests s t first second words size index)) ≡ true
       go true h = rw (lt-ltb 0 t.q q, h) refl
       go false h = absurd (refused≢done {r = Size} (sym (fit-judged s t first second words size index ∙ rw h refl) ∙ e))
+
+  -- the same of what was answered
+  pub fit-told : (x : Check) → 0 < t.q → checked x ≡ judged (part_tests s t first second words size index) → is_ok x ≡ is_fit s t first second words size index
+  fit-told (Ok u) q e = sym (fit_passed q (sym e))
+  fit-told (Err r) q e = sym (fit_refused (sym e))
 
 -- ---- words
 
@@ -103,21 +110,20 @@ module _ (s : Sort) (t : Terms) (size : ℕ) (words out : List ℕ) where
 abbrev leaving : Answer → (first second : List ℕ) → Pools
 leaving a first second = record { answer = answer_reply a; first = first; second = second }
 
-module _ (at : Part) (first second v w x y : List ℕ) (a : Answer) where
-  back-refused : (o : Judged Dealt) {r : Refusal} → leaving a x y ≡ pools v w o → a ≡ Err r
-      → leaving a first second ≡ back at first second o
-  back-refused (refused z) h e = ap (λ (p : Pools). record { answer = p.answer; first = first; second = second }) h
-  back-refused (done d) {r} h e =
-      let n : refusal_number r ≡ 0 = ap (λ (p : Pools). p.answer.number) (rw e at h) in
+module _ (at : Part) (first second v w x y : List ℕ) where
+  back-refused : (o : Judged Dealt) (r : Refusal) → leaving (Err r) x y ≡ pools v w o → leaving (Err r) first second ≡ back at first second o
+  back-refused (refused z) r h = ap (λ (p : Pools). record { answer = p.answer; first = first; second = second }) h
+  back-refused (done d) r h =
+      let n : refusal_number r ≡ 0 = ap (λ (p : Pools). p.answer.number) h in
       absurd (omega (arith, not-zero r, n))
 
-  back_done : (o : Judged Dealt) {n : ℕ} {l m : List ℕ} → leaving a x y ≡ pools v w o
-      → a ≡ Ok n → l ≡ written_at (at.from * 4) (bytes_of x) first → m ≡ written_at (at.from * 4) (bytes_of y) second
-      → leaving a l m ≡ back at first second o
-  back_done (refused z) h e p q =
-      let n : 0 ≡ refusal_number z = ap (λ (p : Pools). p.answer.number) (rw e at h) in
+  back_done : (o : Judged Dealt) {n : ℕ} {l m : List ℕ} → leaving (Ok n) x y ≡ pools v w o
+      → l ≡ written_at (at.from * 4) (bytes_of x) first → m ≡ written_at (at.from * 4) (bytes_of y) second
+      → leaving (Ok n) l m ≡ back at first second o
+  back_done (refused z) h p q =
+      let n : 0 ≡ refusal_number z = ap (λ (p : Pools). p.answer.number) h in
       absurd (omega (arith, not-zero z, n))
-  back_done (done d) h e p q =
+  back_done (done d) h p q =
       rw (p, q)
       (ap (λ (p : Pools). record {
         answer = p.answer;
@@ -127,21 +133,25 @@ module _ (at : Part) (first second v w x y : List ℕ) (a : Answer) where
 
 -- the copies are of the pools' words
 module _ (at : Part) (s : Sort) (t : Terms) (first second words v w : List ℕ) (e : v ≡ part_words at first) (f : w ≡ part_words at second)
-    (x y : List ℕ) (a : Answer) (h : leaving a x y ≡ pools v w (deal v w at.size 0 (request s t words))) where
-  same : leaving a x y ≡ pools (part_words at first) (part_words at second) (dealt_copies at s t first second words)
+    (x y : List ℕ) where
+  same : {p : Pools} → p ≡ pools v w (deal v w at.size 0 (request s t words))
+      → p ≡ pools (part_words at first) (part_words at second) (dealt_copies at s t first second words)
   unfolding dealt_copies
-  same = rw (e, f) at h
+  same h = rw (e, f) at h
 
-  pub copied-refused : {r : Refusal} → a ≡ Err r → leaving a first second ≡ copied at s t first second words
+  pub copied-refused : (a : Answer) (r : Refusal) → IsErrAnd a (λ z. z ≡ r) → leaving (Err r) x y ≡ pools v w (deal v w at.size 0 (request s t words))
+      → leaving a first second ≡ copied at s t first second words
   unfolding copied
-  copied-refused z =
-      back-refused at first second (part_words at first) (part_words at second) x y a (dealt_copies at s t first second words) same z
+  copied-refused a r gives h =
+      let p = err_from_is_err_and a gives in
+      rw (p.1, p.2) (back-refused at first second (part_words at first) (part_words at second) x y (dealt_copies at s t first second words) r (same h))
 
-  pub copied-done : {n : ℕ} {l m : List ℕ} → a ≡ Ok n → l ≡ written_at (at.from * 4) (bytes_of x) first
-      → m ≡ written_at (at.from * 4) (bytes_of y) second → leaving a l m ≡ copied at s t first second words
+  pub copied-done : {n : ℕ} {l m : List ℕ} → leaving (Ok n) x y ≡ pools v w (deal v w at.size 0 (request s t words))
+      → l ≡ written_at (at.from * 4) (bytes_of x) first → m ≡ written_at (at.from * 4) (bytes_of y) second
+      → leaving (Ok n) l m ≡ copied at s t first second words
   unfolding copied
-  copied-done z p q =
-      back_done at first second (part_words at first) (part_words at second) x y a (dealt_copies at s t first second words) same z p q
+  copied-done h p q =
+      back_done at first second (part_words at first) (part_words at second) x y (dealt_copies at s t first second words) (same h) p q
 
 -- `read` of all raw words were read
 report-told : (at : Part) (read : ℕ) (first second x y : List ℕ) (a : Answer) (o : Judged Dealt)
@@ -177,18 +187,36 @@ module _ (first second : List ℕ) (size index : ℕ) (words : List ℕ) where
   unfolding clear both judge judge_by
   none-refused = own-refused (record { read = 0; first = []; second = [] })
 
-  pub other-sort : (sort tape q m k p : ℕ) → 1 < sort
+  pub other-sort : (sort tape q m k p : ℕ) → None ≡ cond (eqb sort 0) (Some product) (cond (eqb sort 1) (Some system) None)
       → ◌≡◌ {A = Dealing} (record { report = report_of (Err Size) 0; first = first; second = second })
       (deal_on sort first second size index tape q m k p words)
   unfolding deal_on
-  other-sort sort tape q m k p h =
-      rw (ne_eqb sort 0 (λ e. omega (arith, h, e)), ne_eqb sort 1 (λ e. omega (arith, h, e))) (sym (ap (dealing first second) none-refused))
+  other-sort sort tape q m k p e = go (eqb sort 0) (eqb sort 1) refl refl
+    where
+      go : (a b : Bool) → eqb sort 0 ≡ a → eqb sort 1 ≡ b
+          → ◌≡◌ {A = Dealing} (record { report = report_of (Err Size) 0; first = first; second = second })
+          (deal_on sort first second size index tape q m k p words)
+      go true b x y = let none : None ≡ Some product = rw x at e in absurd (none-some _ none)
+      go false true x y = let none : None ≡ Some system = rw (x, y) at e in absurd (none-some _ none)
+      go false false x y = rw (x, y) (sym (ap (dealing first second) none-refused))
 
-  pub by-sort : (sort : ℕ) (s : Sort) (t : Terms) → sort ≤ 1 → s ≡ cond (eqb sort 0) product system
+  pub by-sort : (sort : ℕ) (s : Sort) (t : Terms) → Some s ≡ cond (eqb sort 0) (Some product) (cond (eqb sort 1) (Some system) None)
       → dealing first second
       (also (own_tests (length first) (length second) (length words)) (deal (words_of first) (words_of second) size index (request s t (words_of words))))
       ≡ deal_on sort first second size index t.tape.0 t.q t.m t.k t.p words
   unfolding deal_on
-  by-sort zero s t h e = rw e refl
-  by-sort (suc zero) s t h e = rw e refl
-  by-sort (suc (suc n)) s t h e = absurd (omega arith)
+  by-sort sort s t e = go (eqb sort 0) (eqb sort 1) refl refl
+    where
+      go : (a b : Bool) → eqb sort 0 ≡ a → eqb sort 1 ≡ b
+          → dealing first second
+          (also (own_tests (length first) (length second) (length words)) (deal (words_of first) (words_of second) size index (request s t (words_of words))))
+          ≡ deal_on sort first second size index t.tape.0 t.q t.m t.k t.p words
+      go true b x y =
+          let some : Some s ≡ Some product = rw x at e in
+          let same : s ≡ product = cc in
+          rw (x, same) refl
+      go false true x y =
+          let some : Some s ≡ Some system = rw (x, y) at e in
+          let same : s ≡ system = cc in
+          rw (x, y, same) refl
+      go false false x y = let none : Some s ≡ None = rw (x, y) at e in absurd (none-some _ (sym none))

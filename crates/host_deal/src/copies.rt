@@ -70,11 +70,8 @@ pub fn deal_bytes(
     let mut two = [0u32; 3079];
     take_words(at, first, &mut one);
     take_words(at, second, &mut two);
-    let answer = deal_copies(s, t, at.size, &mut one, &mut two, words);
-    let Answer::Accepted(_) = answer else {
-        return answer;
-    };
+    let read = deal_copies(s, t, at.size, &mut one, &mut two, words)?;
     put_back(at, &one, first);
     put_back(at, &two, second);
-    answer
+    Ok(read)
 }

@@ -11,7 +11,7 @@
 mod copies;
 mod part;
 
-ghost use Rattle.std.specs.Prelude.{◌≡◌, cond, ◌≤◌, eqb, length};
+ghost use Rattle.std.specs.Prelude.{◌≡◌, cond, ◌≤◌, eqb, length, Some, None, option_map};
 ghost use Rattle.protocol.specs.Bounds.{product, system};
 ghost use Rattle.protocol.specs.Deal.{deal};
 ghost use Rattle.entry.specs.Bytes.{words_of};
@@ -25,7 +25,6 @@ use copies::deal_bytes;
 use dealer::sort::{Sort, draw_count};
 use drawing::{Sifted, sift};
 use entry::Report;
-use judging::number_of;
 use part::{Part, part_of};
 use protocol::{Answer, Refusal, SessionId, TapeId, Terms};
 use tape::Place;
@@ -36,13 +35,13 @@ fn report_of(answer: Answer, read: usize) -> Report
     ensures { result ≡ report_of answer read }
 {
     match answer {
-        Answer::Accepted(_) => Report {
+        Ok(_) => Report {
             number: 0,
             read,
             bytes: 0,
         },
-        Answer::Refused(r) => Report {
-            number: number_of(r),
+        Err(r) => Report {
+            number: u32::from(r),
             read: 0,
             bytes: 0,
         },
@@ -100,13 +99,14 @@ fn deal_sort(
     deal_part(s, t, first, second, part, words)
 }
 
-fn sort_of(number: u32) -> Sort
-    ensures { sort result ≡ cond (eqb number 0) product system }
+fn sort_of(number: u32) -> Option<Sort>
+    ensures { option_map sort result ≡ cond (eqb number 0) (Some product) (cond (eqb number 1) (Some system) None) }
 {
-    if number == 0 {
-        return Sort::Product;
+    match number {
+        0 => Some(Sort::Product),
+        1 => Some(Sort::System),
+        _ => None,
     }
-    Sort::System
 }
 
 // `sort` is 0 for a product and 1 for a system.
@@ -126,19 +126,17 @@ pub fn deal_on(
     ensures { ◌≡◌ {A = Dealing} (record { report = result; first = first.new; second = second.new })
         (deal_on sort first.old second.old size index tape q m k p words.now) }
 {
-    if 1 < sort {
-        return report_of(Answer::Refused(Refusal::Size), 0);
-    }
-    let session = SessionId(1);
-    let tape = TapeId(tape);
+    let Some(s) = sort_of(sort) else {
+        return report_of(Err(Refusal::Size), 0);
+    };
     let t = Terms {
-        session,
-        tape,
+        session: SessionId(1),
+        tape: TapeId(tape),
         q,
         m,
         k,
         p,
     };
     let at = Place { size, index };
-    deal_sort(sort_of(sort), t, first, second, at, words)
+    deal_sort(s, t, first, second, at, words)
 }

@@ -36,25 +36,20 @@ fn check_whole(first: usize, second: usize, words: usize) -> Check
 fn is_fit(s: Sort, t: Terms, first: usize, second: usize, words: usize, at: Place) -> bool
     ensures { result ≡ is_fit (sort s) t first second words at.size at.index }
 {
-    if t.q == 0 {
-        return false;
-    }
     let whole = check_whole(first, second, words);
     let one = check_sizes(first_end(s), t, first / 4, at);
     let two = check_sizes(second_end(s), t, second / 4, at);
-    let Check::Passed = worst(whole, worst(one, two)) else {
-        return false;
-    };
-    true
+    t.q != 0 && worst(whole, worst(one, two)).is_ok()
 }
 
+#[tactic(auto, unfolding(crate::specs::Part::larger_half))]
 fn larger_half(s: Sort, t: Terms) -> usize
     requires { sides_fit (sort s) t.m t.k t.p ≡ true }
     ensures { result ≡ larger_half (sort s) t.m t.k t.p }
 {
     let one = half_size(first_end(s), t);
     let two = half_size(second_end(s), t);
-    if one <= two { two } else { one }
+    one.max(two)
 }
 
 pub fn part_of(s: Sort, t: Terms, first: usize, second: usize, words: usize, at: Place) -> Part
