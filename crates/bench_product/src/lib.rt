@@ -3,8 +3,9 @@
 #![tactic(auto)]
 
 use field::Field;
+use line::Arrived;
 use product::{left_step, right_first, right_last};
-use protocol::{Answer, Head, RightSession, SessionId, TapeId, Terms};
+use protocol::{Head, Refusal, RightSession, SessionId, TapeId, Terms};
 use tape::Place;
 
 // The first slot of a pool.
@@ -23,13 +24,6 @@ fn terms(q: u32, m: u32, k: u32, p: u32) -> Terms {
     }
 }
 
-fn accepted(answer: Answer) -> bool {
-    match answer {
-        Answer::Accepted(_) => true,
-        Answer::Refused(_) => false,
-    }
-}
-
 #[unsafe(no_mangle)]
 pub extern "C" fn bench_deal(
     first: &mut [u32],
@@ -41,7 +35,7 @@ pub extern "C" fn bench_deal(
     p: u32,
     words: &[u32],
 ) -> bool {
-    accepted(dealer::deal_product(
+    dealer::deal_product(
         first,
         second,
         first_slot(size),
@@ -51,7 +45,8 @@ pub extern "C" fn bench_deal(
         k,
         p,
         words,
-    ))
+    )
+    .is_ok()
 }
 
 #[unsafe(no_mangle)]
@@ -66,7 +61,7 @@ pub extern "C" fn bench_right_first(
     out: &mut [u32],
 ) -> bool {
     let done = right_first(pool, first_slot(size), terms(q, m, k, p), y, out);
-    accepted(done.answer)
+    done.answer.is_ok()
 }
 
 #[unsafe(no_mangle)]
@@ -96,7 +91,7 @@ pub extern "C" fn bench_left(
         out,
         share,
     );
-    accepted(done.answer)
+    done.answer.is_ok()
 }
 
 #[unsafe(no_mangle)]
@@ -114,7 +109,7 @@ pub extern "C" fn bench_right_last(
     let open = RightSession { terms: t, due: 2 };
     let two = Head { kind: 2, terms: t };
     let done = right_last(pool, first_slot(size), open, two, residues, share);
-    accepted(done.answer)
+    done.answer.is_ok()
 }
 
 // How many bytes the message's line has, 0 of a refusal.

@@ -6,16 +6,9 @@
 ghost use Rattle.std.specs.Prelude.{◌≤◌, length};
 
 use blinder::{blinder_determinant, blinder_first, blinder_last, blinder_second, opened};
-use protocol::{Answer, BlinderSession, Head, SessionId, SolverSession, TapeId, Terms};
+use protocol::{BlinderSession, Head, SessionId, SolverSession, TapeId, Terms};
 use solver::{solver_determinant, solver_first, solver_last, solver_second};
 use tape::Place;
-
-fn accepted(answer: Answer) -> bool {
-    match answer {
-        Answer::Accepted(_) => true,
-        Answer::Refused(_) => false,
-    }
-}
 
 // The first slot of a pool.
 fn first_slot(size: usize) -> Place {
@@ -55,7 +48,7 @@ pub extern "C" fn bench_solver_first(
     out: &mut [u32],
 ) -> bool {
     let done = solver_first(pool, first_slot(size), terms(q, n, p), l, x, out);
-    accepted(done.answer)
+    done.answer.is_ok()
 }
 
 #[unsafe(no_mangle)]
@@ -86,7 +79,7 @@ pub extern "C" fn bench_blinder_first(
         residues,
         out,
     );
-    accepted(done.answer)
+    done.answer.is_ok()
 }
 
 #[unsafe(no_mangle)]
@@ -111,7 +104,7 @@ pub extern "C" fn bench_solver_second(
     let a = Head { kind: 2, terms: t };
     let done = solver_second(pool, first_slot(size), before, a, residues, out);
     kept[..16].copy_from_slice(&done.session.s);
-    accepted(done.answer)
+    done.answer.is_ok()
 }
 
 #[unsafe(no_mangle)]
@@ -140,7 +133,7 @@ pub extern "C" fn bench_blinder_second(
         residues,
         out,
     );
-    accepted(done.answer)
+    done.answer.is_ok()
 }
 
 #[unsafe(no_mangle)]
@@ -167,10 +160,10 @@ pub extern "C" fn bench_solver_last(
     let a = Head { kind: 4, terms: t };
     if p == n {
         let done = solver_determinant(pool, first_slot(size), before, a, residues, out);
-        return accepted(done.answer);
+        return done.answer.is_ok();
     }
     let done = solver_last(pool, first_slot(size), before, a, residues, out);
-    accepted(done.answer)
+    done.answer.is_ok()
 }
 
 #[unsafe(no_mangle)]
@@ -200,7 +193,7 @@ pub extern "C" fn bench_blinder_last(
             residues,
             out,
         );
-        return accepted(done.answer);
+        return done.answer.is_ok();
     }
     let a = Head { kind: 5, terms: t };
     let done = blinder_last(
@@ -212,5 +205,5 @@ pub extern "C" fn bench_blinder_last(
         residues,
         out,
     );
-    accepted(done.answer)
+    done.answer.is_ok()
 }

@@ -2,15 +2,8 @@
 // No function here is for hosts.
 #![tactic(auto)]
 
-use protocol::{Answer, TapeId};
+use protocol::TapeId;
 use tape::Place;
-
-fn read_in(answer: Answer) -> usize {
-    match answer {
-        Answer::Accepted(read) => read,
-        Answer::Refused(_) => 0,
-    }
-}
 
 #[unsafe(no_mangle)]
 pub extern "C" fn bench_deal_product(
@@ -25,7 +18,7 @@ pub extern "C" fn bench_deal_product(
     p: u32,
     words: &[u32],
 ) -> usize {
-    read_in(dealer::deal_product(
+    dealer::deal_product(
         first,
         second,
         Place { size, index },
@@ -35,7 +28,8 @@ pub extern "C" fn bench_deal_product(
         k,
         p,
         words,
-    ))
+    )
+    .unwrap_or(0)
 }
 
 #[unsafe(no_mangle)]
@@ -50,7 +44,7 @@ pub extern "C" fn bench_deal_system(
     p: u32,
     words: &[u32],
 ) -> usize {
-    read_in(dealer::deal_system(
+    dealer::deal_system(
         first,
         second,
         Place { size, index },
@@ -59,5 +53,6 @@ pub extern "C" fn bench_deal_system(
         n,
         p,
         words,
-    ))
+    )
+    .unwrap_or(0)
 }

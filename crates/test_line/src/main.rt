@@ -8,7 +8,6 @@
 
 ghost use Rattle.std.specs.Prelude.{◌≤◌, length};
 
-use judging::number_of;
 use line::{Arrived, head_words};
 use protocol::{Head, Refusal};
 use std::io;
@@ -27,7 +26,7 @@ fn show_words(rt: &impl Print, words: &[u32]) -> io::Result<()> {
 fn show_count(rt: &impl Print, answer: Result<usize, Refusal>) -> io::Result<()> {
     match answer {
         Ok(n) => print!(rt; ",0,{n}"),
-        Err(r) => print!(rt; ",{}", number_of(r)),
+        Err(r) => print!(rt; ",{}", u32::from(r)),
     }
 }
 
@@ -46,7 +45,7 @@ fn show_arrived(rt: &impl Print, answer: Result<Arrived, Refusal>, out: &[u32]) 
             show_words(rt, &head_words(message.head))?;
             print!(rt; ",{}", message.count)?;
         }
-        Err(r) => print!(rt; ",{}", number_of(r))?,
+        Err(r) => print!(rt; ",{}", u32::from(r))?,
     }
     show_words(rt, out)
 }
