@@ -9,7 +9,8 @@
 use mathlib.Core.Path.{◌≡◌, refl, sym, ap, ◌∙◌}
 use mathlib.Core.Bool.{Bool, true, false, cond}
 use mathlib.Core.List.{List, [], ◌∷◌}
-use Prim.Native.Nat.{ℕ, zero, suc, ◌*◌, ◌/◌, ◌≤◌, ◌<◌}
+use native.Mathlib.Decide.{dec_le}
+use Prim.Native.Nat.{ℕ, zero, suc, min, ◌*◌, ◌/◌, ◌≤◌, ◌<◌}
 use native.Mathlib.Nat.{mul-le-mul}
 use native.Mathlib.Omega.{arith}
 use lib.Dec.{ltb, eqb}
@@ -202,3 +203,11 @@ input-loaded n bytes d e few loaded =
     let all : take n (words_of bytes) ≡ words_of bytes = take_all n (words_of bytes) (omega arith) in
     rw (le-leb (length (words_of bytes)) 2048 (omega arith))
     (over-part n (words_of bytes) d (loaded ∙ ap (λ (l : List ℕ). over l d) all) count)
+
+-- the library's name for the smaller of two numbers
+pub min-least : (a b : ℕ) → min a b ≡ least a b
+unfolding least
+min-least a b = elim (dec_le a b) [
+  | yes h ↦ rw (le-leb a b h) (omega (arith, h))
+  | no h ↦ rw (lt-leb a b (omega (arith, h))) (omega (arith, h))
+]

@@ -31,16 +31,16 @@ pub struct Sent {
 fn session_in(d: Done) -> Session
     ensures { result ≡ d.session }
 {
-    let x = d.session;
-    x
+    d.session
 }
 
 fn sent_in(d: Done) -> Sent
     ensures { result ≡ record { answer = d.answer; head = d.head } }
 {
-    let answer = d.answer;
-    let head = d.head;
-    Sent { answer, head }
+    Sent {
+        answer: d.answer,
+        head: d.head,
+    }
 }
 
 fn first_of(

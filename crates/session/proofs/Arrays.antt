@@ -2,11 +2,12 @@
 --   copied, copied-start, copied-end   an array filled by a copy, of a list or of its first or last words
 --   kept-start                   a list at the start of an array of zeros
 --   joined                       an array filled by two copies, one behind the other
---   take_past, drop_past         parts that end or start behind a list
-use mathlib.Core.Path.{◌≡◌, sym, ap, ◌∙◌}
+--   take_past, drop_past, least-part   parts that end or start behind a list
+use mathlib.Core.Path.{◌≡◌, refl, sym, ap, ◌∙◌}
 use mathlib.Core.List.{List, ◌++◌}
-use Prim.Native.Nat.{ℕ, ◌+◌, ◌-◌, ◌≤◌}
+use Prim.Native.Nat.{ℕ, min, ◌+◌, ◌-◌, ◌≤◌}
 use native.Mathlib.Omega.{arith}
+use native.Mathlib.Decide.{dec_le}
 use lib.ListN.{length, take, drop, replicate, length-append, length-drop, drop_of_length-le}
 use lib.Seq.{take_all, length-take-le}
 use borrow.Rule.Slice.PartMut.{mid_of, put_mid}
@@ -56,3 +57,10 @@ take_past n l h = take_all (length l) l (omega arith) ∙ sym (take_all n l h)
 
 pub drop_past : (n : ℕ) (l : List ℕ) → length l ≤ n → drop (length l) l ≡ drop n l
 drop_past n l h = drop_of_length-le l {i = length l} (omega arith) ∙ sym (drop_of_length-le l h)
+
+-- as many words as there are, of those that are asked for
+pub least-part : (n : ℕ) (l : List ℕ) (r : ℕ) → r ≡ min n (length l) → (r ≤ length l) × (take r l ≡ take n l) × (drop r l ≡ drop n l)
+least-part n l r e = elim (dec_le n (length l)) [
+  | yes h ↦ let k : r ≡ n = omega (arith, e, h) in rw k (h, refl, refl)
+  | no h ↦ let k : r ≡ length l = omega (arith, e, h) in rw k (omega arith, take_past n l (omega (arith, h)), drop_past n l (omega (arith, h)))
+]

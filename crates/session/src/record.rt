@@ -2,6 +2,7 @@
 //   Kept      what an end keeps of a session: its record, and what a record holds
 //   of_left   left keeps nothing
 ghost use Rattle.std.specs.Prelude.{◌≡◌};
+ghost use Rattle.entry.specs.declared.Session.{Session};
 ghost use Rattle.entry.specs.Record.{right_of, solver_of, blinder_of, of_left, of_right, of_solver, of_blinder};
 
 use entry::{BLINDER, LEFT, RIGHT, SOLVER, Session};

@@ -8,6 +8,6 @@ pub returns-then-end-eq-LEFT : goal.returns-then-end-eq-LEFT
 unfolding takes_message
 returns-then-end-eq-LEFT c = rw (eq-eqb c.args.end 1 c.if-end-eq-LEFT.true) refl
 
-pub returns : goal.returns
+pub returns-else-end-eq-LEFT : goal.returns-else-end-eq-LEFT
 unfolding takes_message
-returns c = rw (ne_eqb c.args.end 1 c.if-end-eq-LEFT.false) refl
+returns-else-end-eq-LEFT c = rw (ne_eqb c.args.end 1 c.if-end-eq-LEFT.false) refl

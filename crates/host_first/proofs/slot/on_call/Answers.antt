@@ -1,5 +1,5 @@
 -- `host_first::slot::on_call` meets its contract. Assumes nothing.
-use mathlib.Core.Path.{refl, sym}
+use mathlib.Core.Path.{refl, sym, ◌∙◌}
 use native.Mathlib.Omega.{arith}
 use lib.ListN.{length}
 use lib.Seq.{length-take-le}
@@ -12,25 +12,26 @@ use Rattle.local.specs.Seen.{end_role}
 use Rattle.local.specs.Entered.{seen_first}
 use Rattle.local.proofs.Proper.{first-proper}
 use Rattle.local.proofs.Within.{words-room, bytes-room, few_words, call-cut}
+use Rattle.host_parts.proofs.Looked.{min-least}
 use Rattle.host_first.proofs.slot.on_call.Goals as goal
 
 pub slice_bounds-on_slot-end-4 : goal.slice_bounds-on_slot-end-4
 slice_bounds-on_slot-end-4 c =
     let a = c.args in
-    few_words _ (length a.scratch.now) a.lent.now c.smaller-k.ensures
+    few_words _ (length a.scratch.now) a.lent.now (c.min-k.ensures ∙ min-least _ _)
 
 pub slice_bounds-on_slot-end-5 : goal.slice_bounds-on_slot-end-5
 slice_bounds-on_slot-end-5 c =
-    sym (length-take-le _ _ (few_words _ (length c.args.scratch.now) c.args.lent.now c.smaller-k.ensures))
+    sym (length-take-le _ _ (few_words _ (length c.args.scratch.now) c.args.lent.now (c.min-k.ensures ∙ min-least _ _)))
 
 pub slice_bounds-on_slot-end-6 : goal.slice_bounds-on_slot-end-6
 slice_bounds-on_slot-end-6 c =
     let a = c.args in
-    few_words _ (length a.res.now) a.share.now c.smaller-j.ensures
+    few_words _ (length a.res.now) a.share.now (c.min-j.ensures ∙ min-least _ _)
 
 pub slice_bounds-on_slot-end-7 : goal.slice_bounds-on_slot-end-7
 slice_bounds-on_slot-end-7 c =
-    sym (length-take-le _ _ (few_words _ (length c.args.res.now) c.args.share.now c.smaller-j.ensures))
+    sym (length-take-le _ _ (few_words _ (length c.args.res.now) c.args.share.now (c.min-j.ensures ∙ min-least _ _)))
 
 pub on_slot-requires : goal.on_slot-requires
 on_slot-requires c =
@@ -39,8 +40,8 @@ on_slot-requires c =
     let seen = c.seen_in-seen in (
       h.0,
       words-room seen.result.words seen.result.from a.words.now a.pool.now seen.ensures.2,
-      bytes-room _ (length a.lent.now) a.lent.now a.scratch.now c.smaller-k.ensures,
-      bytes-room _ (length a.share.now) a.share.now a.res.now c.smaller-j.ensures,
+      bytes-room _ (length a.lent.now) a.lent.now a.scratch.now (c.min-k.ensures ∙ min-least _ _),
+      bytes-room _ (length a.share.now) a.share.now a.res.now (c.min-j.ensures ∙ min-least _ _),
       h.3,
       h.4,
     )
@@ -52,8 +53,8 @@ returns c =
     let h = c.requires in
     let end = c.end_of in
     let seen = c.seen_in-seen in
-    let k = c.smaller-k in
-    let j = c.smaller-j in
+    let k = c.min-k.ensures ∙ min-least _ _ in
+    let j = c.min-j.ensures ∙ min-least _ _ in
     let l : Lent = record {
       host = a.session.now;
       pool = a.pool.now;
@@ -66,6 +67,6 @@ returns c =
     (λ s ls i. first_step a.q.end a.q.terms s ls a.input.now a.raw.now message (length a.out.now) i)
     (λ s ls i. first-proper a.q.end a.q.terms s ls a.input.now a.raw.now message (length a.out.now) i)
     a.q.read (checked a.q.own) l a.at.size a.at.index h.2 (role end.result) a.q.terms
-    seen.result.words seen.result.from k.result j.result a.words.now a.lent.now a.share.now
+    seen.result.words seen.result.from c.min-k.result c.min-j.result a.words.now a.lent.now a.share.now
     end.ensures refl seen.ensures.0 seen.ensures.1 seen.ensures.2 (omega (arith, seen.ensures.3, h.1))
-    k.ensures j.ensures c.on_slot.ensures
+    k j c.on_slot.ensures

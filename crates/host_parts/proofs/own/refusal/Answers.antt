@@ -2,4 +2,4 @@
 use Rattle.host_parts.proofs.own.refusal.Goals as goal
 
 pub returns : goal.returns
-returns c = rw c.number_of.ensures
+returns c = rw c.from.ensures

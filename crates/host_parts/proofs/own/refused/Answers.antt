@@ -10,7 +10,11 @@ pub returns-in_default-answer : goal.returns-in_default-answer
 returns-in_default-answer c = rw (c.in-Err.is, c.in_default-answer.is) c.refusal-in_default-answer.ensures
 
 pub returns-then-lt : goal.returns-then-lt
-returns-then-lt c = ?
+returns-then-lt c =
+    rw (c.in-Err.is, c.in-Err-answer.is, sym (before-by-place c.in-Err-answer.step c.in-Err.r), sym c.lt.ensures, c.if-lt.true)
+    c.refusal-then-lt.ensures
 
 pub returns-else-lt : goal.returns-else-lt
-returns-else-lt c = ?
+returns-else-lt c =
+    rw (c.in-Err.is, c.in-Err-answer.is, sym (before-by-place c.in-Err-answer.step c.in-Err.r), sym c.lt.ensures, c.if-lt.false)
+    c.refusal-else-lt.ensures

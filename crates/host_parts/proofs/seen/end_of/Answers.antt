@@ -1,20 +1,21 @@
 -- `host_parts::seen::end_of` meets its contract. Assumes nothing.
-use Rattle.tape.proofs.Chain.{chain}
+use Rattle.std.proofs.Common.{arith}
+use Rattle.std.proofs.lemmas.Bool.Decides.{nat_tests}
 use Rattle.local.specs.Seen.{end_role}
 use Rattle.host_parts.proofs.seen.end_of.Goals as goal
 
-pub returns-then-end-eq-RIGHT : goal.returns-then-end-eq-RIGHT
+pub returns-in-2 : goal.returns-in-2
 unfolding end_role
-returns-then-end-eq-RIGHT c = search chain
+returns-in-2 c = grind (arith, nat_tests)
 
-pub returns-then-end-eq-BLINDER : goal.returns-then-end-eq-BLINDER
+pub returns-in-3 : goal.returns-in-3
 unfolding end_role
-returns-then-end-eq-BLINDER c = search chain
+returns-in-3 c = grind (arith, nat_tests)
 
-pub returns-then-end-eq-SOLVER : goal.returns-then-end-eq-SOLVER
+pub returns-in-4 : goal.returns-in-4
 unfolding end_role
-returns-then-end-eq-SOLVER c = search chain
+returns-in-4 c = grind (arith, nat_tests)
 
-pub returns : goal.returns
+pub returns-in_default : goal.returns-in_default
 unfolding end_role
-returns c = search chain
+returns-in_default c = grind (arith, nat_tests)

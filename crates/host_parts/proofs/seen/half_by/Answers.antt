@@ -1,30 +1,22 @@
 -- `host_parts::seen::half_by` meets its contract. Assumes nothing.
 use mathlib.Core.Path.{refl}
-use borrow.Author.Tests.{eq-eqb, ne_eqb}
+use native.Mathlib.Omega.{arith}
+use borrow.Author.Tests.{ne_eqb}
 use Rattle.host_parts.proofs.seen.half_by.Goals as goal
 
-pub returns-then-end-eq-SOLVER : goal.returns-then-end-eq-SOLVER
-returns-then-end-eq-SOLVER c = let e = eq-eqb c.args.end 4 c.if-end-eq-SOLVER.true in (rw e refl, rw e refl)
+pub returns-in-4 : goal.returns-in-4
+returns-in-4 c = (rw c.in-4.is refl, rw c.in-4.is refl)
 
-pub returns-then-end-eq-BLINDER : goal.returns-then-end-eq-BLINDER
-returns-then-end-eq-BLINDER c =
-    let end = c.args.end in
-    let e = ne_eqb end 4 c.if-end-eq-SOLVER.false in
-    let f = eq-eqb end 3 c.if-end-eq-BLINDER.true in
-    (rw (e, f) refl, rw (e, f) refl)
+pub returns-in-3 : goal.returns-in-3
+returns-in-3 c = (rw c.in-3.is refl, rw c.in-3.is refl)
 
-pub returns-then-end-eq-RIGHT : goal.returns-then-end-eq-RIGHT
-returns-then-end-eq-RIGHT c =
-    let end = c.args.end in
-    let e = ne_eqb end 4 c.if-end-eq-SOLVER.false in
-    let f = ne_eqb end 3 c.if-end-eq-BLINDER.false in
-    let g = eq-eqb end 2 c.if-end-eq-RIGHT.true in
-    (rw (e, f) refl, rw (e, f, g) refl)
+pub returns-in-2 : goal.returns-in-2
+returns-in-2 c = (rw c.in-2.is refl, rw c.in-2.is refl)
 
-pub returns : goal.returns
-returns c =
+pub returns-in_default : goal.returns-in_default
+returns-in_default c =
     let end = c.args.end in
-    let e = ne_eqb end 4 c.if-end-eq-SOLVER.false in
-    let f = ne_eqb end 3 c.if-end-eq-BLINDER.false in
-    let g = ne_eqb end 2 c.if-end-eq-RIGHT.false in
-    (rw (e, f) refl, rw (e, f, g, c.no_head-none.ensures) refl)
+    let e = ne_eqb end 4 (omega arith) in
+    let f = ne_eqb end 3 (omega arith) in
+    let g = ne_eqb end 2 (omega arith) in
+    (rw (e, f) c.no_half.ensures.0, rw (e, f, g) c.no_half.ensures.1)

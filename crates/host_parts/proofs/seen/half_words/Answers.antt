@@ -9,5 +9,5 @@ half_size-requires c = sym c.sides_fit.ensures ∙ c.if-sides_fit.true
 pub returns-then-sides_fit : goal.returns-then-sides_fit
 returns-then-sides_fit c = half-whole _ _ (sym c.sides_fit.ensures ∙ c.if-sides_fit.true) c.half_size.ensures
 
-pub returns : goal.returns
-returns c = half-header _ _ (sym c.sides_fit.ensures ∙ c.if-sides_fit.false)
+pub returns-else-sides_fit : goal.returns-else-sides_fit
+returns-else-sides_fit c = half-header _ _ (sym c.sides_fit.ensures ∙ c.if-sides_fit.false)

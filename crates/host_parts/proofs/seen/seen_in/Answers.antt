@@ -1,5 +1,5 @@
 -- `host_parts::seen::seen_in` meets its contract. Assumes nothing.
-use Rattle.host_parts.proofs.Looked.{slot-out, slot_seen}
+use Rattle.host_parts.proofs.Looked.{slot-out, slot_seen, min-least}
 use Rattle.judging.proofs.Flags.{fails, holds}
 use native.Mathlib.Omega.{arith}
 use mathlib.Core.Path.{refl, ap, ◌∙◌}
@@ -28,10 +28,10 @@ returns c =
     let inside = holds c.is_slot.ensures c.if-not-is_slot.false in
     let room = slot-inside (a.pool / 4) a.at.size a.at.index inside in
     let half = c.half_words in
-    let words = c.smaller-words in
+    let words = c.min-words.ensures ∙ min-least _ _ in
     let below = least-below a.at.size half.result in (
-      words.ensures ∙ ap (least a.at.size) half.ensures.0 ∙ slot_seen (role a.h.end) a.h.terms (a.pool / 4) a.at.size a.at.index inside,
+      words ∙ ap (least a.at.size) half.ensures.0 ∙ slot_seen (role a.h.end) a.h.terms (a.pool / 4) a.at.size a.at.index inside,
       rw inside refl,
-      omega (arith, room, below.0, words.ensures),
-      omega (arith, below.1, words.ensures, half.ensures.1),
+      omega (arith, room, below.0, words),
+      omega (arith, below.1, words, half.ensures.1),
     )

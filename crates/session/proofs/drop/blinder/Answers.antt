@@ -14,6 +14,6 @@ returns c =
     let a = at15.args in
     let s = slot_at a.pool.now a.at.size a.at.index in
     let told = drop-blinder-told (blinder_of a.x) s a.scratch.now in
-    let e = rw at10.blinder_of.ensures at at9.blinder_drop-dropped.ensures in
-    rw (c.with_record.ensures, c.is_accepted.ensures, c.of_blinder.ensures, c.no_head.ensures)
-    (recorded-leaves of_blinder a.x (blinder_of a.x) s a.scratch.now [] [] told at9.blinder_drop-dropped.result.answer e)
+    let e = rw at10.held.ensures at at9.blinder_drop-d.ensures in
+    rw (c.over.ensures, c.is_ok.ensures.value, c.kept.ensures, c.silent.ensures)
+    (recorded-leaves of_blinder a.x (blinder_of a.x) s a.scratch.now [] [] told at9.blinder_drop-d.result.answer e)

@@ -14,6 +14,6 @@ returns c =
     let a = at11.args in
     let s = slot_at a.pool.now a.at.size a.at.index in
     let told = drop-right-told (right_of a.x) s in
-    let e = rw at8.right_of.ensures at at7.right_drop-dropped.ensures in
-    rw (c.with_record.ensures, c.is_accepted.ensures, c.of_right.ensures, c.no_head.ensures)
-    (recorded-leaves of_right a.x (right_of a.x) s [] [] [] told at7.right_drop-dropped.result.answer e)
+    let e = rw at8.held.ensures at at7.right_drop-d.ensures in
+    rw (c.over.ensures, c.is_ok.ensures.value, c.kept.ensures, c.silent.ensures)
+    (recorded-leaves of_right a.x (right_of a.x) s [] [] [] told at7.right_drop-d.result.answer e)

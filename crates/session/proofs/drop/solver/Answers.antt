@@ -14,6 +14,6 @@ returns c =
     let a = at11.args in
     let s = slot_at a.pool.now a.at.size a.at.index in
     let told = drop-solver-told (solver_of a.x) s in
-    let e = rw at8.solver_of.ensures at at7.solver_drop-dropped.ensures in
-    rw (c.with_record.ensures, c.is_settled.ensures, c.of_solver.ensures, c.no_head.ensures)
-    (recorded-leaves of_solver a.x (solver_of a.x) s [] [] [] told at7.solver_drop-dropped.result.answer e)
+    let e = rw at8.held.ensures at at7.solver_drop-d.ensures in
+    rw (c.over.ensures, c.is_settled.ensures, c.kept.ensures, c.silent.ensures)
+    (recorded-leaves of_solver a.x (solver_of a.x) s [] [] [] told at7.solver_drop-d.result.answer e)

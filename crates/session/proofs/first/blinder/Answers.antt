@@ -26,7 +26,7 @@ returns c =
     let n = a.t.m * a.t.m in
     let l = a.input.now in
     let cut = at17.square_of-n.ensures in
-    let e = rw (tail-part at17.square_of-n.result l, cut.1, cut.2) at at11.blinder_first-done.ensures in
-    rw c.of_blinder.ensures
+    let e = rw (tail-part at17.square_of-n.result l, cut.1, cut.2) at at11.blinder_first-d.ensures in
+    rw c.kept.ensures
     (carried-leaves of_blinder no_blinder s a.scratch.now a.out.now []
-    (blinder_first a.t s (length a.scratch.now) (take n l) (drop n l) a.words.now m (length a.out.now)) at11.blinder_first-done.result.answer e)
+    (blinder_first a.t s (length a.scratch.now) (take n l) (drop n l) a.words.now m (length a.out.now)) at11.blinder_first-d.result.answer e)

@@ -15,7 +15,7 @@ returns c =
     let a = at20.args in
     let s = slot_at a.pool.now a.at.size a.at.index in
     let m = message_with a.a a.residues.now in
-    let e = at10.left_step-done.ensures in
+    let e = at10.left_step-d.ensures in
     rw c.of_left.ensures
     (carried-leaves (λ _. of_left a.t) tt s [] a.out.now a.res.now
-    (left_step a.t s a.input.now a.words.now m (length a.out.now) (length a.res.now)) at10.left_step-done.result.answer e)
+    (left_step a.t s a.input.now a.words.now m (length a.out.now) (length a.res.now)) at10.left_step-d.result.answer e)

@@ -13,6 +13,6 @@ returns c =
     let at15 = c in
     let a = at15.args in
     let s = slot_at a.pool.now a.at.size a.at.index in
-    rw c.of_right.ensures
+    rw c.kept.ensures
     (carried-leaves of_right no_right s [] a.out.now []
-    (right_first a.t s a.input.now (length a.out.now)) at9.right_first-done.result.answer at9.right_first-done.ensures)
+    (right_first a.t s a.input.now (length a.out.now)) at9.right_first.result.answer at9.right_first.ensures)

@@ -24,7 +24,7 @@ returns c =
     let n = a.t.m * a.t.m in
     let l = a.input.now in
     let cut = at14.square_of-n.ensures in
-    let e = rw (tail-part at14.square_of-n.result l, cut.1, cut.2) at at9.solver_first-done.ensures in
-    rw c.of_solver.ensures
+    let e = rw (tail-part at14.square_of-n.result l, cut.1, cut.2) at at9.solver_first.ensures in
+    rw c.kept.ensures
     (carried-leaves of_solver no_solver s [] a.out.now []
-    (solver_first a.t s (take n l) (drop n l) (length a.out.now)) at9.solver_first-done.result.answer e)
+    (solver_first a.t s (take n l) (drop n l) (length a.out.now)) at9.solver_first.result.answer e)

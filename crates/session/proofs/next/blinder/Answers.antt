@@ -20,8 +20,8 @@ returns-then-x-eq3 c =
     let y = blinder_of a.x in
     let told = blinder-second-told y s a.scratch.now m (length a.out.now) in
     let none = blinder-second-no-result y s a.scratch.now m (length a.out.now) of_blinder in
-    let e = rw at5.blinder_of.ensures at c.blinder_second-second.ensures in
-    rw (c.blinder_done.ensures, eq-eqb a.x.due 3 at8.if-x-eq3.true)
+    let e = rw at5.held-s.ensures at c.blinder_second-second.ensures in
+    rw (c.over.ensures, c.is_ok.ensures.value, c.kept.ensures, eq-eqb a.x.due 3 at8.if-x-eq3.true)
     (any-result a.x s a.scratch.now a.out.now a.res.now none
     (recorded-leaves of_blinder a.x y s a.scratch.now a.out.now [] told c.blinder_second-second.result.answer e))
 
@@ -37,7 +37,7 @@ returns c =
     let y = blinder_of a.x in
     let told = blinder-ending-told y s a.scratch.now m (length a.res.now) in
     let none = blinder-ending-no-sent y s a.scratch.now m (length a.res.now) of_blinder in
-    let e = rw at9.blinder_of-2.ensures at at7.blinder_ending-last.ensures in
-    rw (c.blinder_done-2.ensures, ne_eqb a.x.due 3 at12.if-x-eq3.false)
+    let e = rw at9.held-s.ensures at at7.blinder_ending-last.ensures in
+    rw (c.over-2.ensures, c.is_ok-2.ensures.value, c.kept-2.ensures, ne_eqb a.x.due 3 at12.if-x-eq3.false)
     (any-sent a.x s a.scratch.now a.res.now a.out.now none
     (recorded-leaves of_blinder a.x y s a.scratch.now [] a.res.now told at7.blinder_ending-last.result.answer e))

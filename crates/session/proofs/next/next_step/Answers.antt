@@ -1,5 +1,6 @@
 -- `session::next::next_step` meets its contract. Assumes nothing.
 use mathlib.Core.List.{[]}
+use native.Mathlib.Omega.{arith}
 use lib.ListN.{length}
 use Rattle.protocol.specs.Tape.{slot_at}
 use Rattle.protocol.specs.Message.{message_with}
@@ -9,8 +10,8 @@ use Rattle.local.proofs.Ends.{solver-next-no-scratch, solver-next-no-result, rig
 use Rattle.session.proofs.Chosen.{next-solver, next-blinder, next-right}
 use Rattle.session.proofs.next.next_step.Goals as goal
 
-pub returns-then-x-eq-SOLVER : goal.returns-then-x-eq-SOLVER
-returns-then-x-eq-SOLVER c =
+pub returns-in-4 : goal.returns-in-4
+returns-in-4 c =
     let at4 = c in
     let at7 = c in
     let at14 = c in
@@ -18,15 +19,15 @@ returns-then-x-eq-SOLVER c =
     let s = slot_at a.pool.now a.at.size a.at.index in
     let m = message_with a.a a.residues.now in
     let room = length a.out.now in
-    let which = next-solver a.x s a.scratch.now m room (length a.res.now) at7.if-x-eq-SOLVER.true in
+    let which = next-solver a.x s a.scratch.now m room (length a.res.now) c.in-4.is in
     let no-scratch = solver-next-no-scratch (solver_of a.x) s m room a.x.due of_solver in
     let no_result = solver-next-no-result (solver_of a.x) s m room a.x.due of_solver in
     rw which
     (any-scratch a.x s a.out.now a.res.now a.scratch.now no-scratch
     (any-result a.x s [] a.out.now a.res.now no_result at4.solver.ensures))
 
-pub returns-then-x-eq-BLINDER : goal.returns-then-x-eq-BLINDER
-returns-then-x-eq-BLINDER c =
+pub returns-in-3 : goal.returns-in-3
+returns-in-3 c =
     let at8 = c in
     let at13 = c in
     let at15 = c in
@@ -34,11 +35,11 @@ returns-then-x-eq-BLINDER c =
     let a = at22.args in
     let s = slot_at a.pool.now a.at.size a.at.index in
     let m = message_with a.a a.residues.now in
-    let which = next-blinder a.x s a.scratch.now m (length a.out.now) (length a.res.now) at15.if-x-eq-SOLVER.false at13.if-x-eq-BLINDER.true in
+    let which = next-blinder a.x s a.scratch.now m (length a.out.now) (length a.res.now) (omega arith) c.in-3.is in
     rw which at8.blinder.ensures
 
-pub returns : goal.returns
-returns c =
+pub returns-in_default : goal.returns-in_default
+returns-in_default c =
     let at4 = c in
     let at7 = c in
     let at9 = c in
@@ -47,7 +48,7 @@ returns c =
     let s = slot_at a.pool.now a.at.size a.at.index in
     let m = message_with a.a a.residues.now in
     let share = length a.res.now in
-    let which = next-right a.x s a.scratch.now m (length a.out.now) share at9.if-x-eq-SOLVER.false at7.if-x-eq-BLINDER.false in
+    let which = next-right a.x s a.scratch.now m (length a.out.now) share (omega arith) (omega arith) in
     let no-scratch = right-last-no-scratch (right_of a.x) s m share of_right in
     let no-sent = right-last-no-sent (right_of a.x) s m share of_right in
     rw which

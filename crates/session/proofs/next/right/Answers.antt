@@ -17,5 +17,5 @@ returns c =
     let s = slot_at a.pool.now a.at.size a.at.index in
     let m = message_with a.a a.residues.now in
     let told = right-last-told (right_of a.x) s m (length a.res.now) in
-    let e = rw at7.right_of.ensures at at5.right_last-done.ensures in
-    rw c.right_done.ensures (recorded-leaves of_right a.x (right_of a.x) s [] [] a.res.now told at5.right_last-done.result.answer e)
+    let e = rw at7.held.ensures at at5.right_last-d.ensures in
+    rw (c.over.ensures, c.is_ok.ensures.value, c.kept.ensures) (recorded-leaves of_right a.x (right_of a.x) s [] [] a.res.now told at5.right_last-d.result.answer e)

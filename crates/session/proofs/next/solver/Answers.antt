@@ -18,8 +18,8 @@ returns-then-x-eq2 c =
     let s = slot_at a.pool.now a.at.size a.at.index in
     let m = message_with a.a a.residues.now in
     let told = solver-second-told (solver_of a.x) s m (length a.out.now) in
-    let e = rw at5.solver_of.ensures at c.solver_second-second.ensures in
-    rw (c.solver_done.ensures, eq-eqb a.x.due 2 at7.if-x-eq2.true)
+    let e = rw at5.held-s.ensures at c.solver_second-second.ensures in
+    rw (c.over.ensures, c.is_settled.ensures, c.kept.ensures, eq-eqb a.x.due 2 at7.if-x-eq2.true)
     (recorded-leaves of_solver a.x (solver_of a.x) s [] a.out.now [] told c.solver_second-second.result.answer e)
 
 pub returns : goal.returns
@@ -32,6 +32,6 @@ returns c =
     let s = slot_at a.pool.now a.at.size a.at.index in
     let m = message_with a.a a.residues.now in
     let told = solver-ending-told (solver_of a.x) s m (length a.out.now) in
-    let e = rw at7.solver_of-2.ensures at at5.solver_ending-last.ensures in
-    rw (c.solver_done-2.ensures, ne_eqb a.x.due 2 at9.if-x-eq2.false)
+    let e = rw at7.held-s.ensures at at5.solver_ending-last.ensures in
+    rw (c.over-2.ensures, c.is_settled-2.ensures, c.kept-2.ensures, ne_eqb a.x.due 2 at9.if-x-eq2.false)
     (recorded-leaves of_solver a.x (solver_of a.x) s [] a.out.now [] told at5.solver_ending-last.result.answer e)

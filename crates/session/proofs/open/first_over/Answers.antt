@@ -27,8 +27,8 @@ returns-then-x-eq0 c =
     let told = first-told a.end a.t s a.scratch.now l a.words.now m room share in
     rw (
       over-free a.x a.end a.t s a.scratch.now l a.words.now m room share at17.if-x-eq0.true,
-      c.with_record.ensures,
-      c.is_accepted.ensures,
+      c.over.ensures,
+      c.is_ok.ensures.value,
     )
     (over-record a.x (unopened a.end a.t) s a.scratch.now a.out.now a.res.now told at12.first_step-d.result.answer
     at12.first_step-d.ensures)
@@ -48,5 +48,5 @@ returns c =
     let turn = c.need-open.ensures ∙ sym (judged-false Turn refl) in
     let told = c.worst.ensures ∙ ap₂ lower turn at4.check_first-checked.ensures in
     let which = over-open a.x a.end a.t s a.scratch.now l a.words.now m room share at7.if-x-eq0.false in
-    rw (c.refused.ensures, c.answer_of.ensures, which)
+    rw (c.answer_of.ensures, c.no_head.ensures, which)
     (open-leaves a.x s a.scratch.now a.out.now a.res.now Turn step c.worst.result told)

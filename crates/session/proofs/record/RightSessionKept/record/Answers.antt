@@ -1,7 +1,7 @@
--- `session::record::of_right` meets its contract. Assumes nothing.
+-- `session::record::RightSessionKept::record` meets its contract. Assumes nothing.
 use Rattle.entry.specs.Record.{of_right}
 use Rattle.blinder.proofs.Kept.{zero-array}
-use Rattle.session.proofs.record.of_right.Goals as goal
+use Rattle.session.proofs.record.RightSessionKept.record.Goals as goal
 
 pub returns : goal.returns
 unfolding of_right

@@ -1,8 +1,8 @@
--- `session::record::blinder_of` meets its contract. Assumes nothing.
+-- `session::record::BlinderSessionKept::held` meets its contract. Assumes nothing.
 use native.Mathlib.Omega.{arith}
 use Rattle.entry.specs.Record.{blinder_of}
 use Rattle.session.proofs.Arrays.{copied-start, copied-end}
-use Rattle.session.proofs.record.blinder_of.Goals as goal
+use Rattle.session.proofs.record.BlinderSessionKept.held.Goals as goal
 
 pub write_copy-requires : goal.write_copy-requires
 write_copy-requires c =

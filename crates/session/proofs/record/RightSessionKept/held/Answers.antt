@@ -1,7 +1,7 @@
--- `session::record::right_of` meets its contract. Assumes nothing.
+-- `session::record::RightSessionKept::held` meets its contract. Assumes nothing.
 use borrow.Author.Tests.{eq-eqb, ne_eqb}
 use Rattle.entry.specs.Record.{right_of}
-use Rattle.session.proofs.record.right_of.Goals as goal
+use Rattle.session.proofs.record.RightSessionKept.held.Goals as goal
 
 pub returns-then-x-eq-RIGHT : goal.returns-then-x-eq-RIGHT
 unfolding right_of

@@ -1,8 +1,8 @@
--- `session::record::solver_of` meets its contract. Assumes nothing.
+-- `session::record::SolverSessionKept::held` meets its contract. Assumes nothing.
 use native.Mathlib.Omega.{arith}
 use Rattle.entry.specs.Record.{solver_of}
 use Rattle.session.proofs.Arrays.{copied-start}
-use Rattle.session.proofs.record.solver_of.Goals as goal
+use Rattle.session.proofs.record.SolverSessionKept.held.Goals as goal
 
 pub write_copy-requires : goal.write_copy-requires
 write_copy-requires c =

@@ -1,8 +1,0 @@
--- `session::with_record` meets its contract. Assumes nothing.
-use Rattle.session.proofs.with_record.Goals as goal
-
-pub returns-then-done : goal.returns-then-done
-returns-then-done c = rw c.if-done.true
-
-pub returns : goal.returns
-returns c = rw c.if-done.false
