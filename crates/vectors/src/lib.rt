@@ -2,6 +2,7 @@
 // their value.
 //   rest     the rest of a division, mostly without one
 //   residues words below a bound, the bits of words, and sum, difference and negative of residues: several words at a time
+//   each     the loop that sets each of the first words by a function, of any type of entry
 //   entries  sum, difference, negative, copy and zeros, entry by entry, of any words
 //   columns  the words of a matrix, its columns, and two matrices side by side
 // No function here is for hosts.
