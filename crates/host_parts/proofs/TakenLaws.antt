@@ -3,7 +3,7 @@
 --   seen_none, seen_all                                    how many residues are looked at
 --   opening-kept, other-kind, other-count, opening-reply   the message that a first step is handed
 -- Assumes nothing.
-use mathlib.Core.Path.{◌≡◌, refl, sym, ap, subst, ◌∙◌}
+use mathlib.Core.Path.{◌≡◌, refl, sym, ap, ◌∙◌}
 use mathlib.Core.Bool.{true, false}
 use mathlib.Core.List.{List}
 use mathlib.Core.Option.{Option, some, none}
