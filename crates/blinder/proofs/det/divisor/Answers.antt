@@ -4,9 +4,6 @@ use Rattle.tape.proofs.Sides.{unknowns}
 use Rattle.blinder.specs.Division.{divisor_of}
 use Rattle.blinder.proofs.det.divisor.Goals as goal
 
-pub drawn_p-pm-requires : goal.drawn_p-pm-requires
-drawn_p-pm-requires c = (c.requires.placed.sides, c.requires.lent)
-
 pub determinant-requires : goal.determinant-requires
 determinant-requires c =
     let start = c in
@@ -20,9 +17,6 @@ determinant-requires-2 c =
     let t = start.args.t in
     let h = start.requires in
     (h.prime, h.small-q, (unknowns t.m t.k t.p h.placed.sides).few, rw c.matrix-qm.ensures h.q-residues)
-
-pub mul_mod-requires : goal.mul_mod-requires
-mul_mod-requires c = c.requires.some-q
 
 pub returns : goal.returns
 unfolding divisor_of

@@ -5,13 +5,7 @@ use Rattle.algebra.specs.System.{send_c}
 use Rattle.algebra.proofs.Lists.{mul-residues}
 use Rattle.algebra.proofs.Columns.{cols-length}
 use Rattle.blinder.proofs.Start.{start_is, start-length}
-use borrow.Author.Rules.{rules}
 use Rattle.blinder.proofs.formula.write_c.Goals as goal
-
-pub write_product-requires : goal.write_product-requires
-write_product-requires c =
-    let h = c.requires in
-    rw c.square_by.ensures (search rules)
 
 pub slice_bounds-write_sum-end : goal.slice_bounds-write_sum-end
 slice_bounds-write_sum-end c =

@@ -8,9 +8,6 @@ returns-in-Product c =
     let a = c.args in
     no-mask a.t a.words.now c.in-Product.is
 
-pub mask_fits-requires : goal.mask_fits-requires
-mask_fits-requires c = rw c.in-System.is at c.requires
-
 pub returns-in-System : goal.returns-in-System
 unfolding mask_tests
 returns-in-System c =

@@ -1,6 +1,5 @@
 -- `dealer::halves::write_halves` meets its contract. Assumes nothing.
 use mathlib.Core.Path.{ap, ◌∙◌}
-use native.Mathlib.Omega.{arith}
 use mathlib.Core.List.{List}
 use Prim.Native.Nat.{ℕ}
 use Rattle.algebra.specs.Words.{over}
@@ -17,16 +16,6 @@ returns-in-Product c =
       first_after = e.first_after ∙ ap (λ (l : List ℕ). over l a.first.now) (same_first a.t a.words.now told);
       second_after = e.second_after ∙ ap (λ (l : List ℕ). over l a.second.now) (same_second a.t a.words.now told);
     }
-
-pub write_more-requires : goal.write_more-requires
-write_more-requires c =
-    let far = c in
-    let h = far.requires in
-    let write-masks = c.write_masks-read in
-    let r = rw c.in-System.is at h in (
-      record { fits = r.fits; enough = r.enough; first-room = omega (arith, r.first-room); second-room = omega (arith, r.second-room) },
-      write-masks.ensures.value,
-    )
 
 pub returns-in-System : goal.returns-in-System
 returns-in-System c =

@@ -13,12 +13,6 @@ use Rattle.dealer.proofs.Known.{unknowns-of, enough-masks, more-count, first_mor
 use Rattle.dealer.proofs.Whole.{rest-residues}
 use Rattle.dealer.proofs.halves.write_more.Goals as goal
 
-pub matrix_at-f-requires : goal.matrix_at-f-requires
-matrix_at-f-requires c = (c.requires.0.fits.sides, omega arith)
-
-pub matrix_at-s-requires : goal.matrix_at-s-requires
-matrix_at-s-requires c = (c.requires.0.fits.sides, omega arith)
-
 pub offset_bounds-words-read : goal.offset_bounds-words-read
 offset_bounds-words-read c =
     let a = c.args in
