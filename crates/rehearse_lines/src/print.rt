@@ -10,7 +10,6 @@ ghost use Rattle.decimal.specs.Writing.{line_before};
 ghost use Rattle.protocol.specs.Message.{message_with};
 ghost use Rattle.rehearse_lines.specs.Prints.{MOST, shares_lines, run_of};
 
-use judging::number_of;
 use line::head_words;
 use protocol::{Head, Refusal};
 
@@ -65,7 +64,7 @@ pub fn refusal(r: Refusal, out: &mut [u8]) -> usize
     ensures few { result ≤ MOST }
     ensures contents { out.new ≡ over (printed (refused r)) out.old }
 {
-    let words = [number_of(r)];
+    let words = [u32::from(r)];
     put_named(b"refused,", &words, out, 0)
 }
 

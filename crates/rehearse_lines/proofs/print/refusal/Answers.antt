@@ -6,7 +6,7 @@ use Rattle.rehearse_lines.proofs.print.refusal.Goals as goal
 pub returns : goal.returns
 returns c =
     let a = c.args in
-    let number = c.number_of in
+    let number = c.from in
     let z = refusal-stored a.r a.out.now number.result c.put_named.result _ number.ensures
     c.put_named.ensures.place
     (omega (arith, c.put_named.ensures.few, c.requires))
