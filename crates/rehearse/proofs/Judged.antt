@@ -7,7 +7,7 @@
 -- Assumes nothing.
 use mathlib.Core.Path.{◌≡◌, refl, sym, ap, ap₂, subst, ◌∙◌}
 use mathlib.Core.List.{List, [], ◌∷◌}
-use Prim.Native.Nat.{ℕ, ◌+◌, ◌*◌, ◌≤◌, ◌<◌}
+use Prim.Native.Nat.{ℕ, ◌*◌, ◌≤◌, ◌<◌}
 use native.Mathlib.Omega.{arith}
 use lib.ListN.{length, take}
 use lib.Seq.{length-take-le}
@@ -22,18 +22,17 @@ use Rattle.protocol.specs.Drawing.{draw_tests}
 use Rattle.protocol.specs.Deal.{draw_size}
 use Rattle.protocol.specs.Rehearsal.{Input, Run, request, rehearsal_tests, run, printed, rehearse}
 use Rattle.protocol.proofs.Judge.{passed}
-use Rattle.judging.specs.InOrder.{Check}
-use Rattle.std.specs.Prelude.{Ok, Err}
-use Rattle.judging.specs.InOrder.{checked, only, sorted_by, sorted, judged, after}
+use Rattle.judging.specs.InOrder.{only, sorted_by, sorted, judged, after}
 use Rattle.judging.proofs.InOrder.{refused-by, accepted-by, after_last}
 use Rattle.tape.proofs.Sides.{sides, modulus}
 use Rattle.judging.specs.Groups.{modulus_tests}
-use Rattle.judging.proofs.Join.{judged-phases, hands_on, goes-past}
+use Rattle.judging.proofs.Join.{judged-phases, goes-past}
+use Rattle.dealer.specs.Sorts.{masks_count}
 use Rattle.rehearse_lines.specs.declared.Counts.{Counts}
 use Rattle.std.specs.Prelude.{Option, Some, None}
 use Rattle.rehearse_lines.specs.Prints.{MOST}
 use Rattle.rehearse_lines.specs.Says.{Said, Says}
-use Rattle.rehearse.specs.Order.{input_of, size_tests, number_tests, residue_tests, word_tests, refusal_in, PrintsAll, Prints}
+use Rattle.rehearse.specs.Order.{input_of, size_tests, number_tests, residue_tests, word_tests, PrintsAll, Prints}
 
 -- ---- the numbers
 
@@ -60,10 +59,9 @@ numbers_fit t x y e =
     }
 
 -- the counts taken of words that have room for them
-module _ (t : Terms) (m n : ℕ) (x y : List ℕ) (c : Check) (told : checked c ≡ judged (number_tests t m n)) (e : c ≡ Ok tt)
-    (long-x : length x ≡ 2048) (long-y : length y ≡ 2048) where
+module _ (t : Terms) (m n : ℕ) (x y : List ℕ) (told : done tt ≡ judged (number_tests t m n)) (long-x : length x ≡ 2048) (long-y : length y ≡ 2048) where
   fit : NumbersFit t m n
-  fit = numbers_fit t m n (sym told ∙ ap checked e)
+  fit = numbers_fit t m n (sym told)
 
   pub room-x : m ≤ length x
   room-x = omega (arith, fit.count-x, fit.few-mk)
@@ -72,9 +70,7 @@ module _ (t : Terms) (m n : ℕ) (x y : List ℕ) (c : Check) (told : checked c 
   room-y = omega (arith, fit.count-y, fit.few-kp)
 
   pub taken-fit : judged (number_tests t (length (take m x)) (length (take n y))) ≡ done tt
-  taken-fit =
-      ap₂ (λ (a b : ℕ). judged (number_tests t a b)) (length-take-le m x room-x) (length-take-le n y room-y)
-      ∙ (sym told ∙ ap checked e)
+  taken-fit = ap₂ (λ (a b : ℕ). judged (number_tests t a b)) (length-take-le m x room-x) (length-take-le n y room-y) ∙ sym told
 
 -- ---- the tests in two groups
 
@@ -93,29 +89,29 @@ module _ (t : Terms) (x y d l : List ℕ) where
     in_two : judged (rehearsal_tests i) ≡ after (judged (number_tests t m n)) (judged (word_tests t x y d l))
     in_two = two-phases ∙ ap₂ (λ (a b : ℕ). after (judged (number_tests t a b)) (judged (word_tests t x y d l))) (sym em) (sym en)
 
-    pub numbers-refused : (c : Check) {r : Refusal} → checked c ≡ judged (number_tests t m n) → c ≡ Err r → judge (rehearsal_tests i) (run i) ≡ refused r
-    numbers-refused c told e =
-        refused-by (rehearsal_tests i) (run i) (in_two ∙ sym (hands_on c (judged (word_tests t x y d l)) told e) ∙ ap checked e)
+    pub numbers-refused : {r : Refusal} → refused r ≡ judged (number_tests t m n) → judge (rehearsal_tests i) (run i) ≡ refused r
+    numbers-refused told =
+        refused-by (rehearsal_tests i) (run i) (in_two ∙ ap (λ (j : Judged Unit). after j (judged (word_tests t x y d l))) (sym told))
 
-  module _ (fit : judged (number_tests t (length x) (length y)) ≡ done tt) (w : Check) (words : checked w ≡ judged (word_tests t x y d l)) where
-    past : judged (rehearsal_tests i) ≡ checked w
-    past = two-phases ∙ goes-past (Ok tt) (sym fit) refl ∙ sym words
+  module _ (fit : judged (number_tests t (length x) (length y)) ≡ done tt) where
+    past : judged (rehearsal_tests i) ≡ judged (word_tests t x y d l)
+    past = two-phases ∙ goes-past (sym fit)
 
-    pub words-refused : {r : Refusal} → w ≡ Err r → judge (rehearsal_tests i) (run i) ≡ refused r
-    words-refused e = refused-by (rehearsal_tests i) (run i) (past ∙ ap checked e)
+    pub words-refused : {r : Refusal} → refused r ≡ judged (word_tests t x y d l) → judge (rehearsal_tests i) (run i) ≡ refused r
+    words-refused words = refused-by (rehearsal_tests i) (run i) (past ∙ sym words)
 
-    pub all-passed : w ≡ Ok tt → judged (rehearsal_tests i) ≡ done tt
-    all-passed e = past ∙ ap checked e
+    pub all-passed : done tt ≡ judged (word_tests t x y d l) → judged (rehearsal_tests i) ≡ done tt
+    all-passed words = past ∙ sym words
 
   pub judged-run : judged (rehearsal_tests i) ≡ done tt → judge (rehearsal_tests i) (run i) ≡ done (run i)
   judged-run e = accepted-by (rehearsal_tests i) (run i) e
 
 -- ---- what is printed
 
-pub refused-printed : (j : Judged Run) (c : Check) {r : Refusal} (s : Refusal) (n : ℕ) (before after : List ℕ) → j ≡ refused r → c ≡ Err r → s ≡ refusal_in c
-    → n ≡ length (printed (refused s)) → n ≤ MOST → after ≡ over (printed (refused s)) before → Prints j n before after
-refused-printed j c {r} s n before after e f g place few contents =
-    let same : printed (refused s) ≡ printed j = ap (λ (z : Refusal). printed (refused z)) (g ∙ ap refusal_in f) ∙ ap printed (sym e) in
+pub refused-printed : (j : Judged Run) (r : Refusal) (n : ℕ) (before after : List ℕ) → j ≡ refused r
+    → n ≡ length (printed (refused r)) → n ≤ MOST → after ≡ over (printed (refused r)) before → Prints j n before after
+refused-printed j r n before after e place few contents =
+    let same : printed (refused r) ≡ printed j = ap printed (sym e) in
     record { place = place ∙ ap length same; few = few; contents = contents ∙ ap (λ (b : List ℕ). over b before) same }
 
 pub run-printed : (r s : Run) (n : ℕ) (before after : List ℕ) → r ≡ s → n ≡ length (printed (done r)) → n ≤ MOST → after ≡ over (printed (done r)) before
@@ -161,7 +157,7 @@ said-printed s i t d l n before after e f g h p =
     = ap (λ (z : Input). printed (judge (rehearsal_tests z) (run z))) (input-made i t d l f g h) ∙ sym e in
     record { place = p.place ∙ ap length same; few = p.few; contents = p.contents ∙ ap (λ (b : List ℕ). over b before) same }
 
--- how many residues the dealer draws, as the code adds them
-pub draw-size : (t : Terms) (x y d l : List ℕ) → t.m * t.k + (t.k * t.p + t.m * t.p) ≡ draw_size (request (input_of t x y d l))
+-- how many residues the dealer draws
+pub draw-size : (t : Terms) (x y d l : List ℕ) → masks_count t.m t.k t.p ≡ draw_size (request (input_of t x y d l))
 unfolding draw_size request
 draw-size t x y d l = refl

@@ -6,15 +6,12 @@
 use Rattle.std.specs.Prelude.{◌≡◌, List, [], ◌∷◌, ◌++◌, ℕ, ◌*◌, ◌≤◌, eqb, leb, length}
 use Rattle.algebra.specs.Words.{over}
 use Rattle.protocol.specs.declared.Terms.{Terms}
-use Rattle.protocol.specs.declared.Refusal.{Refusal}
-use Rattle.protocol.specs.declared.Refusal.TheVariants.{Form, Size, Residue}
+use Rattle.protocol.specs.declared.Refusal.TheVariants.{Size, Residue}
 use Rattle.protocol.specs.Judge.{Test, needs, Judged}
 use Rattle.protocol.specs.Bounds.{product, sides_fit, all_below}
 use Rattle.protocol.specs.Drawing.{draw_tests}
 use Rattle.protocol.specs.Deal.{draw_size}
 use Rattle.protocol.specs.Rehearsal.{Input, request, Run, printed}
-use Rattle.judging.specs.InOrder.{Check}
-use Rattle.std.specs.Prelude.{Ok, Err}
 use Rattle.judging.specs.Groups.{modulus_tests}
 use Rattle.rehearse_lines.specs.Prints.{MOST}
 
@@ -41,11 +38,6 @@ residue_tests q x y = needs Residue (all_below q x) ∷ needs Residue (all_below
 unfoldable pub word_tests : Terms → (x y dealer left : List ℕ) → List Test
 word_tests t x y d l =
     residue_tests t.q x y ++ (draw_tests t.q (draw_size (request (input_of t x y d l))) d ++ draw_tests t.q (t.m * t.p) l)
-
--- a check's refusal; one that passed has none
-abbrev pub refusal_in : Check → Refusal
-refusal_in (Ok u) = Form
-refusal_in (Err r) = r
 
 -- n bytes over the start of what was there
 pub record PrintsAll (bytes : List ℕ) (n : ℕ) (before after : List ℕ) : Type 0 where

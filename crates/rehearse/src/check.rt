@@ -1,8 +1,9 @@
 // What the run's calls need of what the lines say, before any of them is made: first the numbers, then the words.
-ghost use Rattle.std.specs.Prelude.{◌≡◌, ◌+◌, ◌*◌, ◌≤◌, ◌<◌};
+ghost use Rattle.std.specs.Prelude.{◌≡◌, ◌*◌, ◌≤◌, ◌<◌};
 ghost use Rattle.judging.specs.InOrder.{checked, judged};
 ghost use Rattle.rehearse.specs.Order.{size_tests, number_tests, residue_tests, word_tests};
 
+use dealer::sort::masks_count;
 use judging::numbers::check_modulus;
 use judging::received::check_coins;
 use judging::{Check, need, worst};
@@ -33,14 +34,6 @@ pub fn numbers(t: Terms, x: usize, y: usize) -> Check
     worst(modulus, sizes)
 }
 
-// How many residues the dealer draws.
-fn masks(t: Terms) -> usize
-    requires { (t.m * t.k ≤ 2048) × (t.k * t.p ≤ 2048) × (t.m * t.p ≤ 1024) }
-    ensures { result ≡ t.m * t.k + (t.k * t.p + t.m * t.p) }
-{
-    times(t.m, t.k) + (times(t.k, t.p) + times(t.m, t.p))
-}
-
 fn residues(q: u32, x: &[u32], y: &[u32]) -> Check
     ensures { checked result ≡ judged (residue_tests q x.now y.now) }
 {
@@ -54,7 +47,7 @@ pub fn words(t: Terms, x: &[u32], y: &[u32], dealer: &[u32], left: &[u32]) -> Ch
     ensures { checked result ≡ judged (word_tests t x.now y.now dealer.now left.now) }
 {
     let inputs = residues(t.q, x, y);
-    let dealt = check_coins(t.q, masks(t), dealer);
+    let dealt = check_coins(t.q, masks_count(t), dealer);
     let coins = check_coins(t.q, times(t.m, t.p), left);
     worst(inputs, worst(dealt, coins))
 }

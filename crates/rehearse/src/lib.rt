@@ -15,21 +15,10 @@ ghost use Rattle.protocol.specs.Rehearsal.{rehearsal_tests, run, rehearse};
 ghost use Rattle.judging.specs.InOrder.{judged};
 ghost use Rattle.rehearse_lines.specs.Prints.{MOST};
 ghost use Rattle.rehearse_lines.specs.Says.{Holds, Said};
-ghost use Rattle.rehearse.specs.Order.{input_of, number_tests, refusal_in, PrintsAll, Prints};
+ghost use Rattle.rehearse.specs.Order.{input_of, number_tests, PrintsAll, Prints};
 
-use judging::Check;
 use protocol::{Refusal, Terms};
 use rehearse_lines::{Counts, input, print};
-
-// The refusal of a check that did not pass.
-fn refusal_in(c: Check) -> Refusal
-    ensures { result ≡ refusal_in c }
-{
-    match c {
-        Check::Passed => Refusal::Form,
-        Check::Refused(r) => r,
-    }
-}
 
 // What is printed where the numbers fit.
 fn judge_words(
@@ -43,10 +32,9 @@ fn judge_words(
     requires { (judged (number_tests t (length x.now) (length y.now)) ≡ done tt) × (MOST ≤ length out.old) }
     ensures { Prints (judge (rehearsal_tests (input_of t x.now y.now dealer.now coins.now)) (run (input_of t x.now y.now dealer.now coins.now))) result out.old out.new }
 {
-    let words = check::words(t, x, y, dealer, coins);
-    let Check::Passed = words else {
-        return print::refusal(refusal_in(words), out);
-    };
+    if let Err(r) = check::words(t, x, y, dealer, coins) {
+        return print::refusal(r, out);
+    }
     perform::perform(t, x, y, dealer, coins, out)
 }
 
@@ -64,10 +52,9 @@ fn answer(
     requires { (length x.now ≡ 2048) × (length y.now ≡ 2048) × (MOST ≤ length out.old) }
     ensures { (xs ys : List ℕ) → Holds xs nx x.now → Holds ys ny y.now → Prints (judge (rehearsal_tests (input_of t xs ys dealer.now coins.now)) (run (input_of t xs ys dealer.now coins.now))) result out.old out.new }
 {
-    let numbers = check::numbers(t, nx, ny);
-    let Check::Passed = numbers else {
-        return print::refusal(refusal_in(numbers), out);
-    };
+    if let Err(r) = check::numbers(t, nx, ny) {
+        return print::refusal(r, out);
+    }
     judge_words(t, &x[..nx], &y[..ny], dealer, coins, out)
 }
 

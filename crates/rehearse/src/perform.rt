@@ -100,12 +100,7 @@ fn slot_size(t: Terms) -> usize
     requires { sides_fit product t.m t.k t.p ≡ true }
     ensures { (result ≡ slot_size t) × (result ≤ header_size + 3072) }
 {
-    let left = half_size(End::Left, t);
-    let right = half_size(End::Right, t);
-    if left <= right {
-        return right;
-    }
-    left
+    half_size(End::Left, t).max(half_size(End::Right, t))
 }
 
 // What is printed where all that the calls need holds.
@@ -124,7 +119,7 @@ pub fn perform(
     let size = slot_size(t);
     let mut first = [0u32; 4096];
     let mut second = [0u32; 4096];
-    deal_product(
+    let _ = deal_product(
         &mut first[..size],
         &mut second[..size],
         Place { size, index: 0 },

@@ -6,9 +6,8 @@ use Rattle.rehearse.proofs.rehearse.Goals as goal
 
 pub returns-in_default : goal.returns-in_default
 returns-in_default c =
-    let read = c in
-    let a = read.args in
-    let wrong = said-wrong a.bytes.now _ _ _ _ _ read.read-lines.result read.read-lines.ensures.answered c.in_default.is in
+    let a = c.args in
+    let wrong = said-wrong a.bytes.now _ _ _ _ _ c.read-lines.result c.read-lines.ensures.answered c.in_default.is in
     let z = wrong-printed a.bytes.now _ _ _ wrong
     c.refusal.ensures.place c.refusal.ensures.few c.refusal.ensures.contents in record {
       place = z.place;
@@ -18,24 +17,20 @@ returns-in_default c =
 
 pub said-requires : goal.said-requires
 said-requires c =
-    let read = c in
-    let a = read.args in
-    let s = said_read a.bytes.now _ _ _ _ _ read.read-lines.result c.in-Some.c read.read-lines.ensures.answered c.in-Some.is in
-    let coins = c in (
+    let a = c.args in
+    let s = said_read a.bytes.now _ _ _ _ _ c.read-lines.result c.in-Some.c c.read-lines.ensures.answered c.in-Some.is in (
       search rules,
       search rules,
       search rules,
-      omega (arith, s.in-dealer.few, coins.dealer-2-1.given),
-      omega (arith, s.in_left.few, coins.coins-2-1.given),
+      omega (arith, s.in-dealer.few, c.dealer-2-1.given),
+      omega (arith, s.in_left.few, c.coins-2-1.given),
       search rules,
     )
 
 pub returns : goal.returns
 returns c =
-    let told = c in
-    let read = c in
-    let a = read.args in
-    let s = said_read a.bytes.now _ _ _ _ _ read.read-lines.result told.in-Some.c read.read-lines.ensures.answered told.in-Some.is in
+    let a = c.args in
+    let s = said_read a.bytes.now _ _ _ _ _ c.read-lines.result c.in-Some.c c.read-lines.ensures.answered c.in-Some.is in
     let z = c.said.ensures a.bytes.now s in record {
       place = z.place;
       few = z.few;

@@ -12,7 +12,6 @@ slice_bounds-answer-end-2 c = sym (length-take-le _ _ c.requires.4)
 
 pub returns : goal.returns
 returns c =
-    let whole = c in
     λ z s. said-printed z s.input _ _ _ _ _ _ s.prints (c.terms_of-t.ensures ∙ sym s.terms)
-    (s.in-dealer.held whole.requires.3) (s.in_left.held whole.requires.4)
+    (s.in-dealer.held c.requires.3) (s.in_left.held c.requires.4)
     (c.answer.ensures s.input.x s.input.y s.in-x s.in-y)

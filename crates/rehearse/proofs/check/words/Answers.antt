@@ -16,7 +16,7 @@ returns c =
     let a = c.args in
     let t = a.t in
     let drawn = draw_size (request (input_of t a.x.now a.y.now a.dealer.now a.left.now)) in
-    let many = c.masks.ensures ∙ draw-size t a.x.now a.y.now a.dealer.now a.left.now in
+    let many = c.masks_count.ensures ∙ draw-size t a.x.now a.y.now a.dealer.now a.left.now in
     also _ _ c.worst-2.ensures c.residues-inputs.ensures
     (also (draw_tests t.q drawn a.dealer.now) (draw_tests t.q (t.m * t.p) a.left.now) c.worst.ensures
     (c.check_coins-dealt.ensures ∙ ap (λ (n : ℕ). judged (draw_tests t.q n a.dealer.now)) many)

@@ -25,47 +25,38 @@ slice_bounds-deal_product-end-2 c = sym (length-take-le _ _ (omega (arith, few _
 
 pub slice_bounds-first-end-2 : goal.slice_bounds-first-end-2
 slice_bounds-first-end-2 c =
-    let sized = c in
-    let e = came-back sized.slot_size-size.result 4096 _ (few _ c.slot_size-size.ensures.1) c.first-2-1.given in
+    let e = came-back c.slot_size-size.result 4096 _ (few _ c.slot_size-size.ensures.1) c.first-2-1.given in
     simp length-append (omega (arith, e))
 
 pub slice_bounds-play-end : goal.slice_bounds-play-end
 slice_bounds-play-end c =
-    let sized = c in
-    let e = came-back sized.slot_size-size.result 4096 _ (few _ c.slot_size-size.ensures.1) c.first-2-1.given in
+    let e = came-back c.slot_size-size.result 4096 _ (few _ c.slot_size-size.ensures.1) c.first-2-1.given in
     sym (length-take-le _ _ (simp length-append (omega (arith, e))))
 
 pub slice_bounds-second-end-2 : goal.slice_bounds-second-end-2
 slice_bounds-second-end-2 c =
-    let sized = c in
-    let e = came-back sized.slot_size-size.result 4096 _ (few _ c.slot_size-size.ensures.1) c.second-2-1.given in
+    let e = came-back c.slot_size-size.result 4096 _ (few _ c.slot_size-size.ensures.1) c.second-2-1.given in
     simp length-append (omega (arith, e))
 
 pub slice_bounds-play-end-2 : goal.slice_bounds-play-end-2
 slice_bounds-play-end-2 c =
-    let sized = c in
-    let e = came-back sized.slot_size-size.result 4096 _ (few _ c.slot_size-size.ensures.1) c.second-2-1.given in
+    let e = came-back c.slot_size-size.result 4096 _ (few _ c.slot_size-size.ensures.1) c.second-2-1.given in
     sym (length-take-le _ _ (simp length-append (omega (arith, e))))
 
 pub play-requires : goal.play-requires
 play-requires c =
-    let dealt = c in
-    let whole = c in
-    let a = whole.args in
-    ((fits a.t a.x.now a.y.now a.dealer.now a.coins.now whole.requires.0).terms.sides, whole.requires.1)
+    let a = c.args in
+    ((fits a.t a.x.now a.y.now a.dealer.now a.coins.now c.requires.0).terms.sides, c.requires.1)
 
 pub returns : goal.returns
 returns c =
-    let dealt = c in
-    let sized = c in
-    let whole = c in
-    let a = whole.args in
-    let n = sized.slot_size-size in
+    let a = c.args in
+    let n = c.slot_size-size in
     let empty = pool-taken a.t n.result 4096 (few _ c.slot_size-size.ensures.1) n.ensures.0 in
     let in-first = came-back n.result 4096 _ (few _ c.slot_size-size.ensures.1) c.first-2-1.given in
     let in-second = came-back n.result 4096 _ (few _ c.slot_size-size.ensures.1) c.second-2-1.given in
     let behind : List ℕ = drop n.result (replicate 4096 0) in
     c.play.ensures a.dealer.now
     (dealt-again behind behind in-first in-second
-    (dealt-for a.t a.x.now a.y.now a.dealer.now a.coins.now whole.requires.0 n.result _ _ _ _ _ n.ensures.0 empty empty in-first
-    dealt.deal_product.ensures))
+    (dealt-for a.t a.x.now a.y.now a.dealer.now a.coins.now c.requires.0 n.result _ _ _ _ _ n.ensures.0 empty empty in-first
+    c.deal_product.ensures))

@@ -49,67 +49,48 @@ slice_bounds-steps-end-4 c = sym (length-take-le _ _ (omega (arith, (few c.args.
 
 pub slice_bounds-y1-end-2 : goal.slice_bounds-y1-end-2
 slice_bounds-y1-end-2 c =
-    let lent = c in
-    let counted = c in
-    let e = came-back counted.times-kp.result 2048 _ (few c.args.t c.requires.0 _ _ _ c.times-kp.ensures c.times.ensures c.times-mp.ensures).0 c.y1-2-1.given in
+    let e = came-back c.times-kp.result 2048 _ (few c.args.t c.requires.0 _ _ _ c.times-kp.ensures c.times.ensures c.times-mp.ensures).0 c.y1-2-1.given in
     simp length-append (omega (arith, e))
 
 pub slice_bounds-result-end : goal.slice_bounds-result-end
 slice_bounds-result-end c =
-    let lent = c in
-    let counted = c in
-    let e = came-back counted.times-kp.result 2048 _ (few c.args.t c.requires.0 _ _ _ c.times-kp.ensures c.times.ensures c.times-mp.ensures).0 c.y1-2-1.given in
+    let e = came-back c.times-kp.result 2048 _ (few c.args.t c.requires.0 _ _ _ c.times-kp.ensures c.times.ensures c.times-mp.ensures).0 c.y1-2-1.given in
     sym (length-take-le _ _ (simp length-append (omega (arith, e))))
 
 pub slice_bounds-x1r1-end-2 : goal.slice_bounds-x1r1-end-2
 slice_bounds-x1r1-end-2 c =
-    let lent = c in
-    let counted = c in
-    let e = came-back (counted.times.result + counted.times-mp.result) 3072 _ (few c.args.t c.requires.0 _ _ _ c.times-kp.ensures c.times.ensures c.times-mp.ensures).1 c.x1r1-2-1.given in
+    let e = came-back (c.times.result + c.times-mp.result) 3072 _ (few c.args.t c.requires.0 _ _ _ c.times-kp.ensures c.times.ensures c.times-mp.ensures).1 c.x1r1-2-1.given in
     simp length-append (omega (arith, e))
 
 pub slice_bounds-result-end-2 : goal.slice_bounds-result-end-2
 slice_bounds-result-end-2 c =
-    let lent = c in
-    let counted = c in
-    let e = came-back (counted.times.result + counted.times-mp.result) 3072 _ (few c.args.t c.requires.0 _ _ _ c.times-kp.ensures c.times.ensures c.times-mp.ensures).1 c.x1r1-2-1.given in
+    let e = came-back (c.times.result + c.times-mp.result) 3072 _ (few c.args.t c.requires.0 _ _ _ c.times-kp.ensures c.times.ensures c.times-mp.ensures).1 c.x1r1-2-1.given in
     sym (length-take-le _ _ (simp length-append (omega (arith, e))))
 
 pub slice_bounds-u-end-2 : goal.slice_bounds-u-end-2
 slice_bounds-u-end-2 c =
-    let lent = c in
-    let counted = c in
-    let e = came-back counted.times-mp.result 1024 _ (few c.args.t c.requires.0 _ _ _ c.times-kp.ensures c.times.ensures c.times-mp.ensures).2 c.u-2-1.given in
+    let e = came-back c.times-mp.result 1024 _ (few c.args.t c.requires.0 _ _ _ c.times-kp.ensures c.times.ensures c.times-mp.ensures).2 c.u-2-1.given in
     simp length-append (omega (arith, e))
 
 pub slice_bounds-result-end-3 : goal.slice_bounds-result-end-3
 slice_bounds-result-end-3 c =
-    let lent = c in
-    let counted = c in
-    let e = came-back counted.times-mp.result 1024 _ (few c.args.t c.requires.0 _ _ _ c.times-kp.ensures c.times.ensures c.times-mp.ensures).2 c.u-2-1.given in
+    let e = came-back c.times-mp.result 1024 _ (few c.args.t c.requires.0 _ _ _ c.times-kp.ensures c.times.ensures c.times-mp.ensures).2 c.u-2-1.given in
     sym (length-take-le _ _ (simp length-append (omega (arith, e))))
 
 pub slice_bounds-v-end-2 : goal.slice_bounds-v-end-2
 slice_bounds-v-end-2 c =
-    let lent = c in
-    let counted = c in
-    let e = came-back counted.times-mp.result 1024 _ (few c.args.t c.requires.0 _ _ _ c.times-kp.ensures c.times.ensures c.times-mp.ensures).2 c.v-2-1.given in
+    let e = came-back c.times-mp.result 1024 _ (few c.args.t c.requires.0 _ _ _ c.times-kp.ensures c.times.ensures c.times-mp.ensures).2 c.v-2-1.given in
     simp length-append (omega (arith, e))
 
 pub slice_bounds-result-end-4 : goal.slice_bounds-result-end-4
 slice_bounds-result-end-4 c =
-    let lent = c in
-    let counted = c in
-    let e = came-back counted.times-mp.result 1024 _ (few c.args.t c.requires.0 _ _ _ c.times-kp.ensures c.times.ensures c.times-mp.ensures).2 c.v-2-1.given in
+    let e = came-back c.times-mp.result 1024 _ (few c.args.t c.requires.0 _ _ _ c.times-kp.ensures c.times.ensures c.times-mp.ensures).2 c.v-2-1.given in
     sym (length-take-le _ _ (simp length-append (omega (arith, e))))
 
 pub result-requires : goal.result-requires
 result-requires c =
-    let back = c in
-    let lent = c in
-    let counted = c in
     let f = few c.args.t c.requires.0 _ _ _ c.times-kp.ensures c.times.ensures c.times-mp.ensures in (
-      counted.requires.1,
+      c.requires.1,
       take-few _ 2048 _ f.0,
       take-few _ 3072 _ f.1,
       take-few _ 1024 _ f.2,
@@ -118,22 +99,19 @@ result-requires c =
 
 pub returns : goal.returns
 returns c =
-    let back = c in
-    let lent = c in
-    let counted = c in
     let f = few c.args.t c.requires.0 _ _ _ c.times-kp.ensures c.times.ensures c.times-mp.ensures in
-    let t = counted.args.t in
-    let kp = counted.times-kp in
-    let mp = counted.times-mp in
-    let mk = counted.times in
+    let t = c.args.t in
+    let kp = c.times-kp in
+    let mp = c.times-mp in
+    let mk = c.times in
     let reply = mk.result + mp.result in
     let printed = c.result in
-    let in-y1 = came-back kp.result 2048 _ f.0 back.y1-2-1.given in
-    let in-x1r1 = came-back reply 3072 _ f.1 back.x1r1-2-1.given in
-    let in-u = came-back mp.result 1024 _ f.2 back.u-2-1.given in
-    let in-v = came-back mp.result 1024 _ f.2 back.v-2-1.given in
+    let in-y1 = came-back kp.result 2048 _ f.0 c.y1-2-1.given in
+    let in-x1r1 = came-back reply 3072 _ f.1 c.x1r1-2-1.given in
+    let in-u = came-back mp.result 1024 _ f.2 c.u-2-1.given in
+    let in-v = came-back mp.result 1024 _ f.2 c.v-2-1.given in
     let shares : List ℕ = drop mp.result (replicate 1024 0) in
     let rooms = rooms-taken t kp.result reply mp.result f.0 f.1 f.2 kp.ensures (omega (arith, mk.ensures, mp.ensures)) mp.ensures in
     λ d p. run-printed _ _ _ _ _
-    (run-again _ _ (drop kp.result (replicate 2048 0)) (drop reply (replicate 3072 0)) shares shares in-y1 in-x1r1 in-u in-v ∙ lent.steps-heads.ensures d p rooms)
+    (run-again _ _ (drop kp.result (replicate 2048 0)) (drop reply (replicate 3072 0)) shares shares in-y1 in-x1r1 in-u in-v ∙ c.steps-heads.ensures d p rooms)
     printed.ensures.place printed.ensures.few printed.ensures.contents
