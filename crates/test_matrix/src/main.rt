@@ -28,7 +28,9 @@ fn residues(q: u32, seed: u32) -> [u32; 2048]
     out
 }
 
-fn digest(d: u32, word: u32) -> u32 {
+fn digest(d: u32, word: u32) -> u32
+    ensures { result < 1000000007 }
+{
     ((d as u64 * 31 + word as u64) % 1000000007) as u32
 }
 
