@@ -12,10 +12,11 @@ ghost use Rattle.protocol.specs.Tape.{header_size};
 ghost use Rattle.tape.specs.Placed.{slot_in};
 ghost use Rattle.protocol.specs.Deal.{drawn_parts, deal_tests};
 ghost use Rattle.judging.specs.InOrder.{checked, judged};
-ghost use Rattle.dealer.specs.Sorts.{sort, draw_count, request};
+ghost use Rattle.dealer.specs.Sorts.{sort, draw_count, request, request_of};
 ghost use Rattle.dealer.specs.Groups.{deal_numbers, mark_tests, mask_tests, raw_tests, deal_words};
 ghost use Rattle.dealer.specs.Shape.{Fits, Numbers, Unknowns};
 
+use crate::request::Request;
 use crate::sort::{Sort, draw_count, first_end, masks_count, second_end};
 use drawing::{draw, read};
 use elimination::has_inverse;
@@ -70,42 +71,41 @@ fn mask_fits(t: Terms, words: &[u32]) -> bool
 }
 
 // A product has no mask Q.
-fn check_mask(s: Sort, t: Terms, words: &[u32]) -> Check
-    requires { Fits (sort s) t × (draw_count (sort s) t.m t.k t.p ≤ length (residues_of t.q words.now)) }
-    ensures { checked result ≡ judged (mask_tests (sort s) t words.now) }
+fn check_mask(r: &Request<'_>) -> Check
+    requires { Fits (sort r.now.sort) r.now.terms
+        × (draw_count (sort r.now.sort) r.now.terms.m r.now.terms.k r.now.terms.p ≤ length (residues_of r.now.terms.q r.now.words.now)) }
+    ensures { checked result ≡ judged (mask_tests (sort r.now.sort) r.now.terms r.now.words.now) }
 {
-    match s {
+    match r.sort {
         Sort::Product => Ok(()),
-        Sort::System => need(Refusal::Singular, mask_fits(t, words)),
+        Sort::System => need(Refusal::Singular, mask_fits(r.terms, r.words)),
     }
 }
 
-fn check_raw(s: Sort, t: Terms, words: &[u32]) -> Check
-    requires { Fits (sort s) t }
-    ensures { checked result ≡ judged (raw_tests (sort s) t words.now) }
+fn check_raw(r: &Request<'_>) -> Check
+    requires { Fits (sort r.now.sort) r.now.terms }
+    ensures { checked result ≡ judged (raw_tests (sort r.now.sort) r.now.terms r.now.words.now) }
 {
-    check_coins(t.q, draw_count(s, t), words)?;
-    check_mask(s, t, words)
+    check_coins(r.terms.q, draw_count(r.sort, r.terms), r.words)?;
+    check_mask(r)
 }
 
 // The slots' statuses and the raw words.
-fn check_words(s: Sort, t: Terms, first: &[u32], second: &[u32], at: Place, words: &[u32]) -> Check
-    requires { Numbers (sort s) t (length first.now) (length second.now) at.size at.index }
-    ensures { checked result ≡ judged (deal_words (sort s) t (slot_in first.now at)
-        (slot_in second.now at) words.now) }
+fn check_words(first: &[u32], second: &[u32], at: Place, r: &Request<'_>) -> Check
+    requires { Numbers (sort r.now.sort) r.now.terms (length first.now) (length second.now) at.size at.index }
+    ensures { checked result ≡ judged (deal_words (sort r.now.sort) r.now.terms (slot_in first.now at)
+        (slot_in second.now at) r.now.words.now) }
 {
     let one = check_mark(first, at);
     let two = check_mark(second, at);
-    let raw = check_raw(s, t, words);
+    let raw = check_raw(r);
     worst(one, worst(two, raw))
 }
 
-// The session's number in the terms is of no account, but it is one.
-pub fn check(s: Sort, t: Terms, first: &[u32], second: &[u32], at: Place, words: &[u32]) -> Check
-    requires { 1 ≤ t.session.0 }
-    ensures { checked result ≡ judged (deal_tests (slot_in first.now at) (slot_in second.now at)
-        (request (sort s) t words.now)) }
+pub fn check(first: &[u32], second: &[u32], at: Place, r: &Request<'_>) -> Check
+    requires { 1 ≤ r.now.terms.session.0 }
+    ensures { checked result ≡ judged (deal_tests (slot_in first.now at) (slot_in second.now at) (request_of r.now)) }
 {
-    check_numbers(s, t, first.len(), second.len(), at)?;
-    check_words(s, t, first, second, at, words)
+    check_numbers(r.sort, r.terms, first.len(), second.len(), at)?;
+    check_words(first, second, at, r)
 }

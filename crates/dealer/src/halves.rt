@@ -8,11 +8,12 @@ ghost use Rattle.algebra.specs.Words.{over, written_at};
 ghost use Rattle.protocol.specs.Bounds.{system};
 ghost use Rattle.protocol.specs.Drawing.{residues_of, drawn, words_read};
 ghost use Rattle.protocol.specs.Tape.{header_size, matrix_at, blinder, solver};
-ghost use Rattle.dealer.specs.Sorts.{sort, masks_count, draw_count, request};
+ghost use Rattle.dealer.specs.Sorts.{sort, masks_count, draw_count, request_of};
 ghost use Rattle.dealer.specs.Shape.{Masks, Unknowns, Room};
 ghost use Rattle.dealer.specs.Written.{first_and_third, header_of, xa, yb, b_from, first_masks, second_masks, qg, rv, v_from, more_first, more_second};
 ghost use Rattle.dealer.specs.Dealt.{first_half_words, second_half_words};
 
+use crate::request::Request;
 use crate::sort::{Sort, first_end};
 use drawing::draw;
 use matrix::{Sides, sides_of, write_deal, write_masked};
@@ -161,14 +162,14 @@ fn fill_more(
 // ---- both halves
 
 // The beginning of each half, for both sorts: the header, and then X0 and A0, or Y0 and B0.
-fn write_masks(s: Sort, t: Terms, words: &[u32], first: &mut [u32], second: &mut [u32]) -> usize
-    requires { Room (sort s) t words.now (length first.old) (length second.old) }
-    ensures value { result ≡ words_read t.q (masks_count t.m t.k t.p) words.now }
-    ensures first_after { first.new ≡ over (first_masks (sort s) t words.now) first.old }
-    ensures second_after { second.new ≡ over (second_masks (sort s) t words.now) second.old }
+fn write_masks(r: &Request<'_>, first: &mut [u32], second: &mut [u32]) -> usize
+    requires { Room (sort r.now.sort) r.now.terms r.now.words.now (length first.old) (length second.old) }
+    ensures value { result ≡ words_read r.now.terms.q (masks_count r.now.terms.m r.now.terms.k r.now.terms.p) r.now.words.now }
+    ensures first_after { first.new ≡ over (first_masks (sort r.now.sort) r.now.terms r.now.words.now) first.old }
+    ensures second_after { second.new ≡ over (second_masks (sort r.now.sort) r.now.terms r.now.words.now) second.old }
 {
-    write_headers(s, t, first, second);
-    fill_masks(t, words, first, second)
+    write_headers(r.sort, r.terms, first, second);
+    fill_masks(r.terms, r.words, first, second)
 }
 
 // A system's matrices behind these, from the words behind those that were read.
@@ -186,21 +187,15 @@ fn write_more(t: Terms, words: &[u32], read: usize, first: &mut [u32], second: &
 }
 
 // The answer is how many words were read.
-pub fn write_halves(
-    s: Sort,
-    t: Terms,
-    words: &[u32],
-    first: &mut [u32],
-    second: &mut [u32],
-) -> usize
-    requires { Room (sort s) t words.now (length first.old) (length second.old) }
-    ensures value { result ≡ words_read t.q (draw_count (sort s) t.m t.k t.p) words.now }
-    ensures first_after { first.new ≡ over (first_half_words (request (sort s) t words.now)) first.old }
-    ensures second_after { second.new ≡ over (second_half_words (request (sort s) t words.now)) second.old }
+pub fn write_halves(r: &Request<'_>, first: &mut [u32], second: &mut [u32]) -> usize
+    requires { Room (sort r.now.sort) r.now.terms r.now.words.now (length first.old) (length second.old) }
+    ensures value { result ≡ words_read r.now.terms.q (draw_count (sort r.now.sort) r.now.terms.m r.now.terms.k r.now.terms.p) r.now.words.now }
+    ensures first_after { first.new ≡ over (first_half_words (request_of r.now)) first.old }
+    ensures second_after { second.new ≡ over (second_half_words (request_of r.now)) second.old }
 {
-    let read = write_masks(s, t, words, first, second);
-    match s {
+    let read = write_masks(r, first, second);
+    match r.sort {
         Sort::Product => read,
-        Sort::System => write_more(t, words, read, first, second),
+        Sort::System => write_more(r.terms, r.words, read, first, second),
     }
 }

@@ -7,15 +7,15 @@ ghost use Rattle.algebra.specs.Words.{written_at};
 ghost use Rattle.protocol.specs.Step.{answer_reply};
 ghost use Rattle.protocol.specs.Deal.{deal};
 ghost use Rattle.entry.specs.Bytes.{bytes_of};
-ghost use Rattle.dealer.specs.Sorts.{sort, request};
+ghost use Rattle.dealer.specs.Sorts.{sort, request_of};
 ghost use Rattle.dealer.specs.Dealt.{Pools, pools};
 ghost use Rattle.host_deal.specs.Part.{Lies};
 ghost use Rattle.host_deal.specs.Copied.{part_words, copied};
 
 use crate::part::Part;
 use dealer::deal;
-use dealer::sort::Sort;
-use protocol::{Answer, Terms};
+use dealer::request::Request;
+use protocol::Answer;
 use tape::Place;
 use words::{get_words, put_words};
 
@@ -36,41 +36,27 @@ fn put_back(at: Part, words: &[u32], bytes: &mut [u8])
 }
 
 // Pools of one slot.
-fn deal_copies(
-    s: Sort,
-    t: Terms,
-    size: usize,
-    one: &mut [u32],
-    two: &mut [u32],
-    words: &[u32],
-) -> Answer
-    requires { (1 ≤ t.session.0) × (size ≤ length one.old) × (size ≤ length two.old) }
+fn deal_copies(size: usize, one: &mut [u32], two: &mut [u32], r: &Request<'_>) -> Answer
+    requires { (1 ≤ r.now.terms.session.0) × (size ≤ length one.old) × (size ≤ length two.old) }
     ensures { ◌≡◌ {A = Pools} (record { answer = answer_reply result; first = take size one.new; second = take size two.new })
         (pools (take size one.old) (take size two.old)
-        (deal (take size one.old) (take size two.old) size 0 (request (sort s) t words.now))) }
+        (deal (take size one.old) (take size two.old) size 0 (request_of r.now))) }
 {
     let at = Place { size, index: 0 };
-    deal(s, t, &mut one[..size], &mut two[..size], at, words)
+    deal(&mut one[..size], &mut two[..size], at, r)
 }
 
 // No half has more than 3,079 words.
-pub fn deal_bytes(
-    s: Sort,
-    t: Terms,
-    first: &mut [u8],
-    second: &mut [u8],
-    at: Part,
-    words: &[u32],
-) -> Answer
-    requires { Lies at (length first.old) (length second.old) × (1 ≤ t.session.0) }
+pub fn deal_bytes(first: &mut [u8], second: &mut [u8], at: Part, r: &Request<'_>) -> Answer
+    requires { Lies at (length first.old) (length second.old) × (1 ≤ r.now.terms.session.0) }
     ensures { ◌≡◌ {A = Pools} (record { answer = answer_reply result; first = first.new; second = second.new })
-        (copied at (sort s) t first.old second.old words.now) }
+        (copied at (sort r.now.sort) r.now.terms first.old second.old r.now.words.now) }
 {
     let mut one = [0u32; 3079];
     let mut two = [0u32; 3079];
     take_words(at, first, &mut one);
     take_words(at, second, &mut two);
-    let read = deal_copies(s, t, at.size, &mut one, &mut two, words)?;
+    let read = deal_copies(at.size, &mut one, &mut two, r)?;
     put_back(at, &one, first);
     put_back(at, &two, second);
     Ok(read)

@@ -22,6 +22,7 @@ ghost use Rattle.host_deal.specs.Part.{own_tests, Known, Lies};
 ghost use Rattle.host_deal.specs.Copied.{report_of, told, SiftedFor};
 
 use copies::deal_bytes;
+use dealer::request::Request;
 use dealer::sort::{Sort, draw_count};
 use drawing::{Sifted, sift};
 use entry::Report;
@@ -73,8 +74,12 @@ fn deal_part(
 {
     let mut raw = [0u32; 5120];
     let sifted = sift_for(s, t, at, words, &mut raw);
-    let kept = sifted.kept;
-    let answer = deal_bytes(s, t, first, second, at, &raw[..kept]);
+    let r = Request {
+        sort: s,
+        terms: t,
+        words: &raw[..sifted.kept],
+    };
+    let answer = deal_bytes(first, second, at, &r);
     report_of(answer, sifted.read)
 }
 

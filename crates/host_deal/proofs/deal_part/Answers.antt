@@ -6,8 +6,8 @@ use Rattle.dealer.specs.Sorts.{sort}
 use Rattle.host_deal.proofs.Leaving.{all_told}
 use Rattle.host_deal.proofs.deal_part.Goals as goal
 
-pub slice_bounds-deal_bytes-end : goal.slice_bounds-deal_bytes-end
-slice_bounds-deal_bytes-end c =
+pub slice_bounds-r-end : goal.slice_bounds-r-end
+slice_bounds-r-end c =
     let few = c.sift_for-sifted.ensures.few in
     simp length-take (omega (arith, few))
 

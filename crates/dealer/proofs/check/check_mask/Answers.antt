@@ -6,7 +6,7 @@ use Rattle.dealer.proofs.check.check_mask.Goals as goal
 pub returns-in-Product : goal.returns-in-Product
 returns-in-Product c =
     let a = c.args in
-    no-mask a.t a.words.now c.in-Product.is
+    no-mask a.r.now.terms a.r.now.words.now c.in-Product.is
 
 pub returns-in-System : goal.returns-in-System
 unfolding mask_tests

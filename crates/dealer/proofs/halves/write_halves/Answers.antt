@@ -12,9 +12,9 @@ returns-in-Product c =
     let a = c.args in
     let e = c.write_masks-read.ensures in
     let told = c.in-Product.is in record {
-      value = e.value ∙ ap (λ (n : ℕ). words_read a.t.q n a.words.now) (same_count a.t a.words.now told);
-      first_after = e.first_after ∙ ap (λ (l : List ℕ). over l a.first.now) (same_first a.t a.words.now told);
-      second_after = e.second_after ∙ ap (λ (l : List ℕ). over l a.second.now) (same_second a.t a.words.now told);
+      value = e.value ∙ ap (λ (n : ℕ). words_read a.r.now.terms.q n a.r.now.words.now) (same_count a.r.now.terms a.r.now.words.now told);
+      first_after = e.first_after ∙ ap (λ (l : List ℕ). over l a.first.now) (same_first a.r.now.terms a.r.now.words.now told);
+      second_after = e.second_after ∙ ap (λ (l : List ℕ). over l a.second.now) (same_second a.r.now.terms a.r.now.words.now told);
     }
 
 pub returns-in-System : goal.returns-in-System

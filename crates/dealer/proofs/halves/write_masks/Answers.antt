@@ -10,20 +10,20 @@ pub write_headers-requires : goal.write_headers-requires
 write_headers-requires c =
     let a = c.args in
     let h = c.requires in
-    let t = a.t in (
-      omega (arith, first-start (sort a.s) t.m t.k t.p h.first-room),
-      omega (arith, second-start (sort a.s) t.m t.k t.p h.second-room),
+    let t = a.r.now.terms in (
+      omega (arith, first-start (sort a.r.now.sort) t.m t.k t.p h.first-room),
+      omega (arith, second-start (sort a.r.now.sort) t.m t.k t.p h.second-room),
     )
 
 pub fill_masks-requires : goal.fill_masks-requires
 fill_masks-requires c =
     let a = c.args in
     let h = c.requires in
-    let t = a.t in (
+    let t = a.r.now.terms in (
       masks-of h.fits,
-      enough-masks (sort a.s) t.m t.k t.p h.enough,
-      omega (arith, first-start (sort a.s) t.m t.k t.p h.first-room),
-      omega (arith, second-start (sort a.s) t.m t.k t.p h.second-room),
+      enough-masks (sort a.r.now.sort) t.m t.k t.p h.enough,
+      omega (arith, first-start (sort a.r.now.sort) t.m t.k t.p h.first-room),
+      omega (arith, second-start (sort a.r.now.sort) t.m t.k t.p h.second-room),
     )
 
 pub returns : goal.returns
@@ -35,6 +35,6 @@ returns c =
     let e = c.fill_masks.ensures in
     let heads = write-headers.ensures in record {
       value = e.value;
-      first_after = masks-over (sort a.s) a.t _ a.first.now _ heads.first_after e.first_after;
-      second_after = masks-over (sort a.s) a.t _ a.second.now _ heads.second_after e.second_after;
+      first_after = masks-over (sort a.r.now.sort) a.r.now.terms _ a.first.now _ heads.first_after e.first_after;
+      second_after = masks-over (sort a.r.now.sort) a.r.now.terms _ a.second.now _ heads.second_after e.second_after;
     }
