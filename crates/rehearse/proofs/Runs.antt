@@ -34,7 +34,6 @@ use Rattle.judging.specs.Leaves.{Leaves, leaves}
 use Rattle.dealer.specs.Dealt.{Pools, pools}
 use Rattle.protocol.specs.Message.{message_with}
 use Rattle.rehearse_lines.specs.Prints.{run_of}
-use Rattle.rehearse.specs.Order.{input_of}
 use Rattle.rehearse.specs.Rooms.{Rooms, DealtFor}
 
 -- ---- slices that are written whole, and an empty pool of one slot
@@ -101,9 +100,9 @@ same-run : {a a' b b' : Message} {u u' v v' : List ℕ} → a ≡ a' → b ≡ b
     → ◌≡◌ {A = Run} (record { one = a; two = b; left_share = u; right_share = v }) (record { one = a'; two = b'; left_share = u'; right_share = v' })
 same-run e f g h = rw (e, f, g, h)
 
-module _ (t : Terms) (x y d l : List ℕ) (ok : judged (rehearsal_tests (input_of t x y d l)) ≡ done tt) where
-  abbrev i : Input
-  i = input_of t x y d l
+module _ (i : Input) (ok : judged (rehearsal_tests i) ≡ done tt) where
+  abbrev t : Terms
+  t = i.terms
 
   pub fits : RehearsalFits i
   fits = (rehearsal-tests i).0 (record { all = (passed (rehearsal_tests i) ok).0 })
@@ -125,7 +124,7 @@ module _ (t : Terms) (x y d l : List ℕ) (ok : judged (rehearsal_tests (input_o
 
   -- the messages and the shares have their sizes
   size-one : length (one t a b calls).sent.residues ≡ message_size 1 t
-  size-one = ((left_step_lem t a x l (one t a b calls).sent (message_size 2 t) (t.m * t.p)).means held.step2).0.message.residues.size
+  size-one = ((left_step_lem t a i.x i.left_words (one t a b calls).sent (message_size 2 t) (t.m * t.p)).means held.step2).0.message.residues.size
 
   size-two : length (two t a b calls).sent.residues ≡ message_size 2 t
   unfolding right_first_effect
@@ -142,7 +141,7 @@ module _ (t : Terms) (x y d l : List ℕ) (ok : judged (rehearsal_tests (input_o
   -- ---- dealing
 
   pub dealt-for : (n : ℕ) (a0 b0 a1 b1 : List ℕ) (r0 : Reply ℕ) → n ≡ size → a0 ≡ zeros size → b0 ≡ zeros size → length a1 ≡ n
-      → ◌≡◌ {A = Pools} (record { answer = r0; first = a1; second = b1 }) (pools a0 b0 (deal a0 b0 n 0 (product_request t.tape t.q t.m t.k t.p d)))
+      → ◌≡◌ {A = Pools} (record { answer = r0; first = a1; second = b1 }) (pools a0 b0 (deal a0 b0 n 0 (product_request t.tape t.q t.m t.k t.p i.dealer_words)))
       → DealtFor i a1 b1
   unfolding request
   dealt-for n a0 b0 a1 b1 r0 en ea eb long e0 = record {
@@ -152,7 +151,7 @@ module _ (t : Terms) (x y d l : List ℕ) (ok : judged (rehearsal_tests (input_o
     second_is = ap (λ (p : Pools). p.second) (e0 ∙ left-0);
   }
     where
-      left-0 : pools a0 b0 (deal a0 b0 n 0 (product_request t.tape t.q t.m t.k t.p d)) ≡ pools (zeros size) (zeros size) (done (dealt_run i))
+      left-0 : pools a0 b0 (deal a0 b0 n 0 (product_request t.tape t.q t.m t.k t.p i.dealer_words)) ≡ pools (zeros size) (zeros size) (done (dealt_run i))
       left-0 = rw (ea, eb, en, rehearsal-dealt i fits)
 
   module _ (a1 b1 : List ℕ) (p : DealtFor i a1 b1) where
@@ -163,8 +162,8 @@ module _ (t : Terms) (x y d l : List ℕ) (ok : judged (rehearsal_tests (input_o
 
     module _ (y0 y1 b2 : List ℕ) (r1 : Reply ℕ) (s1 : RightSession) (h1 : Head) (ey : length y0 ≡ message_size 1 t)
         (e1 : ◌≡◌ {A = Leaves RightSession} (record { answer = r1; session = s1; head = h1; pool = b2; scratch = []; sent = y1; result = [] })
-        (leaves no_right (slot_at b1 n 0) [] y0 [] (right_first t (slot_at b1 n 0) y (length y0)))) where
-      left-1 : leaves no_right (slot_at b1 n 0) [] y0 [] (right_first t (slot_at b1 n 0) y (length y0)) ≡ leaves no_right b [] y0 [] (done (one t a b calls))
+        (leaves no_right (slot_at b1 n 0) [] y0 [] (right_first t (slot_at b1 n 0) i.y (length y0)))) where
+      left-1 : leaves no_right (slot_at b1 n 0) [] y0 [] (right_first t (slot_at b1 n 0) i.y (length y0)) ≡ leaves no_right b [] y0 [] (done (one t a b calls))
       left-1 = rw (p.second_is, p.long, ey, held.step1)
 
       sent-1 : message_with h1 y1 ≡ (one t a b calls).sent
@@ -182,8 +181,8 @@ module _ (t : Terms) (x y d l : List ℕ) (ok : judged (rehearsal_tests (input_o
 
       module _ (x0 x1 u0 u a2 : List ℕ) (r2 : Reply ℕ) (h2 : Head) (ex : length x0 ≡ message_size 2 t) (eu : length u0 ≡ t.m * t.p)
           (e2 : ◌≡◌ {A = Leaves Unit} (record { answer = r2; session = tt; head = h2; pool = a2; scratch = []; sent = x1; result = u })
-          (leaves tt (slot_at a1 n 0) [] x0 u0 (left_step t (slot_at a1 n 0) x l (record { head = h1; residues = y1 }) (length x0) (length u0)))) where
-        left-2 : leaves tt (slot_at a1 n 0) [] x0 u0 (left_step t (slot_at a1 n 0) x l (record { head = h1; residues = y1 }) (length x0) (length u0))
+          (leaves tt (slot_at a1 n 0) [] x0 u0 (left_step t (slot_at a1 n 0) i.x i.left_words (record { head = h1; residues = y1 }) (length x0) (length u0)))) where
+        left-2 : leaves tt (slot_at a1 n 0) [] x0 u0 (left_step t (slot_at a1 n 0) i.x i.left_words (record { head = h1; residues = y1 }) (length x0) (length u0))
             ≡ leaves tt a [] x0 u0 (done (two t a b calls))
         left-2 = rw (p.long, p.first-is, sent-1, ex, eu, held.step2)
 
