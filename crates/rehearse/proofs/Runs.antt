@@ -1,7 +1,6 @@
 -- What the calls of a run leave is the run of the definition: no call is refused, and each message is handed on as it was sent.
 --   fits                 what the tests say
---   pool-taken, rooms-taken   how many words the run's slices have
---   came-back, take-few, run-again, dealt-again   parts that were lent, taken again
+--   zeros-taken, pool-taken, rooms-taken   how many words the run's slices have
 --   dealt-for            dealing into empty pools
 --   run-made             from what the three steps leave
 -- Assumes nothing.
@@ -9,8 +8,8 @@ use mathlib.Core.Path.{◌≡◌, sym, ap, ap₂, ◌∙◌}
 use mathlib.Core.List.{List, [], ◌++◌, append-nil}
 use Prim.Native.Nat.{ℕ, ◌+◌, ◌*◌, ◌≤◌, ◌<◌}
 use native.Mathlib.Omega.{arith}
-use lib.ListN.{length, get_or, take, drop, replicate, length-take, length-replicate, get_or-replicate}
-use lib.Seq.{get_or-take, length-take-le, take_at, drop-length, ext_get_or}
+use lib.ListN.{length, get_or, take, drop, replicate, length-replicate, get_or-replicate}
+use lib.Seq.{get_or-take, length-take-le, drop-length, ext_get_or}
 use Rattle.algebra.specs.Matrix.{zeros}
 use Rattle.algebra.specs.Words.{over}
 use Rattle.algebra.specs.Product.{right_share}
@@ -56,7 +55,7 @@ take-zeros n k h =
 
 -- ---- the slices of a run
 
-zeros-taken : (n k : ℕ) → n ≤ k → length (take n (replicate {A = ℕ} k 0)) ≡ n
+pub zeros-taken : (n k : ℕ) → n ≤ k → length (take n (replicate {A = ℕ} k 0)) ≡ n
 zeros-taken n k h = length-take-le n (replicate {A = ℕ} k 0) (omega (arith, length-replicate {A = ℕ} k 0))
 
 pub pool-taken : (t : Terms) (n k : ℕ) → n ≤ k → n ≡ slot_size t → take n (replicate {A = ℕ} k 0) ≡ zeros (slot_size t)
@@ -73,26 +72,6 @@ rooms-taken t one two share a b c e f g = record {
   left-share = zeros-taken share 1024 c ∙ g;
   right-share = zeros-taken share 1024 c ∙ g;
 }
-
--- parts that were lent, taken again
-part-again : (n : ℕ) (l r : List ℕ) → length l ≡ n → take n (l ++ r) ≡ l
-part-again n l r e = take_at l r n e
-
--- as many words came back as were lent
-pub came-back : (n k long : ℕ) → n ≤ k → long ≡ length (take n (replicate {A = ℕ} k 0)) → long ≡ n
-came-back n k long h e = e ∙ zeros-taken n k h
-
-pub take-few : (n k : ℕ) (l : List ℕ) → n ≤ k → length (take n l) ≤ k
-take-few n k l h = omega (arith, length-take n l)
-
-pub run-again : (one two : Head) {a b c d : ℕ} {y x u v : List ℕ} (ry rx ru rv : List ℕ) → length y ≡ a → length x ≡ b → length u ≡ c → length v ≡ d
-    → run_of one (take a (y ++ ry)) two (take b (x ++ rx)) (take c (u ++ ru)) (take d (v ++ rv)) ≡ run_of one y two x u v
-run-again one two {a} {b} {c} {d} {y} {x} {u} {v} ry rx ru rv e f g h =
-    rw (part-again a y ry e, part-again b x rx f, part-again c u ru g, part-again d v rv h)
-
-pub dealt-again : {i : Input} {n : ℕ} {a b : List ℕ} (r s : List ℕ) → length a ≡ n → length b ≡ n → DealtFor i a b
-    → DealtFor i (take n (a ++ r)) (take n (b ++ s))
-dealt-again {i} {n} {a} {b} r s e f p = rw (part-again n a r e, part-again n b s f) p
 
 -- ---- the run
 

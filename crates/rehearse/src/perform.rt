@@ -69,18 +69,12 @@ fn play(i: Input, first: &mut [u32], second: &mut [u32], out: &mut [u8]) -> usiz
     let mut x1r1 = [0u32; 3072];
     let mut u = [0u32; 1024];
     let mut v = [0u32; 1024];
-    let heads = steps(
-        i,
-        first,
-        second,
-        &mut y1[..kp],
-        &mut x1r1[..reply],
-        &mut u[..mp],
-        &mut v[..mp],
-    );
-    let one = heads.one;
-    let two = heads.two;
-    print::result(one, &y1[..kp], two, &x1r1[..reply], &u[..mp], &v[..mp], out)
+    let y1 = &mut y1[..kp];
+    let x1r1 = &mut x1r1[..reply];
+    let u = &mut u[..mp];
+    let v = &mut v[..mp];
+    let heads = steps(i, first, second, y1, x1r1, u, v);
+    print::result(heads.one, y1, heads.two, x1r1, u, v, out)
 }
 
 // A slot's words, for the larger of the two halves.
@@ -100,16 +94,9 @@ pub fn perform(i: Input, out: &mut [u8]) -> usize
     let size = slot_size(t);
     let mut first = [0u32; 4096];
     let mut second = [0u32; 4096];
-    let _ = deal_product(
-        &mut first[..size],
-        &mut second[..size],
-        Place { size, index: 0 },
-        t.tape,
-        t.q,
-        t.m,
-        t.k,
-        t.p,
-        i.dealer,
-    );
-    play(i, &mut first[..size], &mut second[..size], out)
+    let first = &mut first[..size];
+    let second = &mut second[..size];
+    let at = Place { size, index: 0 };
+    let _ = deal_product(first, second, at, t.tape, t.q, t.m, t.k, t.p, i.dealer);
+    play(i, first, second, out)
 }
