@@ -5,7 +5,7 @@
 --   same-printed                                 what is printed then
 --   printed-by, said-printed                     and of the lines
 -- Assumes nothing.
-use mathlib.Core.Path.{◌≡◌, refl, sym, ap, ap₂, subst, ◌∙◌}
+use mathlib.Core.Path.{◌≡◌, refl, sym, ap, ap₂, ◌∙◌}
 use mathlib.Core.List.{List, [], ◌∷◌}
 use Prim.Native.Nat.{ℕ, ◌*◌, ◌≤◌, ◌<◌}
 use native.Mathlib.Omega.{arith}
@@ -15,7 +15,6 @@ use borrow.Author.Tests.{eqb-true}
 use Rattle.algebra.specs.Words.{over}
 use Rattle.protocol.specs.declared.Terms.{Terms}
 use Rattle.protocol.specs.declared.Refusal.{Refusal}
-use Rattle.protocol.specs.declared.Refusal.TheVariants.{Form}
 use Rattle.protocol.specs.Judge.{Test, Judged, refused, done, judge}
 use Rattle.protocol.specs.Bounds.{shape_tests, terms_tests, input_tests}
 use Rattle.protocol.specs.Drawing.{draw_tests}
@@ -28,10 +27,7 @@ use Rattle.tape.proofs.Sides.{sides, modulus}
 use Rattle.judging.specs.Groups.{modulus_tests}
 use Rattle.judging.proofs.Join.{judged-phases, goes-past}
 use Rattle.dealer.specs.Sorts.{masks_count}
-use Rattle.rehearse_lines.specs.declared.Counts.{Counts}
-use Rattle.std.specs.Prelude.{Option, Some, None}
 use Rattle.rehearse_lines.specs.Prints.{MOST}
-use Rattle.rehearse_lines.specs.Says.{Said, Says}
 use Rattle.rehearse.specs.Order.{size_tests, number_tests, residue_tests, word_tests, PrintsAll, Prints}
 
 -- ---- the numbers
@@ -59,18 +55,19 @@ numbers_fit t x y e =
     }
 
 -- the counts taken of words that have room for them
-module _ (t : Terms) (m n : ℕ) (x y : List ℕ) (told : done tt ≡ judged (number_tests t m n)) (long-x : length x ≡ 2048) (long-y : length y ≡ 2048) where
+module _ (t : Terms) (m n : ℕ) (told : done tt ≡ judged (number_tests t m n)) where
   fit : NumbersFit t m n
   fit = numbers_fit t m n (sym told)
 
-  pub room-x : m ≤ length x
-  room-x = omega (arith, fit.count-x, fit.few-mk)
+  pub room-x : (x : List ℕ) → length x ≡ 2048 → m ≤ length x
+  room-x x long = omega (arith, long, fit.count-x, fit.few-mk)
 
-  pub room-y : n ≤ length y
-  room-y = omega (arith, fit.count-y, fit.few-kp)
+  pub room-y : (y : List ℕ) → length y ≡ 2048 → n ≤ length y
+  room-y y long = omega (arith, long, fit.count-y, fit.few-kp)
 
-  pub taken-fit : judged (number_tests t (length (take m x)) (length (take n y))) ≡ done tt
-  taken-fit = ap₂ (λ (a b : ℕ). judged (number_tests t a b)) (length-take-le m x room-x) (length-take-le n y room-y) ∙ sym told
+  pub taken-fit : (x y : List ℕ) → length x ≡ 2048 → length y ≡ 2048 → judged (number_tests t (length (take m x)) (length (take n y))) ≡ done tt
+  taken-fit x y e f =
+      ap₂ (λ (a b : ℕ). judged (number_tests t a b)) (length-take-le m x (room-x x e)) (length-take-le n y (room-y y f)) ∙ sym told
 
 -- ---- the tests in two groups
 
@@ -115,12 +112,6 @@ same-printed {j} {k} {n} {before} {after} e place few contents = record {
 }
 
 -- ---- and of the lines
-
-pub said-wrong : (s f x y d l : List ℕ) (r : Option Counts) → Says s f x y d l r → r ≡ None → rehearse s ≡ printed (refused Form)
-said-wrong s f x y d l r said e = subst (Says s f x y d l) e said
-
-pub said_read : (s f x y d l : List ℕ) (r : Option Counts) (c : Counts) → Says s f x y d l r → r ≡ Some c → Said s f x y d l c
-said_read s f x y d l r c said e = subst (Says s f x y d l) e said
 
 pub printed-by : (s : List ℕ) (j : Judged Run) (n : ℕ) (before after : List ℕ) → rehearse s ≡ printed j
     → n ≡ length (printed j) → n ≤ MOST → after ≡ over (printed j) before → PrintsAll (rehearse s) n before after

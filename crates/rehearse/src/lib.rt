@@ -14,11 +14,10 @@ ghost use Rattle.protocol.specs.Judge.{judge, done};
 ghost use Rattle.protocol.specs.Rehearsal.{rehearsal_tests, run, rehearse};
 ghost use Rattle.judging.specs.InOrder.{judged};
 ghost use Rattle.rehearse_lines.specs.Prints.{MOST};
-ghost use Rattle.rehearse_lines.specs.Says.{Said};
 ghost use Rattle.rehearse.specs.Order.{input_of, number_tests, PrintsAll, Prints};
 
 use protocol::{Refusal, Terms};
-use rehearse_lines::{Counts, input, print};
+use rehearse_lines::{input, print};
 
 // What the five lines say, in words that are lent.
 #[derive(Clone, Copy)]
@@ -41,34 +40,6 @@ fn judge_words(i: Input, out: &mut [u8]) -> usize
     perform::perform(i, out)
 }
 
-// What is printed of lines that were read. X and Y have room in their words where the numbers fit.
-fn said(
-    c: Counts,
-    first: &[u32],
-    x: &[u32],
-    y: &[u32],
-    dealer: &[u32],
-    left: &[u32],
-    out: &mut [u8],
-) -> usize
-    requires { (6 ≤ length first.now) × (length x.now ≡ 2048) × (length y.now ≡ 2048) × (c.dealer ≤ length dealer.now) × (c.left ≤ length left.now) × (MOST ≤ length out.old) }
-    ensures { (s : List ℕ) → Said s first.now x.now y.now dealer.now left.now c
-        → PrintsAll (rehearse s) result out.old out.new }
-{
-    let terms = input::terms_of(first);
-    if let Err(r) = check::numbers(terms, c.x, c.y) {
-        return print::refusal(r, out);
-    }
-    let i = Input {
-        terms,
-        x: &x[..c.x],
-        y: &y[..c.y],
-        dealer: &dealer[..c.dealer],
-        left: &left[..c.left],
-    };
-    judge_words(i, out)
-}
-
 // The bytes that a rehearsal of these bytes prints stand at the start of `out`; the answer is how many.
 pub fn rehearse(bytes: &[u8], out: &mut [u8; 81920]) -> usize
     ensures place { result ≡ length (rehearse bytes.now) }
@@ -84,5 +55,17 @@ pub fn rehearse(bytes: &[u8], out: &mut [u8; 81920]) -> usize
     let Some(c) = lines else {
         return print::refusal(Refusal::Form, out);
     };
-    said(c, &first, &x, &y, &dealer, &left, out)
+    let terms = input::terms_of(&first);
+    if let Err(r) = check::numbers(terms, c.x, c.y) {
+        return print::refusal(r, out);
+    }
+    // X and Y have room in their words where the numbers fit
+    let i = Input {
+        terms,
+        x: &x[..c.x],
+        y: &y[..c.y],
+        dealer: &dealer[..c.dealer],
+        left: &left[..c.left],
+    };
+    judge_words(i, out)
 }
