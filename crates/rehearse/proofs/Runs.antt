@@ -1,7 +1,6 @@
 -- What the calls of a run leave is the run of the definition: no call is refused, and each message is handed on as it was sent.
 --   fits                 what the tests say
---   pool-taken, rooms-taken   how many words the run's slices have
---   came-back, take-few, run-again, dealt-again   parts that were lent, taken again
+--   zeros-taken, pool-taken, rooms-taken   how many words the run's slices have
 --   dealt-for            dealing into empty pools
 --   run-made             from what the three steps leave
 -- Assumes nothing.
@@ -9,8 +8,8 @@ use mathlib.Core.Path.{◌≡◌, sym, ap, ap₂, ◌∙◌}
 use mathlib.Core.List.{List, [], ◌++◌, append-nil}
 use Prim.Native.Nat.{ℕ, ◌+◌, ◌*◌, ◌≤◌, ◌<◌}
 use native.Mathlib.Omega.{arith}
-use lib.ListN.{length, get_or, take, drop, replicate, length-take, length-replicate, get_or-replicate}
-use lib.Seq.{get_or-take, length-take-le, take_at, drop-length, ext_get_or}
+use lib.ListN.{length, get_or, take, drop, replicate, length-replicate, get_or-replicate}
+use lib.Seq.{get_or-take, length-take-le, drop-length, ext_get_or}
 use Rattle.algebra.specs.Matrix.{zeros}
 use Rattle.algebra.specs.Words.{over}
 use Rattle.algebra.specs.Product.{right_share}
@@ -34,7 +33,6 @@ use Rattle.judging.specs.Leaves.{Leaves, leaves}
 use Rattle.dealer.specs.Dealt.{Pools, pools}
 use Rattle.protocol.specs.Message.{message_with}
 use Rattle.rehearse_lines.specs.Prints.{run_of}
-use Rattle.rehearse.specs.Order.{input_of}
 use Rattle.rehearse.specs.Rooms.{Rooms, DealtFor}
 
 -- ---- slices that are written whole, and an empty pool of one slot
@@ -57,7 +55,7 @@ take-zeros n k h =
 
 -- ---- the slices of a run
 
-zeros-taken : (n k : ℕ) → n ≤ k → length (take n (replicate {A = ℕ} k 0)) ≡ n
+pub zeros-taken : (n k : ℕ) → n ≤ k → length (take n (replicate {A = ℕ} k 0)) ≡ n
 zeros-taken n k h = length-take-le n (replicate {A = ℕ} k 0) (omega (arith, length-replicate {A = ℕ} k 0))
 
 pub pool-taken : (t : Terms) (n k : ℕ) → n ≤ k → n ≡ slot_size t → take n (replicate {A = ℕ} k 0) ≡ zeros (slot_size t)
@@ -75,35 +73,15 @@ rooms-taken t one two share a b c e f g = record {
   right-share = zeros-taken share 1024 c ∙ g;
 }
 
--- parts that were lent, taken again
-part-again : (n : ℕ) (l r : List ℕ) → length l ≡ n → take n (l ++ r) ≡ l
-part-again n l r e = take_at l r n e
-
--- as many words came back as were lent
-pub came-back : (n k long : ℕ) → n ≤ k → long ≡ length (take n (replicate {A = ℕ} k 0)) → long ≡ n
-came-back n k long h e = e ∙ zeros-taken n k h
-
-pub take-few : (n k : ℕ) (l : List ℕ) → n ≤ k → length (take n l) ≤ k
-take-few n k l h = omega (arith, length-take n l)
-
-pub run-again : (one two : Head) {a b c d : ℕ} {y x u v : List ℕ} (ry rx ru rv : List ℕ) → length y ≡ a → length x ≡ b → length u ≡ c → length v ≡ d
-    → run_of one (take a (y ++ ry)) two (take b (x ++ rx)) (take c (u ++ ru)) (take d (v ++ rv)) ≡ run_of one y two x u v
-run-again one two {a} {b} {c} {d} {y} {x} {u} {v} ry rx ru rv e f g h =
-    rw (part-again a y ry e, part-again b x rx f, part-again c u ru g, part-again d v rv h)
-
-pub dealt-again : {i : Input} {n : ℕ} {a b : List ℕ} (r s : List ℕ) → length a ≡ n → length b ≡ n → DealtFor i a b
-    → DealtFor i (take n (a ++ r)) (take n (b ++ s))
-dealt-again {i} {n} {a} {b} r s e f p = rw (part-again n a r e, part-again n b s f) p
-
 -- ---- the run
 
 same-run : {a a' b b' : Message} {u u' v v' : List ℕ} → a ≡ a' → b ≡ b' → u ≡ u' → v ≡ v'
     → ◌≡◌ {A = Run} (record { one = a; two = b; left_share = u; right_share = v }) (record { one = a'; two = b'; left_share = u'; right_share = v' })
 same-run e f g h = rw (e, f, g, h)
 
-module _ (t : Terms) (x y d l : List ℕ) (ok : judged (rehearsal_tests (input_of t x y d l)) ≡ done tt) where
-  abbrev i : Input
-  i = input_of t x y d l
+module _ (i : Input) (ok : judged (rehearsal_tests i) ≡ done tt) where
+  abbrev t : Terms
+  t = i.terms
 
   pub fits : RehearsalFits i
   fits = (rehearsal-tests i).0 (record { all = (passed (rehearsal_tests i) ok).0 })
@@ -125,7 +103,7 @@ module _ (t : Terms) (x y d l : List ℕ) (ok : judged (rehearsal_tests (input_o
 
   -- the messages and the shares have their sizes
   size-one : length (one t a b calls).sent.residues ≡ message_size 1 t
-  size-one = ((left_step_lem t a x l (one t a b calls).sent (message_size 2 t) (t.m * t.p)).means held.step2).0.message.residues.size
+  size-one = ((left_step_lem t a i.x i.left_words (one t a b calls).sent (message_size 2 t) (t.m * t.p)).means held.step2).0.message.residues.size
 
   size-two : length (two t a b calls).sent.residues ≡ message_size 2 t
   unfolding right_first_effect
@@ -142,7 +120,7 @@ module _ (t : Terms) (x y d l : List ℕ) (ok : judged (rehearsal_tests (input_o
   -- ---- dealing
 
   pub dealt-for : (n : ℕ) (a0 b0 a1 b1 : List ℕ) (r0 : Reply ℕ) → n ≡ size → a0 ≡ zeros size → b0 ≡ zeros size → length a1 ≡ n
-      → ◌≡◌ {A = Pools} (record { answer = r0; first = a1; second = b1 }) (pools a0 b0 (deal a0 b0 n 0 (product_request t.tape t.q t.m t.k t.p d)))
+      → ◌≡◌ {A = Pools} (record { answer = r0; first = a1; second = b1 }) (pools a0 b0 (deal a0 b0 n 0 (product_request t.tape t.q t.m t.k t.p i.dealer_words)))
       → DealtFor i a1 b1
   unfolding request
   dealt-for n a0 b0 a1 b1 r0 en ea eb long e0 = record {
@@ -152,7 +130,7 @@ module _ (t : Terms) (x y d l : List ℕ) (ok : judged (rehearsal_tests (input_o
     second_is = ap (λ (p : Pools). p.second) (e0 ∙ left-0);
   }
     where
-      left-0 : pools a0 b0 (deal a0 b0 n 0 (product_request t.tape t.q t.m t.k t.p d)) ≡ pools (zeros size) (zeros size) (done (dealt_run i))
+      left-0 : pools a0 b0 (deal a0 b0 n 0 (product_request t.tape t.q t.m t.k t.p i.dealer_words)) ≡ pools (zeros size) (zeros size) (done (dealt_run i))
       left-0 = rw (ea, eb, en, rehearsal-dealt i fits)
 
   module _ (a1 b1 : List ℕ) (p : DealtFor i a1 b1) where
@@ -163,8 +141,8 @@ module _ (t : Terms) (x y d l : List ℕ) (ok : judged (rehearsal_tests (input_o
 
     module _ (y0 y1 b2 : List ℕ) (r1 : Reply ℕ) (s1 : RightSession) (h1 : Head) (ey : length y0 ≡ message_size 1 t)
         (e1 : ◌≡◌ {A = Leaves RightSession} (record { answer = r1; session = s1; head = h1; pool = b2; scratch = []; sent = y1; result = [] })
-        (leaves no_right (slot_at b1 n 0) [] y0 [] (right_first t (slot_at b1 n 0) y (length y0)))) where
-      left-1 : leaves no_right (slot_at b1 n 0) [] y0 [] (right_first t (slot_at b1 n 0) y (length y0)) ≡ leaves no_right b [] y0 [] (done (one t a b calls))
+        (leaves no_right (slot_at b1 n 0) [] y0 [] (right_first t (slot_at b1 n 0) i.y (length y0)))) where
+      left-1 : leaves no_right (slot_at b1 n 0) [] y0 [] (right_first t (slot_at b1 n 0) i.y (length y0)) ≡ leaves no_right b [] y0 [] (done (one t a b calls))
       left-1 = rw (p.second_is, p.long, ey, held.step1)
 
       sent-1 : message_with h1 y1 ≡ (one t a b calls).sent
@@ -182,8 +160,8 @@ module _ (t : Terms) (x y d l : List ℕ) (ok : judged (rehearsal_tests (input_o
 
       module _ (x0 x1 u0 u a2 : List ℕ) (r2 : Reply ℕ) (h2 : Head) (ex : length x0 ≡ message_size 2 t) (eu : length u0 ≡ t.m * t.p)
           (e2 : ◌≡◌ {A = Leaves Unit} (record { answer = r2; session = tt; head = h2; pool = a2; scratch = []; sent = x1; result = u })
-          (leaves tt (slot_at a1 n 0) [] x0 u0 (left_step t (slot_at a1 n 0) x l (record { head = h1; residues = y1 }) (length x0) (length u0)))) where
-        left-2 : leaves tt (slot_at a1 n 0) [] x0 u0 (left_step t (slot_at a1 n 0) x l (record { head = h1; residues = y1 }) (length x0) (length u0))
+          (leaves tt (slot_at a1 n 0) [] x0 u0 (left_step t (slot_at a1 n 0) i.x i.left_words (record { head = h1; residues = y1 }) (length x0) (length u0)))) where
+        left-2 : leaves tt (slot_at a1 n 0) [] x0 u0 (left_step t (slot_at a1 n 0) i.x i.left_words (record { head = h1; residues = y1 }) (length x0) (length u0))
             ≡ leaves tt a [] x0 u0 (done (two t a b calls))
         left-2 = rw (p.long, p.first-is, sent-1, ex, eu, held.step2)
 

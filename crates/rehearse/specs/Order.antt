@@ -1,5 +1,5 @@
 -- The tests of a rehearsal, in the groups in which the code makes them, and what the code leaves. Assumes nothing.
---   input_of                              an input, by what it is made of
+--   input_of                              what lent words say
 --   size_tests, number_tests               protocol's rehearsal_tests on numbers
 --   residue_tests, word_tests              and on words
 --   PrintsAll, Prints                    what is printed stands at the start of the bytes that were lent
@@ -14,9 +14,10 @@ use Rattle.protocol.specs.Deal.{draw_size}
 use Rattle.protocol.specs.Rehearsal.{Input, request, Run, printed}
 use Rattle.judging.specs.Groups.{modulus_tests}
 use Rattle.rehearse_lines.specs.Prints.{MOST}
+use Rattle.rehearse.specs.declared.Input.{Input as Lent}
 
-abbrev pub input_of : Terms → (x y dealer left : List ℕ) → Input
-input_of t x y d l = record { terms = t; x = x; y = y; dealer_words = d; left_words = l }
+abbrev pub input_of : Lent → Input
+input_of i = record { terms = i.terms; x = i.x.now; y = i.y.now; dealer_words = i.dealer.now; left_words = i.left.now }
 
 -- the ids, the sides, and the counts of X and Y
 unfoldable pub size_tests : Terms → (x y : ℕ) → List Test
@@ -35,9 +36,10 @@ number_tests t x y = modulus_tests product t.q ++ size_tests t x y
 unfoldable pub residue_tests : (q : ℕ) (x y : List ℕ) → List Test
 residue_tests q x y = needs Residue (all_below q x) ∷ needs Residue (all_below q y) ∷ []
 
-unfoldable pub word_tests : Terms → (x y dealer left : List ℕ) → List Test
-word_tests t x y d l =
-    residue_tests t.q x y ++ (draw_tests t.q (draw_size (request (input_of t x y d l))) d ++ draw_tests t.q (t.m * t.p) l)
+unfoldable pub word_tests : Input → List Test
+word_tests i =
+    let t = i.terms in
+    residue_tests t.q i.x i.y ++ (draw_tests t.q (draw_size (request i)) i.dealer_words ++ draw_tests t.q (t.m * t.p) i.left_words)
 
 -- n bytes over the start of what was there
 pub record PrintsAll (bytes : List ℕ) (n : ℕ) (before after : List ℕ) : Type 0 where

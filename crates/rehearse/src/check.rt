@@ -1,8 +1,9 @@
 // What the run's calls need of what the lines say, before any of them is made: first the numbers, then the words.
 ghost use Rattle.std.specs.Prelude.{◌≡◌, ◌*◌, ◌≤◌, ◌<◌};
 ghost use Rattle.judging.specs.InOrder.{checked, judged};
-ghost use Rattle.rehearse.specs.Order.{size_tests, number_tests, residue_tests, word_tests};
+ghost use Rattle.rehearse.specs.Order.{input_of, size_tests, number_tests, residue_tests, word_tests};
 
+use crate::Input;
 use dealer::sort::masks_count;
 use judging::numbers::check_modulus;
 use judging::received::check_coins;
@@ -42,12 +43,13 @@ fn residues(q: u32, x: &[u32], y: &[u32]) -> Check
     worst(in_x, in_y)
 }
 
-pub fn words(t: Terms, x: &[u32], y: &[u32], dealer: &[u32], left: &[u32]) -> Check
-    requires { (0 < t.q) × (t.m * t.k ≤ 2048) × (t.k * t.p ≤ 2048) × (t.m * t.p ≤ 1024) }
-    ensures { checked result ≡ judged (word_tests t x.now y.now dealer.now left.now) }
+pub fn words(i: Input) -> Check
+    requires { (0 < i.terms.q) × (i.terms.m * i.terms.k ≤ 2048) × (i.terms.k * i.terms.p ≤ 2048) × (i.terms.m * i.terms.p ≤ 1024) }
+    ensures { checked result ≡ judged (word_tests (input_of i.entry)) }
 {
-    let inputs = residues(t.q, x, y);
-    let dealt = check_coins(t.q, masks_count(t), dealer);
-    let coins = check_coins(t.q, times(t.m, t.p), left);
+    let t = i.terms;
+    let inputs = residues(t.q, i.x, i.y);
+    let dealt = check_coins(t.q, masks_count(t), i.dealer);
+    let coins = check_coins(t.q, times(t.m, t.p), i.left);
     worst(inputs, worst(dealt, coins))
 }

@@ -2,7 +2,7 @@
 //   perform  the pools, and dealing into them
 //   play     room for the messages and the shares, and what is printed of them
 //   steps    the three steps
-ghost use Rattle.std.specs.Prelude.{◌≡◌, true, List, ℕ, ◌+◌, ◌≤◌, length};
+ghost use Rattle.std.specs.Prelude.{◌≡◌, true, ◌+◌, ◌≤◌, length};
 ghost use Rattle.protocol.specs.Judge.{done};
 ghost use Rattle.protocol.specs.Bounds.{product, sides_fit};
 ghost use Rattle.protocol.specs.Tape.{header_size};
@@ -12,6 +12,7 @@ ghost use Rattle.rehearse_lines.specs.Prints.{MOST, run_of};
 ghost use Rattle.rehearse.specs.Order.{input_of, Prints};
 ghost use Rattle.rehearse.specs.Rooms.{Rooms, DealtFor};
 
+use crate::Input;
 use dealer::deal_product;
 use product::{left_step, right_first, right_last};
 use protocol::{Head, Terms};
@@ -29,10 +30,7 @@ pub struct Heads {
 
 // The messages' residues and the shares go into the last four, which have their lengths.
 fn steps(
-    t: Terms,
-    x: &[u32],
-    y: &[u32],
-    coins: &[u32],
+    i: Input,
     first: &mut [u32],
     second: &mut [u32],
     y1: &mut [u32],
@@ -40,37 +38,30 @@ fn steps(
     u: &mut [u32],
     v: &mut [u32],
 ) -> Heads
-    ensures { (d : List ℕ) → DealtFor (input_of t x.now y.now d coins.now) first.old second.old
-        → Rooms t (length y1.old) (length x1r1.old) (length u.old) (length v.old)
-        → run_of result.one y1.new result.two x1r1.new u.new v.new ≡ run (input_of t x.now y.now d coins.now) }
+    ensures { DealtFor (input_of i.entry) first.old second.old
+        → Rooms i.entry.terms (length y1.old) (length x1r1.old) (length u.old) (length v.old)
+        → run_of result.one y1.new result.two x1r1.new u.new v.new ≡ run (input_of i.entry) }
 {
     let at = Place {
         size: first.len(),
         index: 0,
     };
-    let sent = right_first(second, at, t, y, y1);
+    let sent = right_first(second, at, i.terms, i.y, y1);
     let one = sent.head;
     let open = sent.session;
-    let replied = left_step(first, at, t, x, coins, one, y1, x1r1, u);
+    let replied = left_step(first, at, i.terms, i.x, i.left, one, y1, x1r1, u);
     let two = replied.head;
     right_last(second, at, open, two, x1r1, v);
     Heads { one, two }
 }
 
 // The steps in pools that were dealt, and what is printed of the run.
-fn play(
-    t: Terms,
-    x: &[u32],
-    y: &[u32],
-    coins: &[u32],
-    first: &mut [u32],
-    second: &mut [u32],
-    out: &mut [u8],
-) -> usize
-    requires { (sides_fit product t.m t.k t.p ≡ true) × (MOST ≤ length out.old) }
-    ensures { (d : List ℕ) → DealtFor (input_of t x.now y.now d coins.now) first.old second.old
-        → Prints (done (run (input_of t x.now y.now d coins.now))) result out.old out.new }
+fn play(i: Input, first: &mut [u32], second: &mut [u32], out: &mut [u8]) -> usize
+    requires { (sides_fit product i.terms.m i.terms.k i.terms.p ≡ true) × (MOST ≤ length out.old) }
+    ensures { DealtFor (input_of i.entry) first.old second.old
+        → Prints (done (run (input_of i.entry))) result out.old out.new }
 {
+    let t = i.terms;
     let kp = times(t.k, t.p);
     let mp = times(t.m, t.p);
     let reply = times(t.m, t.k) + mp;
@@ -78,21 +69,12 @@ fn play(
     let mut x1r1 = [0u32; 3072];
     let mut u = [0u32; 1024];
     let mut v = [0u32; 1024];
-    let heads = steps(
-        t,
-        x,
-        y,
-        coins,
-        first,
-        second,
-        &mut y1[..kp],
-        &mut x1r1[..reply],
-        &mut u[..mp],
-        &mut v[..mp],
-    );
-    let one = heads.one;
-    let two = heads.two;
-    print::result(one, &y1[..kp], two, &x1r1[..reply], &u[..mp], &v[..mp], out)
+    let y1 = &mut y1[..kp];
+    let x1r1 = &mut x1r1[..reply];
+    let u = &mut u[..mp];
+    let v = &mut v[..mp];
+    let heads = steps(i, first, second, y1, x1r1, u, v);
+    print::result(heads.one, y1, heads.two, x1r1, u, v, out)
 }
 
 // A slot's words, for the larger of the two halves.
@@ -104,31 +86,17 @@ fn slot_size(t: Terms) -> usize
 }
 
 // What is printed where all that the calls need holds.
-pub fn perform(
-    t: Terms,
-    x: &[u32],
-    y: &[u32],
-    dealer: &[u32],
-    coins: &[u32],
-    out: &mut [u8],
-) -> usize
-    requires { (judged (rehearsal_tests (input_of t x.now y.now dealer.now coins.now)) ≡ done tt) × (MOST ≤ length out.old) }
-    ensures { Prints (done (run (input_of t x.now y.now dealer.now coins.now))) result out.old out.new }
+pub fn perform(i: Input, out: &mut [u8]) -> usize
+    requires { (judged (rehearsal_tests (input_of i)) ≡ done tt) × (MOST ≤ length out.old) }
+    ensures { Prints (done (run (input_of i.entry))) result out.old out.new }
 {
-    let id = t.tape;
+    let t = i.terms;
     let size = slot_size(t);
     let mut first = [0u32; 4096];
     let mut second = [0u32; 4096];
-    let _ = deal_product(
-        &mut first[..size],
-        &mut second[..size],
-        Place { size, index: 0 },
-        id,
-        t.q,
-        t.m,
-        t.k,
-        t.p,
-        dealer,
-    );
-    play(t, x, y, coins, &mut first[..size], &mut second[..size], out)
+    let first = &mut first[..size];
+    let second = &mut second[..size];
+    let at = Place { size, index: 0 };
+    let _ = deal_product(first, second, at, t.tape, t.q, t.m, t.k, t.p, i.dealer);
+    play(i, first, second, out)
 }

@@ -13,11 +13,10 @@ use Rattle.rehearse.proofs.check.words.Goals as goal
 pub returns : goal.returns
 unfolding word_tests
 returns c =
-    let a = c.args in
-    let t = a.t in
-    let drawn = draw_size (request (input_of t a.x.now a.y.now a.dealer.now a.left.now)) in
-    let many = c.masks_count.ensures ∙ draw-size t a.x.now a.y.now a.dealer.now a.left.now in
+    let i = input_of c.args.i in
+    let t = i.terms in
+    let many = c.masks_count.ensures ∙ draw-size i in
     also _ _ c.worst-2.ensures c.residues-inputs.ensures
-    (also (draw_tests t.q drawn a.dealer.now) (draw_tests t.q (t.m * t.p) a.left.now) c.worst.ensures
-    (c.check_coins-dealt.ensures ∙ ap (λ (n : ℕ). judged (draw_tests t.q n a.dealer.now)) many)
-    (c.check_coins-coins.ensures ∙ ap (λ (n : ℕ). judged (draw_tests t.q n a.left.now)) c.times.ensures))
+    (also (draw_tests t.q (draw_size (request i)) i.dealer_words) (draw_tests t.q (t.m * t.p) i.left_words) c.worst.ensures
+    (c.check_coins-dealt.ensures ∙ ap (λ (n : ℕ). judged (draw_tests t.q n i.dealer_words)) many)
+    (c.check_coins-coins.ensures ∙ ap (λ (n : ℕ). judged (draw_tests t.q n i.left_words)) c.times.ensures))

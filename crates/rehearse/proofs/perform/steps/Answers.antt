@@ -1,5 +1,6 @@
 -- `rehearse::perform::steps` meets its contract. Assumes nothing.
 use native.Mathlib.Omega.{arith}
+use Rattle.rehearse.specs.Order.{input_of}
 use Rattle.rehearse.proofs.Runs.{run-made}
 use Rattle.rehearse.proofs.perform.steps.Goals as goal
 
@@ -14,6 +15,6 @@ shape_of-y1 c =
 pub returns : goal.returns
 returns c =
     let a = c.args in
-    λ d p r. run-made a.t a.x.now a.y.now d a.coins.now p.fits a.first.now a.second.now p a.y1.now _ _ _ _ _ r.one
+    λ p r. run-made (input_of a.i) p.fits a.first.now a.second.now p a.y1.now _ _ _ _ _ r.one
     c.right_first-sent.ensures a.x1r1.now _ a.u.now _ _ _ _ r.two r.left-share c.left_step-replied.ensures a.v.now _ _ _ _ _
     r.right-share c.right_last.ensures
