@@ -50,14 +50,6 @@ slice_bounds-write_halves-end c =
     let j = k.second-inside in
     search rules
 
-pub offset_bounds-second-from : goal.offset_bounds-second-from
-offset_bounds-second-from c =
-    let a = c.args in
-    let k = deal-known _ a.r.now.terms _ _ _ _ _ c.in_ok-check.ensures in
-    let i = k.first-inside in
-    let j = k.second-inside in
-    search rules
-
 pub slice_bounds-write_halves-end-2 : goal.slice_bounds-write_halves-end-2
 slice_bounds-write_halves-end-2 c =
     let a = c.args in

@@ -1,39 +1,10 @@
 -- `blinder::formula::write_c` meets its contract. Assumes nothing.
 use Prim.Native.Nat.{◌+◌, ◌*◌}
-use native.Mathlib.Omega.{arith}
 use Rattle.algebra.specs.System.{send_c}
 use Rattle.algebra.proofs.Lists.{mul-residues}
 use Rattle.algebra.proofs.Columns.{cols-length}
-use Rattle.blinder.proofs.Start.{start_is, start-length}
+use Rattle.blinder.proofs.Start.{start_is}
 use Rattle.blinder.proofs.formula.write_c.Goals as goal
-
-pub slice_bounds-write_sum-end : goal.slice_bounds-write_sum-end
-slice_bounds-write_sum-end c =
-    let told = c in
-    let a = c.args in
-    start-length (a.s.n * a.s.rhs) _ _ _ (cols-length a.s.n (a.s.n + a.s.rhs) a.s.n a.s.rhs a.u0.now) told.write_cols.ensures
-
-pub slice_bounds-write_sum-end-2 : goal.slice_bounds-write_sum-end-2
-slice_bounds-write_sum-end-2 c =
-    let told = c in
-    let a = told.args in
-    let size = (mul-residues told.requires.0.some-q a.s.n a.s.n a.s.rhs a.pm.now a.y.now).size in
-    start-length (a.s.n * a.s.rhs) _ _ _ size (rw c.square_by.ensures at c.write_product.ensures)
-
-pub write_sum-requires : goal.write_sum-requires
-write_sum-requires c =
-    let told = c in
-    let a = c.args in
-    let h = c.requires in
-    let n = a.s.n * a.s.rhs in
-    let wide = cols-length a.s.n (a.s.n + a.s.rhs) a.s.n a.s.rhs a.u0.now in
-    let size = (mul-residues h.0.some-q a.s.n a.s.n a.s.rhs a.pm.now a.y.now).size in
-    let product = rw c.square_by.ensures at c.write_product.ensures in (
-      h.0.some-q,
-      omega (arith, start-length n _ _ _ wide told.write_cols.ensures),
-      omega (arith, start-length n _ _ _ size product),
-      h.4,
-    )
 
 pub returns : goal.returns
 unfolding send_c

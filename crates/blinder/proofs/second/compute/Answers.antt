@@ -1,5 +1,5 @@
 -- `blinder::second::compute` meets its contract. Assumes nothing.
-use mathlib.Core.Path.{◌≡◌, sym, ◌∙◌}
+use mathlib.Core.Path.{◌≡◌, ◌∙◌}
 use native.Mathlib.Omega.{arith}
 use lib.ListN.{length}
 use lib.Seq.{length-take-le}
@@ -34,27 +34,11 @@ shared_ref_as_front-send c =
     let f = second-known a.s (slot_at a.pool.now a.at.size a.at.index) (taken 3 a.s.terms a.residues.now) a.scratch.now (length a.out.now) c.requires in
     omega (arith, c.times-square.ensures, square-bound a.s.terms f.later.session-open.terms.sides)
 
-pub slice_bounds-send-end : goal.slice_bounds-send-end
-slice_bounds-send-end c =
-    let a = c.args in
-    let f = second-known a.s (slot_at a.pool.now a.at.size a.at.index) (taken 3 a.s.terms a.residues.now) a.scratch.now (length a.out.now) c.requires in
-    let m-fits = kept-fits a.s.mm 256 c.well_formed.1.1.1.0.1.1.1.1.0.1.0.1
-    c.times-square.ensures (square-bound a.s.terms f.later.session-open.terms.sides) in
-    sym (length-take-le _ a.s.mm m-fits)
-
 pub shared_ref_as_front-send-2 : goal.shared_ref_as_front-send-2
 shared_ref_as_front-send-2 c =
     let a = c.args in
     let f = second-known a.s (slot_at a.pool.now a.at.size a.at.index) (taken 3 a.s.terms a.residues.now) a.scratch.now (length a.out.now) c.requires in
     omega (arith, c.side_size-side.ensures, side-bound a.s.terms f.later.session-open.terms.sides)
-
-pub slice_bounds-send-end-2 : goal.slice_bounds-send-end-2
-slice_bounds-send-end-2 c =
-    let a = c.args in
-    let f = second-known a.s (slot_at a.pool.now a.at.size a.at.index) (taken 3 a.s.terms a.residues.now) a.scratch.now (length a.out.now) c.requires in
-    let y-fits = kept-fits a.s.y 16 c.well_formed.1.1.1.0.1.1.1.1.1.0.1.0.1
-    c.side_size-side.ensures (side-bound a.s.terms f.later.session-open.terms.sides) in
-    sym (length-take-le _ a.s.y y-fits)
 
 pub send-requires : goal.send-requires
 send-requires c =

@@ -7,7 +7,7 @@ use Rattle.algebra.proofs.Lists.{sub-residues}
 use Rattle.protocol.specs.Bounds.{columns}
 use Rattle.vectors.proofs.Written.{after-over, part_then}
 use Rattle.blinder.specs.Second.{second_sent}
-use Rattle.blinder.proofs.Kept.{square-bound, side-is, wide_is, wide_enough, small, p-length, u0-length}
+use Rattle.blinder.proofs.Kept.{side-is, wide_is, wide_enough, small, p-length, u0-length}
 use borrow.Author.Rules.{rules}
 use Rattle.blinder.proofs.second.send.Goals as goal
 
@@ -22,12 +22,6 @@ write_w-requires c =
     let wide : t.m * (t.m + (t.p - t.m)) ≡ t.m * t.p = ap (λ (p : ℕ). t.m * p) (wide_is t told.requires.sides) in
     let p = p-length t told.args.scratch.now told.requires.lent c.drawn_p-pm.ensures in
     let u0 = u0-length t told.args.scratch.now told.requires.lent c.drawn_u0-u0.ensures in
-    search rules
-
-pub offset_bounds-out-square : goal.offset_bounds-out-square
-offset_bounds-out-square c =
-    let told = c in
-    let few = square-bound told.args.t told.requires.sides in
     search rules
 
 pub write_c-requires : goal.write_c-requires

@@ -1,32 +1,12 @@
 -- `dealer::check::has_inverse_at` meets its contract. Assumes nothing.
 use mathlib.Core.Path.{ap, ◌∙◌}
-use native.Mathlib.Omega.{arith}
 use Prim.Native.Nat.{◌*◌}
-use lib.ListN.{drop, length-take}
+use lib.ListN.{drop}
 use Rattle.algebra.specs.Elimination.{regular}
 use Rattle.vectors.proofs.Written.{tail-part}
 use Rattle.drawing.proofs.Then.{coins-part}
-use Rattle.dealer.proofs.Known.{square-few, drawn-residues}
+use Rattle.dealer.proofs.Known.{drawn-residues}
 use Rattle.dealer.proofs.check.has_inverse_at.Goals as goal
-
-pub draw-requires : goal.draw-requires
-draw-requires c =
-    let h = c.requires in
-    let a = c.args in
-    let times = c.times-nn in
-    ((h.1.some-q, h.1.small-q), rw (tail-part a.at a.words.now, times.ensures) h.3, omega (arith, times.ensures, square-few a.n h.1.few-n))
-
-pub slice_bounds-mask-end : goal.slice_bounds-mask-end
-slice_bounds-mask-end c =
-    let a = c.args in
-    let h = c.requires in
-    omega (arith, c.times-nn.ensures, square-few a.n h.1.few-n)
-
-pub slice_bounds-has_inverse-end : goal.slice_bounds-has_inverse-end
-slice_bounds-has_inverse-end c =
-    let a = c.args in
-    let h = c.requires in
-    simp length-take (omega (arith, c.times-nn.ensures, square-few a.n h.1.few-n))
 
 pub has_inverse-requires : goal.has_inverse-requires
 has_inverse-requires c =

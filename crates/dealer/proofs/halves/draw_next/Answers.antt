@@ -1,17 +1,10 @@
 -- `dealer::halves::draw_next` meets its contract: the parts that are lent are tails. Assumes nothing.
 use native.Mathlib.Omega.{arith}
 use borrow.Author.Rules.{rules}
-use lib.ListN.{drop, length-take, length-drop}
+use lib.ListN.{drop, length-drop}
 use Rattle.drawing.proofs.Then.{read-few}
 use Rattle.vectors.proofs.Written.{tail-part, part-written}
 use Rattle.dealer.proofs.halves.draw_next.Goals as goal
-
-pub draw-read-requires : goal.draw-read-requires
-draw-read-requires c =
-    let a = c.args in
-    let h = c.requires in
-    let tail = tail-part a.from a.words.now in
-    (h.0, rw tail h.2, simp (length-take, length-drop) (omega (arith, h.3)))
 
 pub overflow_add-result : goal.overflow_add-result
 overflow_add-result c =
