@@ -1,5 +1,6 @@
 // The rehearsal as a function on bytes: five lines in, and what is printed out.
 //   rehearse  the entry
+//   Input     what the five lines say
 //   check     what the run's calls need of what the lines say
 //   perform   the run: dealing, and the three steps
 // For hosts: rehearse.
