@@ -5,7 +5,7 @@
 use field::Field;
 use line::Arrived;
 use product::{left_step, right_first, right_last};
-use protocol::{Head, Refusal, RightSession, SessionId, TapeId, Terms};
+use protocol::{Head, Incoming, Refusal, RightSession, SessionId, TapeId, Terms};
 use tape::Place;
 
 // The first slot of a pool.
@@ -79,18 +79,11 @@ pub extern "C" fn bench_left(
     share: &mut [u32],
 ) -> bool {
     let t = terms(q, m, k, p);
-    let one = Head { kind: 1, terms: t };
-    let done = left_step(
-        pool,
-        first_slot(size),
-        t,
-        x,
-        words,
-        one,
+    let one = Incoming {
+        head: Head { kind: 1, terms: t },
         residues,
-        out,
-        share,
-    );
+    };
+    let done = left_step(pool, first_slot(size), t, x, words, one, out, share);
     done.answer.is_ok()
 }
 
@@ -107,8 +100,11 @@ pub extern "C" fn bench_right_last(
 ) -> bool {
     let t = terms(q, m, k, p);
     let open = RightSession { terms: t, due: 2 };
-    let two = Head { kind: 2, terms: t };
-    let done = right_last(pool, first_slot(size), open, two, residues, share);
+    let two = Incoming {
+        head: Head { kind: 2, terms: t },
+        residues,
+    };
+    let done = right_last(pool, first_slot(size), open, two, share);
     done.answer.is_ok()
 }
 

@@ -6,7 +6,7 @@
 ghost use Rattle.std.specs.Prelude.{◌≤◌, length};
 
 use blinder::{blinder_determinant, blinder_first, blinder_last, blinder_second, opened};
-use protocol::{BlinderSession, Head, SessionId, SolverSession, TapeId, Terms};
+use protocol::{BlinderSession, Head, Incoming, SessionId, SolverSession, TapeId, Terms};
 use solver::{solver_determinant, solver_first, solver_last, solver_second};
 use tape::Place;
 
@@ -66,19 +66,11 @@ pub extern "C" fn bench_blinder_first(
     out: &mut [u32],
 ) -> bool {
     let t = terms(q, n, p);
-    let a = Head { kind: 1, terms: t };
-    let done = blinder_first(
-        pool,
-        first_slot(size),
-        scratch,
-        t,
-        mm,
-        y,
-        words,
-        a,
+    let a = Incoming {
+        head: Head { kind: 1, terms: t },
         residues,
-        out,
-    );
+    };
+    let done = blinder_first(pool, first_slot(size), scratch, t, mm, y, words, a, out);
     done.answer.is_ok()
 }
 
@@ -101,8 +93,11 @@ pub extern "C" fn bench_solver_second(
         due: 2,
         s: [0; 16],
     };
-    let a = Head { kind: 2, terms: t };
-    let done = solver_second(pool, first_slot(size), before, a, residues, out);
+    let a = Incoming {
+        head: Head { kind: 2, terms: t },
+        residues,
+    };
+    let done = solver_second(pool, first_slot(size), before, a, out);
     kept[..16].copy_from_slice(&done.session.s);
     done.answer.is_ok()
 }
@@ -123,14 +118,16 @@ pub extern "C" fn bench_blinder_second(
     requires { (length mm.now ≤ 256) × (length y.now ≤ 16) }
 {
     let t = terms(q, n, p);
-    let a = Head { kind: 3, terms: t };
+    let a = Incoming {
+        head: Head { kind: 3, terms: t },
+        residues,
+    };
     let done = blinder_second(
         pool,
         first_slot(size),
         scratch,
         session(t, 3, mm, y),
         a,
-        residues,
         out,
     );
     done.answer.is_ok()
@@ -157,12 +154,15 @@ pub extern "C" fn bench_solver_last(
         due: 4,
         s,
     };
-    let a = Head { kind: 4, terms: t };
+    let a = Incoming {
+        head: Head { kind: 4, terms: t },
+        residues,
+    };
     if p == n {
-        let done = solver_determinant(pool, first_slot(size), before, a, residues, out);
+        let done = solver_determinant(pool, first_slot(size), before, a, out);
         return done.answer.is_ok();
     }
-    let done = solver_last(pool, first_slot(size), before, a, residues, out);
+    let done = solver_last(pool, first_slot(size), before, a, out);
     done.answer.is_ok()
 }
 
@@ -183,26 +183,30 @@ pub extern "C" fn bench_blinder_last(
 {
     let t = terms(q, n, p);
     if p == n {
-        let d = Head { kind: 6, terms: t };
+        let d = Incoming {
+            head: Head { kind: 6, terms: t },
+            residues,
+        };
         let done = blinder_determinant(
             pool,
             first_slot(size),
             scratch,
             session(t, 6, mm, y),
             d,
-            residues,
             out,
         );
         return done.answer.is_ok();
     }
-    let a = Head { kind: 5, terms: t };
+    let a = Incoming {
+        head: Head { kind: 5, terms: t },
+        residues,
+    };
     let done = blinder_last(
         pool,
         first_slot(size),
         scratch,
         session(t, 5, mm, y),
         a,
-        residues,
         out,
     );
     done.answer.is_ok()

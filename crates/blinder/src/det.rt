@@ -7,7 +7,7 @@ ghost use Rattle.std.specs.Prelude.{◌≡◌, [], ◌∷◌, length, get_or, Ok
 ghost use Rattle.algebra.specs.Matrix.{zeros};
 ghost use Rattle.algebra.specs.Residue.{mul_mod, inverse};
 ghost use Rattle.algebra.specs.Words.{over};
-ghost use Rattle.protocol.specs.Message.{no_message};
+ghost use Rattle.protocol.specs.Message.{message_in, no_message};
 ghost use Rattle.protocol.specs.System.{scratch_size, blinder_determinant};
 ghost use Rattle.tape.specs.Placed.{slot_in};
 ghost use Rattle.judging.specs.Leaves.{leaves, leaving, computing};
@@ -18,7 +18,7 @@ use elimination::determinant;
 use field::{inverse_mod, mul_mod};
 use judging::Stepped;
 use judging::message::{has_room, no_head};
-use protocol::{BlinderSession, Head, Refusal, Terms};
+use protocol::{BlinderSession, Incoming, Refusal, Terms};
 use tape::change::spend_at;
 use tape::half::matrix;
 use tape::{End, Place};
@@ -58,25 +58,24 @@ pub fn blinder_determinant(
     at: Place,
     scratch: &mut [u32],
     s: BlinderSession,
-    a: Head,
-    residues: &[u32],
+    a: Incoming,
     out: &mut [u32],
 ) -> BlinderAnswer
     ensures { leaving result.answer result.session result.head pool.new scratch.new [] out.new
         ≡ leaves s (slot_in pool.old at) scratch.old [] out.old
-        (blinder_determinant s (slot_in pool.old at) scratch.old (record { head = a; residues = residues.now })
+        (blinder_determinant s (slot_in pool.old at) scratch.old (message_in a.entry)
         (length out.old)) }
 {
     let t = s.terms;
     let fits = has_room(6, t, out.len());
-    if let Err(r) = later::check(6, fits, pool, at, scratch, s, a, residues) {
+    if let Err(r) = later::check(6, fits, pool, at, scratch, s, a) {
         return Stepped::refused(r, s);
     }
     let by = divisor(pool, at, scratch, t);
     if by == 0 {
         return Stepped::refused(Refusal::Singular, s);
     }
-    let done = compute(by, t, scratch, residues, out);
+    let done = compute(by, t, scratch, a.residues, out);
     spend_at(End::Blinder, t, pool, at);
     done
 }

@@ -7,7 +7,7 @@ ghost use Rattle.algebra.specs.Words.{over};
 ghost use Rattle.protocol.specs.declared.BlinderSession.{BlinderSession};
 ghost use Rattle.protocol.specs.Judge.{done};
 ghost use Rattle.protocol.specs.Drawing.{residues_of, draw_tests};
-ghost use Rattle.protocol.specs.Message.{message_with};
+ghost use Rattle.protocol.specs.Message.{message_in};
 ghost use Rattle.protocol.specs.System.{no_blinder, scratch_size, blinder_first_effect, blinder_first_tests, blinder_first};
 ghost use Rattle.tape.specs.Placed.{slot_in};
 ghost use Rattle.judging.specs.InOrder.{checked, judged, after};
@@ -22,7 +22,7 @@ use judging::received::check_coins;
 use judging::step::{check_first_received, check_input};
 use judging::{Check, Stepped, need, worst};
 use matrix::{sides_of, write_reply};
-use protocol::{Head, Refusal, Terms};
+use protocol::{Head, Incoming, Refusal, Terms};
 use tape::change::take_up_at;
 use tape::half::matrix;
 use tape::{End, Place};
@@ -71,14 +71,13 @@ pub fn check(
     mm: &[u32],
     y: &[u32],
     words: &[u32],
-    a: Head,
-    residues: &[u32],
+    a: Incoming,
     room: usize,
 ) -> Check
     ensures { checked result ≡ judged (blinder_first_tests t (slot_in pool.now at) scratch mm.now y.now
-        words.now (message_with a residues.now) room) }
+        words.now (message_in a.entry) room) }
 {
-    let session = check_first_received(End::Blinder, 1, t, a, residues, pool, at);
+    let session = check_first_received(End::Blinder, 1, t, a, pool, at);
     let inputs = check_inputs(t, mm, y, scratch, room);
     worst(session, inputs)?;
     check_drawn(t, mm, words)
@@ -135,21 +134,20 @@ pub fn blinder_first(
     mm: &[u32],
     y: &[u32],
     words: &[u32],
-    a: Head,
-    residues: &[u32],
+    a: Incoming,
     out: &mut [u32],
 ) -> BlinderAnswer
     ensures { leaving result.answer result.session result.head pool.new scratch.new out.new []
         ≡ leaves no_blinder (slot_in pool.old at) scratch.old out.old []
         (blinder_first t (slot_in pool.old at) (length scratch.old) mm.now y.now words.now
-        (record { head = a; residues = residues.now }) (length out.old)) }
+        (message_in a.entry) (length out.old)) }
 {
     let room = out.len();
     let lent = scratch.len();
-    if let Err(r) = check(pool, at, lent, t, mm, y, words, a, residues, room) {
+    if let Err(r) = check(pool, at, lent, t, mm, y, words, a, room) {
         return Stepped::refused(r, no_session());
     }
-    let done = compute(pool, at, scratch, t, mm, y, words, residues, out);
+    let done = compute(pool, at, scratch, t, mm, y, words, a.residues, out);
     take_up_at(End::Blinder, t, pool, at);
     done
 }

@@ -3,6 +3,7 @@
 //   blinder_last  the step
 ghost use Rattle.std.specs.Prelude.{◌≡◌, [], length};
 ghost use Rattle.protocol.specs.Judge.{done};
+ghost use Rattle.protocol.specs.Message.{message_in};
 ghost use Rattle.protocol.specs.System.{blinder_last_effect, blinder_last_tests, blinder_last};
 ghost use Rattle.tape.specs.Placed.{slot_in};
 ghost use Rattle.judging.specs.InOrder.{checked, judged};
@@ -12,7 +13,7 @@ use crate::{BlinderAnswer, forget, later};
 use judging::Stepped;
 use judging::message::{no_head, side_size};
 use matrix::{Sides, write_product};
-use protocol::{BlinderSession, Head};
+use protocol::{BlinderSession, Incoming};
 use tape::change::spend_at;
 use tape::half::matrix;
 use tape::{End, Place};
@@ -51,19 +52,18 @@ pub fn blinder_last(
     at: Place,
     scratch: &mut [u32],
     s: BlinderSession,
-    a: Head,
-    residues: &[u32],
+    a: Incoming,
     out: &mut [u32],
 ) -> BlinderAnswer
     ensures { leaving result.answer result.session result.head pool.new scratch.new [] out.new
         ≡ leaves s (slot_in pool.old at) scratch.old [] out.old
-        (blinder_last s (slot_in pool.old at) scratch.old (record { head = a; residues = residues.now }) (length out.old)) }
+        (blinder_last s (slot_in pool.old at) scratch.old (message_in a.entry) (length out.old)) }
 {
     let fits = side_size(s.terms) <= out.len();
-    if let Err(r) = later::check(5, fits, pool, at, scratch, s, a, residues) {
+    if let Err(r) = later::check(5, fits, pool, at, scratch, s, a) {
         return Stepped::refused(r, s);
     }
-    let done = compute(pool, at, scratch, s, residues, out);
+    let done = compute(pool, at, scratch, s, a.residues, out);
     spend_at(End::Blinder, s.terms, pool, at);
     done
 }

@@ -2,7 +2,7 @@
 //   check  all tests of the step
 ghost use Rattle.std.specs.Prelude.{◌≡◌, true, ◌≤◌, length, take};
 ghost use Rattle.protocol.specs.Bounds.{sides_fit, system};
-ghost use Rattle.protocol.specs.Message.{message_with};
+ghost use Rattle.protocol.specs.Message.{message_in};
 ghost use Rattle.protocol.specs.System.{scratch_size, kept_tests};
 ghost use Rattle.tape.specs.Placed.{slot_in};
 ghost use Rattle.judging.specs.InOrder.{checked, judged};
@@ -12,7 +12,7 @@ use crate::{scratch_fits, scratch_size};
 use judging::message::side_size;
 use judging::step::{check_later, check_room};
 use judging::{Check, need, worst};
-use protocol::{BlinderSession, Head, Refusal};
+use protocol::{BlinderSession, Incoming, Refusal};
 use tape::{End, Place};
 use vectors::{all_below, times};
 
@@ -43,14 +43,13 @@ pub fn check(
     at: Place,
     scratch: &[u32],
     s: BlinderSession,
-    a: Head,
-    residues: &[u32],
+    a: Incoming,
 ) -> Check
     ensures { checked result ≡ judged (later_step step fits s (slot_in pool.now at) scratch.now
-        (message_with a residues.now)) }
+        (message_in a.entry)) }
 {
     let t = s.terms;
-    let session = check_later(End::Blinder, step, s.due, t, a, residues, pool, at);
+    let session = check_later(End::Blinder, step, s.due, t, a, pool, at);
     let lent = check_room(s.due, scratch_fits(t, scratch.len()));
     let written = check_room(s.due, fits);
     worst(session, worst(lent, written))?;

@@ -4,6 +4,7 @@
 ghost use Rattle.std.specs.Prelude.{◌≡◌, [], length};
 ghost use Rattle.algebra.specs.Words.{over};
 ghost use Rattle.protocol.specs.Judge.{done};
+ghost use Rattle.protocol.specs.Message.{message_in};
 ghost use Rattle.protocol.specs.System.{blinder_second_effect, blinder_second_tests, blinder_second};
 ghost use Rattle.tape.specs.Placed.{slot_in};
 ghost use Rattle.judging.specs.InOrder.{checked, judged};
@@ -14,7 +15,7 @@ use crate::formula::{Unknowns, write_c, write_w};
 use crate::{BlinderAnswer, drawn_p, drawn_u0, later};
 use judging::Stepped;
 use judging::message::{has_room, last_kind, side_size};
-use protocol::{BlinderSession, Head, Terms};
+use protocol::{BlinderSession, Head, Incoming, Terms};
 use tape::half::matrix;
 use tape::{End, Place};
 use vectors::times;
@@ -88,17 +89,16 @@ pub fn blinder_second(
     at: Place,
     scratch: &[u32],
     s: BlinderSession,
-    a: Head,
-    residues: &[u32],
+    a: Incoming,
     out: &mut [u32],
 ) -> BlinderAnswer
     ensures { leaving result.answer result.session result.head pool.now scratch.now out.new []
         ≡ leaves s (slot_in pool.now at) scratch.now out.old []
-        (blinder_second s (slot_in pool.now at) scratch.now (record { head = a; residues = residues.now }) (length out.old)) }
+        (blinder_second s (slot_in pool.now at) scratch.now (message_in a.entry) (length out.old)) }
 {
     let fits = has_room(4, s.terms, out.len());
-    if let Err(r) = later::check(3, fits, pool, at, scratch, s, a, residues) {
+    if let Err(r) = later::check(3, fits, pool, at, scratch, s, a) {
         return Stepped::refused(r, s);
     }
-    compute(pool, at, scratch, s, residues, out)
+    compute(pool, at, scratch, s, a.residues, out)
 }

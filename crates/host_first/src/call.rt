@@ -5,7 +5,7 @@ ghost use Rattle.std.specs.Prelude.{◌≡◌, ◌*◌, ◌/◌, length, take};
 ghost use Rattle.protocol.specs.Judge.{judge};
 ghost use Rattle.protocol.specs.Tape.{slot_at};
 ghost use Rattle.protocol.specs.Drawing.{words_read};
-ghost use Rattle.protocol.specs.Message.{message_with};
+ghost use Rattle.protocol.specs.Message.{message_in};
 ghost use Rattle.protocol.specs.Line.{most_sent};
 ghost use Rattle.drawing.specs.Sift.{kept_words};
 ghost use Rattle.entry.specs.Bytes.{words_of};
@@ -21,7 +21,7 @@ use host_parts::seen::{get_input, sift_coins};
 use host_parts::taken::{opening_of, residues_in, take_line};
 use judging::message::no_head;
 use judging::worst;
-use protocol::{Head, Refusal, Terms};
+use protocol::{Incoming, Refusal, Terms};
 use tape::Place;
 
 // An end's number, its terms and its slot.
@@ -41,8 +41,7 @@ fn takes_message(end: u32) -> bool
 // `words` and `coins`: words for the input and for raw words.
 fn first_on(
     f: Opening,
-    head: Head,
-    residues: &[u32],
+    a: Incoming,
     session: &mut [u8],
     pool: &mut [u8],
     input: &[u8],
@@ -61,7 +60,7 @@ fn first_on(
         (words_read f.terms.q (coin_count f.end f.terms) (words_of raw.now))
         (slot_at (words_of pool.old) f.at.size f.at.index) (words_of scratch.old) (seen_words (words_of input.now))
         (take (coin_count f.end f.terms) (kept_words f.terms.q (words_of raw.now)))
-        (message_with head residues.now) (length res.old / 4)) }
+        (message_in a.entry) (length res.old / 4)) }
 {
     let lengths = check_session(session.len(), pool.len(), scratch.len(), res.len());
     let free = check_first(due_in(session), input.len(), raw.len());
@@ -75,12 +74,11 @@ fn first_on(
         terms,
         own,
         read: sifted.read,
-        head,
     };
     with_room(
         q,
         f.at,
-        residues,
+        a,
         &words[..n],
         &coins[..kept],
         session,
@@ -111,20 +109,12 @@ fn first_with(
         ≡ first_on (lent_of session.old pool.old scratch.old line.old res.old) f.at.size f.at.index f.end f.terms input.now raw.now message.now }
 {
     if !takes_message(f.end) {
-        let none = no_head();
+        let none = Incoming {
+            head: no_head(),
+            residues: &numbers[..0],
+        };
         return first_on(
-            f,
-            none,
-            &numbers[..0],
-            session,
-            pool,
-            input,
-            raw,
-            scratch,
-            line,
-            res,
-            words,
-            coins,
+            f, none, session, pool, input, raw, scratch, line, res, words, coins,
         );
     }
     let Some(taken) = take_line(message, numbers) else {
@@ -132,19 +122,12 @@ fn first_with(
     };
     let opened = opening_of(taken);
     let residues = residues_in(numbers, opened.count);
-    first_on(
-        f,
-        opened.head,
+    let a = Incoming {
+        head: opened.head,
         residues,
-        session,
-        pool,
-        input,
-        raw,
-        scratch,
-        line,
-        res,
-        words,
-        coins,
+    };
+    first_on(
+        f, a, session, pool, input, raw, scratch, line, res, words, coins,
     )
 }
 

@@ -7,7 +7,7 @@
 ghost use Rattle.std.specs.Prelude.{◌≡◌, [], ◌*◌, ◌/◌, ◌≤◌, length, take};
 ghost use Rattle.protocol.specs.Judge.{done};
 ghost use Rattle.protocol.specs.Tape.{slot_at};
-ghost use Rattle.protocol.specs.Message.{message_with};
+ghost use Rattle.protocol.specs.Message.{message_in};
 ghost use Rattle.protocol.specs.Line.{most_sent};
 ghost use Rattle.judging.specs.InOrder.{checked};
 ghost use Rattle.judging.specs.Leaves.{leaves, leaving};
@@ -22,25 +22,24 @@ use entry::Report;
 use host_parts::seen::{Half, end_of, is_system, seen_in};
 use host_parts::settle::{Settled, settle};
 use judging::Check;
-use protocol::{Head, Terms};
+use protocol::{Incoming, Terms};
 use session::{Done, first_step};
 use tape::Place;
 use words::{bytes_known, get_words};
 
-// The end and its terms, the verdict on the entry's own tests, the raw words read, and the message's head.
+// The end and its terms, the verdict on the entry's own tests, and the raw words read.
 #[derive(Clone, Copy)]
 pub struct Asked {
     pub end: u32,
     pub terms: Terms,
     pub own: Check,
     pub read: usize,
-    pub head: Head,
 }
 
 // `slot` begins where the slot does; of each slice of bytes as many words are brought as its words have room for.
 fn run(
     q: Asked,
-    residues: &[u32],
+    a: Incoming,
     input: &[u32],
     raw: &[u32],
     slot: &[u8],
@@ -57,7 +56,7 @@ fn run(
         (take (length lent.old) (words_of scratch.now)) out.old (take (length share.old) (words_of res.now))
         (first_step q.end q.terms (slot_at (take (length words.old) (words_of slot.now)) (length words.old) 0)
         (take (length lent.old) (words_of scratch.now)) input.now raw.now
-        (message_with q.head residues.now) (length out.old) (length share.old)) }
+        (message_in a.entry) (length out.old) (length share.old)) }
 {
     let n = words.len();
     get_words(n, slot, words);
@@ -65,14 +64,12 @@ fn run(
     get_words(share.len(), res, share);
     let at = Place { size: n, index: 0 };
     let terms = q.terms;
-    first_step(
-        words, at, lent, q.end, terms, input, raw, q.head, residues, out, share,
-    )
+    first_step(words, at, lent, q.end, terms, input, raw, a, out, share)
 }
 
 fn on_slot(
     q: Asked,
-    residues: &[u32],
+    a: Incoming,
     input: &[u32],
     raw: &[u32],
     session: &mut [u8],
@@ -93,10 +90,10 @@ fn on_slot(
         (on_done (entering q.read []) (first_step q.end q.terms
         (slot_at (take (length words.old) (words_of slot.old)) (length words.old) 0)
         (take (length lent.old) (words_of scratch.old)) input.now raw.now
-        (message_with q.head residues.now) (length out.old) (length share.old))) }
+        (message_in a.entry) (length out.old) (length share.old))) }
 {
     let d = run(
-        q, residues, input, raw, slot, scratch, res, words, lent, out, share,
+        q, a, input, raw, slot, scratch, res, words, lent, out, share,
     );
     let answer = d.answer;
     let x = d.session;
@@ -115,7 +112,7 @@ fn on_slot(
 fn on_call(
     q: Asked,
     at: Place,
-    residues: &[u32],
+    a: Incoming,
     input: &[u32],
     raw: &[u32],
     session: &mut [u8],
@@ -134,7 +131,7 @@ fn on_call(
         ≡ entered_by (lent_of session.old pool.old scratch.old line.old res.old) (at.index * at.size) (checked q.own)
         (seen_first q.end q.terms (length lent.old) (length out.old) (length share.old) q.read
         (slot_at (words_of pool.old) at.size at.index) (words_of scratch.old)
-        input.now raw.now (message_with q.head residues.now) (length res.old / 4)) }
+        input.now raw.now (message_in a.entry) (length res.old / 4)) }
 {
     let terms = q.terms;
     let half = Half {
@@ -148,7 +145,7 @@ fn on_call(
     let j = (res.len() / 4).min(share.len());
     on_slot(
         q,
-        residues,
+        a,
         input,
         raw,
         session,
@@ -167,7 +164,7 @@ fn on_call(
 pub fn with_room(
     q: Asked,
     at: Place,
-    residues: &[u32],
+    a: Incoming,
     input: &[u32],
     raw: &[u32],
     session: &mut [u8],
@@ -181,7 +178,7 @@ pub fn with_room(
         ≡ entered_by (lent_of session.old pool.old scratch.old line.old res.old) (at.index * at.size) (checked q.own)
         (seen_first q.end q.terms (lent_room q.end) most_sent (share_room q.end) q.read
         (slot_at (words_of pool.old) at.size at.index) (words_of scratch.old)
-        input.now raw.now (message_with q.head residues.now) (length res.old / 4)) }
+        input.now raw.now (message_in a.entry) (length res.old / 4)) }
 {
     bytes_known(pool);
     bytes_known(scratch);
@@ -194,7 +191,7 @@ pub fn with_room(
         return on_call(
             q,
             at,
-            residues,
+            a,
             input,
             raw,
             session,
@@ -209,7 +206,7 @@ pub fn with_room(
         );
     }
     on_call(
-        q, at, residues, input, raw, session, pool, scratch, line, res, &mut words, &mut none,
-        &mut out, &mut share,
+        q, at, a, input, raw, session, pool, scratch, line, res, &mut words, &mut none, &mut out,
+        &mut share,
     )
 }

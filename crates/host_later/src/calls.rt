@@ -8,7 +8,7 @@ use entry::Report;
 use host_parts::own::{check_session, refusal};
 use host_parts::taken::{residues_in, seen_count, take_line};
 use judging::message::no_head;
-use protocol::Refusal;
+use protocol::{Incoming, Refusal};
 use tape::Place;
 
 // ---- the step that is due
@@ -32,14 +32,14 @@ fn next_with(
     let Some(taken) = take_line(message, numbers) else {
         return refusal(Refusal::Form);
     };
-    let q = Asked {
-        drops: false,
-        own,
-        head: taken.head,
-    };
+    let q = Asked { drops: false, own };
     let seen = seen_count(taken.count);
     let residues = residues_in(numbers, seen);
-    with_room(q, at, residues, session, pool, scratch, line, res)
+    let a = Incoming {
+        head: taken.head,
+        residues,
+    };
+    with_room(q, at, a, session, pool, scratch, line, res)
 }
 
 pub fn next(
@@ -74,13 +74,12 @@ fn drop_with(
         ≡ drop_on (lent_of session.old pool.old scratch.old line.old res.old) at.size at.index }
 {
     let own = check_session(session.len(), pool.len(), scratch.len(), res.len());
-    let head = no_head();
-    let q = Asked {
-        drops: true,
-        own,
-        head,
+    let q = Asked { drops: true, own };
+    let a = Incoming {
+        head: no_head(),
+        residues: none,
     };
-    with_room(q, at, none, session, pool, scratch, line, res)
+    with_room(q, at, a, session, pool, scratch, line, res)
 }
 
 pub fn drop(session: &mut [u8], pool: &mut [u8], at: Place, scratch: &mut [u8]) -> Report

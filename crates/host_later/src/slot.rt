@@ -6,7 +6,7 @@
 ghost use Rattle.std.specs.Prelude.{◌≡◌, [], ◌*◌, ◌/◌, ◌≤◌, length, take};
 ghost use Rattle.protocol.specs.Judge.{done};
 ghost use Rattle.protocol.specs.Tape.{slot_at};
-ghost use Rattle.protocol.specs.Message.{message_with};
+ghost use Rattle.protocol.specs.Message.{message_in};
 ghost use Rattle.judging.specs.InOrder.{checked};
 ghost use Rattle.entry.specs.Bytes.{words_of};
 ghost use Rattle.entry.specs.Entry.{lent_of, left_of, session_in};
@@ -19,21 +19,20 @@ use host_parts::record::session_in;
 use host_parts::seen::{half_in, seen_in};
 use host_parts::settle::{Settled, settle};
 use judging::Check;
-use protocol::Head;
+use protocol::Incoming;
 use tape::Place;
 use words::bytes_known;
 
-// Whether it is the drop, the verdict on the entry's own tests, and the message's head.
+// Whether it is the drop, and the verdict on the entry's own tests.
 #[derive(Clone, Copy)]
 pub struct Asked {
     pub drops: bool,
     pub own: Check,
-    pub head: Head,
 }
 
 fn on_slot(
     q: Asked,
-    residues: &[u32],
+    a: Incoming,
     session: &mut [u8],
     slot: &mut [u8],
     scratch: &mut [u8],
@@ -51,13 +50,11 @@ fn on_slot(
         ≡ entered_by (lent_of session.old slot.old scratch.old line.old res.old) 0 (checked q.own)
         (on_done (entering 0 []) (later_step q.drops (session_in session.old)
         (slot_at (take (length words.old) (words_of slot.old)) (length words.old) 0)
-        (take (length lent.old) (words_of scratch.old)) (message_with q.head residues.now) (length out.old) (length share.old))) }
+        (take (length lent.old) (words_of scratch.old)) (message_in a.entry) (length out.old) (length share.old))) }
 {
     let x = session_in(session);
     let sums = x.end == SOLVER;
-    let d = run(
-        q.drops, x, q.head, residues, slot, scratch, res, words, lent, out, share,
-    );
+    let d = run(q.drops, x, a, slot, scratch, res, words, lent, out, share);
     let answer = d.answer;
     let y = d.session;
     let h = d.head;
@@ -71,7 +68,7 @@ fn on_slot(
 fn on_call(
     q: Asked,
     at: Place,
-    residues: &[u32],
+    a: Incoming,
     session: &mut [u8],
     pool: &mut [u8],
     scratch: &mut [u8],
@@ -88,7 +85,7 @@ fn on_call(
         ≡ entered_by (lent_of session.old pool.old scratch.old line.old res.old) (at.index * at.size) (checked q.own)
         (seen_later q.drops (session_in session.old) (length out.old)
         (slot_at (words_of pool.old) at.size at.index) (words_of scratch.old)
-        (message_with q.head residues.now) (length res.old / 4)) }
+        (message_in a.entry) (length res.old / 4)) }
 {
     let half = half_in(session);
     let seen = seen_in(half, pool.len(), at);
@@ -98,7 +95,7 @@ fn on_call(
     let j = (res.len() / 4).min(share.len());
     on_slot(
         q,
-        residues,
+        a,
         session,
         &mut pool[from..],
         scratch,
@@ -114,7 +111,7 @@ fn on_call(
 pub fn with_room(
     q: Asked,
     at: Place,
-    residues: &[u32],
+    a: Incoming,
     session: &mut [u8],
     pool: &mut [u8],
     scratch: &mut [u8],
@@ -126,7 +123,7 @@ pub fn with_room(
         ≡ entered_by (lent_of session.old pool.old scratch.old line.old res.old) (at.index * at.size) (checked q.own)
         (seen_later q.drops (session_in session.old) most_reply
         (slot_at (words_of pool.old) at.size at.index) (words_of scratch.old)
-        (message_with q.head residues.now) (length res.old / 4)) }
+        (message_in a.entry) (length res.old / 4)) }
 {
     bytes_known(pool);
     bytes_known(scratch);
@@ -136,7 +133,6 @@ pub fn with_room(
     let mut out = [0u32; 272];
     let mut share = [0u32; 1024];
     on_call(
-        q, at, residues, session, pool, scratch, line, res, &mut words, &mut lent, &mut out,
-        &mut share,
+        q, at, a, session, pool, scratch, line, res, &mut words, &mut lent, &mut out, &mut share,
     )
 }

@@ -11,7 +11,7 @@ ghost use Rattle.judging.specs.Received.{sent_tests, received_words};
 use crate::Check;
 use crate::numbers::check_same;
 use crate::order::{need, worst};
-use protocol::{Head, Refusal, Terms};
+use protocol::{Incoming, Refusal, Terms};
 use tape::End;
 use tape::half::holds_residues;
 use tape::header::{bears, status_is};
@@ -36,29 +36,22 @@ pub fn check_body(end: End, t: Terms, slot: &[u32]) -> Check
 }
 
 // The message's numbers are the session's, and it holds residues.
-fn check_sent(t: Terms, a: Head, residues: &[u32]) -> Check
-    ensures { checked result ≡ judged (sent_tests t a residues.now) }
+fn check_sent(t: Terms, a: Incoming) -> Check
+    ensures { checked result ≡ judged (sent_tests t a.entry.head a.entry.residues.now) }
 {
-    let b = a.terms;
-    let same = check_same(a, t);
-    let sent = need(Refusal::Residue, all_below(b.q, residues));
+    let b = a.head.terms;
+    let same = check_same(a.head, t);
+    let sent = need(Refusal::Residue, all_below(b.q, a.residues));
     worst(same, sent)
 }
 
 // The tape's status and numbers, the message's numbers, and the residues of both.
-pub fn check_arrived(
-    end: End,
-    status: u32,
-    t: Terms,
-    a: Head,
-    residues: &[u32],
-    slot: &[u32],
-) -> Check
+pub fn check_arrived(end: End, status: u32, t: Terms, a: Incoming, slot: &[u32]) -> Check
     requires { (sides_fit (sort end) t.m t.k t.p ≡ true) × (tape_size (role end) t.m t.k t.p ≤ length slot.now) }
-    ensures { checked result ≡ judged (received_words (role end) status t a slot.now residues.now) }
+    ensures { checked result ≡ judged (received_words (role end) status t a.entry.head slot.now a.entry.residues.now) }
 {
     let tape = check_tape(end, status, t, slot);
-    let sent = check_sent(t, a, residues);
+    let sent = check_sent(t, a);
     let body = check_body(end, t, slot);
     worst(tape, worst(sent, body))
 }

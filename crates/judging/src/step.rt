@@ -9,7 +9,7 @@ ghost use Rattle.std.specs.Prelude.{◌≡◌, true, ◌≤◌, [], ◌∷◌, �
 ghost use Rattle.protocol.specs.declared.Refusal.TheVariants.{Size};
 ghost use Rattle.protocol.specs.Judge.{needs, given};
 ghost use Rattle.protocol.specs.Bounds.{input_tests, sides_fit};
-ghost use Rattle.protocol.specs.Message.{message_with, message_tests, due_tests};
+ghost use Rattle.protocol.specs.Message.{message_in, message_tests, due_tests};
 ghost use Rattle.protocol.specs.Step.{first_tests, is_open, open_tests, later_tests};
 ghost use Rattle.protocol.specs.Tape.{READY, tape_size, tape_tests, body_tests};
 ghost use Rattle.tape.specs.Ends.{role, sort};
@@ -22,7 +22,7 @@ use crate::held::{check_arrived, check_body, check_tape};
 use crate::numbers::{check_modulus, check_sizes};
 use crate::order::{need, worst};
 use crate::{Check, received};
-use protocol::{Head, Refusal, Terms};
+use protocol::{Head, Incoming, Refusal, Terms};
 use tape::header::{IN_USE, READY};
 use tape::{End, Place, is_slot, slot};
 use vectors::all_below;
@@ -97,15 +97,14 @@ pub fn check_first_received(
     end: End,
     kind: u32,
     t: Terms,
-    a: Head,
-    residues: &[u32],
+    a: Incoming,
     pool: &[u32],
     at: Place,
 ) -> Check
-    ensures { checked result ≡ judged (message_tests (message_with a residues.now) ++ (first_tests (role end) t (slot_in pool.now at) ++ due_tests kind t (message_with a residues.now))) }
+    ensures { checked result ≡ judged (message_tests (message_in a.entry) ++ (first_tests (role end) t (slot_in pool.now at) ++ due_tests kind t (message_in a.entry))) }
 {
-    check_first_numbers(end, kind, t, a, residues.len(), pool.len(), at)?;
-    check_arrived(end, READY, t, a, residues, slot(pool, at))
+    check_first_numbers(end, kind, t, a.head, a.residues.len(), pool.len(), at)?;
+    check_arrived(end, READY, t, a, slot(pool, at))
 }
 
 // The same of a later step, which has to be due itself.
@@ -132,19 +131,18 @@ pub fn check_later(
     kind: u32,
     due: u32,
     t: Terms,
-    a: Head,
-    residues: &[u32],
+    a: Incoming,
     pool: &[u32],
     at: Place,
 ) -> Check
-    ensures { checked result ≡ judged (message_tests (message_with a residues.now) ++ (later_tests (role end) kind due t (slot_in pool.now at) ++ due_tests kind t (message_with a residues.now))) }
+    ensures { checked result ≡ judged (message_tests (message_in a.entry) ++ (later_tests (role end) kind due t (slot_in pool.now at) ++ due_tests kind t (message_in a.entry))) }
 {
-    let count = residues.len();
+    let count = a.residues.len();
     if due == 0 {
-        return received::check_closed(a, count, pool.len(), at);
+        return received::check_closed(a.head, count, pool.len(), at);
     }
-    check_later_numbers(end, kind, due, t, a, count, pool.len(), at)?;
-    check_arrived(end, IN_USE, t, a, residues, slot(pool, at))
+    check_later_numbers(end, kind, due, t, a.head, count, pool.len(), at)?;
+    check_arrived(end, IN_USE, t, a, slot(pool, at))
 }
 
 // Room that an open session asks for.

@@ -10,13 +10,13 @@
 #![tactic(auto)]
 
 ghost use Rattle.std.specs.Prelude.{◌≡◌, [], length};
-ghost use Rattle.protocol.specs.Message.{message_with};
+ghost use Rattle.protocol.specs.Message.{message_in};
 ghost use Rattle.tape.specs.Placed.{slot_in};
 ghost use Rattle.judging.specs.Leaves.{leaves, leaving};
 ghost use Rattle.entry.specs.Steps.{first_over, next_step, drop_step};
 
 use entry::Session;
-use protocol::{Answer, Head, Terms};
+use protocol::{Answer, Head, Incoming, Terms};
 use session::{Done, drop_step, first_over, next_step};
 use tape::Place;
 
@@ -52,19 +52,16 @@ fn first_of(
     t: Terms,
     input: &[u32],
     words: &[u32],
-    a: Head,
-    residues: &[u32],
+    a: Incoming,
     out: &mut [u32],
     res: &mut [u32],
 ) -> Done
     ensures { leaving result.answer result.session result.head pool.new scratch.new out.new res.new
         ≡ leaves x (slot_in pool.old at) scratch.old out.old res.old
         (first_over x end t (slot_in pool.old at) scratch.old input.now words.now
-        (message_with a residues.now) (length out.old) (length res.old)) }
+        (message_in a.entry) (length out.old) (length res.old)) }
 {
-    first_over(
-        pool, at, scratch, x, end, t, input, words, a, residues, out, res,
-    )
+    first_over(pool, at, scratch, x, end, t, input, words, a, out, res)
 }
 
 fn next_of(
@@ -72,17 +69,16 @@ fn next_of(
     pool: &mut [u32],
     at: Place,
     scratch: &mut [u32],
-    a: Head,
-    residues: &[u32],
+    a: Incoming,
     out: &mut [u32],
     res: &mut [u32],
 ) -> Done
     ensures { leaving result.answer result.session result.head pool.new scratch.new out.new res.new
         ≡ leaves x (slot_in pool.old at) scratch.old out.old res.old
-        (next_step x (slot_in pool.old at) scratch.old (message_with a residues.now)
+        (next_step x (slot_in pool.old at) scratch.old (message_in a.entry)
         (length out.old) (length res.old)) }
 {
-    next_step(pool, at, scratch, x, a, residues, out, res)
+    next_step(pool, at, scratch, x, a, out, res)
 }
 
 fn drop_of(x: Session, pool: &mut [u32], at: Place, scratch: &mut [u32]) -> Done
@@ -103,19 +99,16 @@ pub fn first(
     t: Terms,
     input: &[u32],
     words: &[u32],
-    a: Head,
-    residues: &[u32],
+    a: Incoming,
     out: &mut [u32],
     res: &mut [u32],
 ) -> Sent
     ensures { leaving result.answer s.new result.head pool.new scratch.new out.new res.new
         ≡ leaves s.old (slot_in pool.old at) scratch.old out.old res.old
         (first_over s.old end t (slot_in pool.old at) scratch.old input.now words.now
-        (message_with a residues.now) (length out.old) (length res.old)) }
+        (message_in a.entry) (length out.old) (length res.old)) }
 {
-    let done = first_of(
-        *s, pool, at, scratch, end, t, input, words, a, residues, out, res,
-    );
+    let done = first_of(*s, pool, at, scratch, end, t, input, words, a, out, res);
     *s = session_in(done);
     sent_in(done)
 }
@@ -125,17 +118,16 @@ pub fn next(
     pool: &mut [u32],
     at: Place,
     scratch: &mut [u32],
-    a: Head,
-    residues: &[u32],
+    a: Incoming,
     out: &mut [u32],
     res: &mut [u32],
 ) -> Sent
     ensures { leaving result.answer s.new result.head pool.new scratch.new out.new res.new
         ≡ leaves s.old (slot_in pool.old at) scratch.old out.old res.old
-        (next_step s.old (slot_in pool.old at) scratch.old (message_with a residues.now)
+        (next_step s.old (slot_in pool.old at) scratch.old (message_in a.entry)
         (length out.old) (length res.old)) }
 {
-    let done = next_of(*s, pool, at, scratch, a, residues, out, res);
+    let done = next_of(*s, pool, at, scratch, a, out, res);
     *s = session_in(done);
     sent_in(done)
 }

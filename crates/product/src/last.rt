@@ -1,6 +1,7 @@
 // Step 3: right's share is X1 × Y0 + R1 − B0. Its half is spent, and its session closes.
 ghost use Rattle.std.specs.Prelude.{◌≡◌, [], length};
 ghost use Rattle.protocol.specs.Judge.{done};
+ghost use Rattle.protocol.specs.Message.{message_in};
 ghost use Rattle.protocol.specs.Product.{right_last_effect, right_last_tests, right_last};
 ghost use Rattle.tape.specs.Placed.{slot_in};
 ghost use Rattle.judging.specs.InOrder.{checked, judged};
@@ -11,17 +12,17 @@ use judging::message::no_head;
 use judging::step::{check_later, check_room};
 use judging::{Check, Stepped, worst};
 use matrix::{sides_of, write_share_of};
-use protocol::{Head, RightSession};
+use protocol::{Incoming, RightSession};
 use tape::change::spend_at;
 use tape::half::matrix;
 use tape::{End, Place};
 use vectors::times;
 
-fn check(pool: &[u32], at: Place, s: RightSession, a: Head, residues: &[u32], share: usize) -> Check
-    ensures { checked result ≡ judged (right_last_tests s (slot_in pool.now at) (record { head = a; residues = residues.now }) share) }
+fn check(pool: &[u32], at: Place, s: RightSession, a: Incoming, share: usize) -> Check
+    ensures { checked result ≡ judged (right_last_tests s (slot_in pool.now at) (message_in a.entry) share) }
 {
     let t = s.terms;
-    let later = check_later(End::Right, 2, s.due, t, a, residues, pool, at);
+    let later = check_later(End::Right, 2, s.due, t, a, pool, at);
     let own = check_room(s.due, times(t.m, t.p) <= share);
     worst(later, own)
 }
@@ -50,18 +51,17 @@ pub fn right_last(
     pool: &mut [u32],
     at: Place,
     s: RightSession,
-    a: Head,
-    residues: &[u32],
+    a: Incoming,
     share: &mut [u32],
 ) -> RightAnswer
     ensures { leaving result.answer result.session result.head pool.new [] [] share.new
         ≡ leaves s (slot_in pool.old at) [] [] share.old
-        (right_last s (slot_in pool.old at) (record { head = a; residues = residues.now }) (length share.old)) }
+        (right_last s (slot_in pool.old at) (message_in a.entry) (length share.old)) }
 {
-    if let Err(r) = check(pool, at, s, a, residues, share.len()) {
+    if let Err(r) = check(pool, at, s, a, share.len()) {
         return Stepped::refused(r, s);
     }
-    let done = compute(pool, at, s, residues, share);
+    let done = compute(pool, at, s, a.residues, share);
     spend_at(End::Right, s.terms, pool, at);
     done
 }

@@ -4,7 +4,7 @@ ghost use Rattle.algebra.specs.Words.{over};
 ghost use Rattle.algebra.specs.Product.{send_x, send_r};
 ghost use Rattle.protocol.specs.Judge.{done};
 ghost use Rattle.protocol.specs.Bounds.{input_tests, room_tests};
-ghost use Rattle.protocol.specs.Message.{message_size};
+ghost use Rattle.protocol.specs.Message.{message_in, message_size};
 ghost use Rattle.protocol.specs.Product.{left_effect, left_tests, left_step};
 ghost use Rattle.tape.specs.Placed.{slot_in};
 ghost use Rattle.judging.specs.InOrder.{checked, judged};
@@ -18,7 +18,7 @@ use judging::received::check_coins;
 use judging::step::check_first_received;
 use judging::{Check, Stepped, check_input, need, worst};
 use matrix::{sides_of, write_reply};
-use protocol::{Head, Refusal, Terms};
+use protocol::{Head, Incoming, Refusal, Terms};
 use tape::change::spend_at;
 use tape::half::matrix;
 use tape::{End, Place};
@@ -40,14 +40,13 @@ pub fn check(
     t: Terms,
     x: &[u32],
     words: &[u32],
-    a: Head,
-    residues: &[u32],
+    a: Incoming,
     room: usize,
     share: usize,
 ) -> Check
-    ensures { checked result ≡ judged (left_tests t (slot_in pool.now at) x.now words.now (record { head = a; residues = residues.now }) room share) }
+    ensures { checked result ≡ judged (left_tests t (slot_in pool.now at) x.now words.now (message_in a.entry) room share) }
 {
-    let first = check_first_received(End::Left, 1, t, a, residues, pool, at);
+    let first = check_first_received(End::Left, 1, t, a, pool, at);
     let own = check_own(t, x, room, share);
     worst(first, own)?;
     check_coins(t.q, times(t.m, t.p), words)
@@ -107,22 +106,21 @@ pub fn left_step(
     t: Terms,
     x: &[u32],
     words: &[u32],
-    a: Head,
-    residues: &[u32],
+    a: Incoming,
     out: &mut [u32],
     share: &mut [u32],
 ) -> LeftAnswer
     ensures { leaving result.answer tt result.head pool.new [] out.new share.new
         ≡ leaves tt (slot_in pool.old at) [] out.old share.old
-        (left_step t (slot_in pool.old at) x.now words.now (record { head = a; residues = residues.now })
+        (left_step t (slot_in pool.old at) x.now words.now (message_in a.entry)
         (length out.old) (length share.old)) }
 {
     let room = out.len();
     let given = share.len();
-    if let Err(r) = check(pool, at, t, x, words, a, residues, room, given) {
+    if let Err(r) = check(pool, at, t, x, words, a, room, given) {
         return Stepped::refused(r, ());
     }
-    let done = compute(pool, at, t, x, words, residues, out, share);
+    let done = compute(pool, at, t, x, words, a.residues, out, share);
     spend_at(End::Left, t, pool, at);
     done
 }

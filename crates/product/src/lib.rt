@@ -2,8 +2,8 @@
 //   RightAnswer, LeftAnswer   what a step answers
 //   first, left, last         the three steps: right_first, left_step, right_last
 //   drop                      right_drop
-// A step is given its pool and the place of its slot; its terms or its session; its inputs; the message that it takes, a head and
-// residues; and last the slices that it writes.
+// A step is given its pool and the place of its slot; its terms or its session; its inputs; the message that it takes
+// (`Incoming`); and last the slices that it writes.
 // A step judges everything (`check`), computes what it sends and gives from what it was lent (`compute`), and changes its tape.
 // For hosts: right_first, left_step, right_last, right_drop.
 #![tactic(auto)]

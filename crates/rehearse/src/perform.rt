@@ -15,7 +15,7 @@ ghost use Rattle.rehearse.specs.Rooms.{Rooms, DealtFor};
 use crate::Input;
 use dealer::deal_product;
 use product::{left_step, right_first, right_last};
-use protocol::{Head, Terms};
+use protocol::{Head, Incoming, Terms};
 use rehearse_lines::print;
 use tape::half::half_size;
 use tape::{End, Place};
@@ -49,9 +49,17 @@ fn steps(
     let sent = right_first(second, at, i.terms, i.y, y1);
     let one = sent.head;
     let open = sent.session;
-    let replied = left_step(first, at, i.terms, i.x, i.left, one, y1, x1r1, u);
+    let received = Incoming {
+        head: one,
+        residues: y1,
+    };
+    let replied = left_step(first, at, i.terms, i.x, i.left, received, x1r1, u);
     let two = replied.head;
-    right_last(second, at, open, two, x1r1, v);
+    let answered = Incoming {
+        head: two,
+        residues: x1r1,
+    };
+    right_last(second, at, open, answered, v);
     Heads { one, two }
 }
 

@@ -4,7 +4,7 @@
 //   first_step                     all of them
 // A refused step answers with a record that is not open (`unopened`).
 ghost use Rattle.std.specs.Prelude.{◌≡◌, [], ◌*◌, ◌≤◌, length, take, drop};
-ghost use Rattle.protocol.specs.Message.{message_with};
+ghost use Rattle.protocol.specs.Message.{message_in};
 ghost use Rattle.protocol.specs.Product.{no_right, left_step, right_first};
 ghost use Rattle.protocol.specs.System.{no_blinder, no_solver, blinder_first, solver_first};
 ghost use Rattle.tape.specs.Placed.{slot_in};
@@ -19,7 +19,7 @@ use blinder::blinder_first;
 use entry::{BLINDER, LEFT, RIGHT, SOLVER};
 use judging::Stepped;
 use product::{left_step, right_first};
-use protocol::{Head, Refusal, Terms};
+use protocol::{Incoming, Refusal, Terms};
 use solver::solver_first;
 use tape::Place;
 use vectors::times;
@@ -38,17 +38,16 @@ fn left(
     t: Terms,
     input: &[u32],
     words: &[u32],
-    a: Head,
-    residues: &[u32],
+    a: Incoming,
     out: &mut [u32],
     res: &mut [u32],
 ) -> Done
     ensures { leaving result.answer result.session result.head pool.new [] out.new res.new
         ≡ leaves (of_left t) (slot_in pool.old at) [] out.old res.old
         (recorded (λ _. of_left t) (left_step t (slot_in pool.old at) input.now words.now
-        (message_with a residues.now) (length out.old) (length res.old))) }
+        (message_in a.entry) (length out.old) (length res.old))) }
 {
-    let d = left_step(pool, at, t, input, words, a, residues, out, res);
+    let d = left_step(pool, at, t, input, words, a, out, res);
     Stepped {
         answer: d.answer,
         session: of_left(t),
@@ -71,15 +70,14 @@ fn blinder(
     t: Terms,
     input: &[u32],
     words: &[u32],
-    a: Head,
-    residues: &[u32],
+    a: Incoming,
     out: &mut [u32],
 ) -> Done
     ensures { leaving result.answer result.session result.head pool.new scratch.new out.new []
         ≡ leaves (of_blinder no_blinder) (slot_in pool.old at) scratch.old out.old []
         (recorded of_blinder (blinder_first t (slot_in pool.old at) (length scratch.old)
         (take (t.m * t.m) input.now) (drop (t.m * t.m) input.now) words.now
-        (message_with a residues.now) (length out.old))) }
+        (message_in a.entry) (length out.old))) }
 {
     let n = square_of(t, input);
     let d = blinder_first(
@@ -91,7 +89,6 @@ fn blinder(
         &input[n..],
         words,
         a,
-        residues,
         out,
     );
     kept(d)
@@ -116,20 +113,19 @@ pub fn first_step(
     t: Terms,
     input: &[u32],
     words: &[u32],
-    a: Head,
-    residues: &[u32],
+    a: Incoming,
     out: &mut [u32],
     res: &mut [u32],
 ) -> Done
     ensures { leaving result.answer result.session result.head pool.new scratch.new out.new res.new
         ≡ leaves (unopened end t) (slot_in pool.old at) scratch.old out.old res.old
         (first_step end t (slot_in pool.old at) scratch.old input.now words.now
-        (message_with a residues.now) (length out.old) (length res.old)) }
+        (message_in a.entry) (length out.old) (length res.old)) }
 {
     match end {
-        LEFT => left(pool, at, t, input, words, a, residues, out, res),
+        LEFT => left(pool, at, t, input, words, a, out, res),
         RIGHT => right(pool, at, t, input, out),
-        BLINDER => blinder(pool, at, scratch, t, input, words, a, residues, out),
+        BLINDER => blinder(pool, at, scratch, t, input, words, a, out),
         SOLVER => solver(pool, at, t, input, out),
         _ => Stepped::refused(Refusal::Size, of_left(t)),
     }

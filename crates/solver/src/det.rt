@@ -3,6 +3,7 @@
 //   solver_determinant   the step
 ghost use Rattle.std.specs.Prelude.{◌≡◌, [], length};
 ghost use Rattle.protocol.specs.Judge.{done};
+ghost use Rattle.protocol.specs.Message.{message_in};
 ghost use Rattle.protocol.specs.System.{solver_determinant_effect, solver_determinant_tests, solver_determinant};
 ghost use Rattle.tape.specs.Placed.{slot_in};
 ghost use Rattle.judging.specs.InOrder.{judged};
@@ -13,7 +14,7 @@ use crate::later::check;
 use crate::{SolverAnswer, session_of};
 use elimination::determinant;
 use judging::Stepped;
-use protocol::{Head, SolverSession};
+use protocol::{Head, Incoming, SolverSession};
 use tape::change::spend_at;
 use tape::{End, Place};
 use vectors::times;
@@ -43,18 +44,17 @@ pub fn solver_determinant(
     pool: &mut [u32],
     at: Place,
     s: SolverSession,
-    a: Head,
-    residues: &[u32],
+    a: Incoming,
     out: &mut [u32],
 ) -> SolverAnswer
     ensures { leaving result.answer result.session result.head pool.new [] out.new []
         ≡ leaves s (slot_in pool.old at) [] out.old []
-        (solver_determinant s (slot_in pool.old at) (record { head = a; residues = residues.now }) (length out.old)) }
+        (solver_determinant s (slot_in pool.old at) (message_in a.entry) (length out.old)) }
 {
-    if let Err(r) = check(pool, at, 4, 6, s, a, residues, out.len()) {
+    if let Err(r) = check(pool, at, 4, 6, s, a, out.len()) {
         return Stepped::refused(r, s);
     }
-    let done = compute(pool, at, s, residues, out);
+    let done = compute(pool, at, s, a.residues, out);
     spend_at(End::Solver, s.terms, pool, at);
     done
 }

@@ -8,7 +8,7 @@ ghost use Rattle.algebra.specs.Prime.{is_prime};
 ghost use Rattle.algebra.specs.Words.{over};
 ghost use Rattle.protocol.specs.Judge.{done};
 ghost use Rattle.protocol.specs.Bounds.{sides_fit, system};
-ghost use Rattle.protocol.specs.Message.{last_kind};
+ghost use Rattle.protocol.specs.Message.{message_in, last_kind};
 ghost use Rattle.protocol.specs.System.{side_size, solver_last_effect, solver_last_tests, solver_last};
 ghost use Rattle.tape.specs.Placed.{slot_in};
 ghost use Rattle.judging.specs.InOrder.{judged};
@@ -21,7 +21,7 @@ use crate::{SolverAnswer, session_of};
 use elimination::solve;
 use judging::Stepped;
 use judging::message::side_size;
-use protocol::{Head, Refusal, SolverSession, Terms};
+use protocol::{Head, Incoming, Refusal, SolverSession, Terms};
 use tape::change::spend_at;
 use tape::{End, Place};
 use vectors::{times, write_sum};
@@ -88,18 +88,17 @@ pub fn solver_last(
     pool: &mut [u32],
     at: Place,
     s: SolverSession,
-    a: Head,
-    residues: &[u32],
+    a: Incoming,
     out: &mut [u32],
 ) -> SolverAnswer
     ensures { leaving result.answer result.session result.head pool.new [] out.new []
         ≡ leaves s (slot_in pool.old at) [] out.old []
-        (solver_last s (slot_in pool.old at) (record { head = a; residues = residues.now }) (length out.old)) }
+        (solver_last s (slot_in pool.old at) (message_in a.entry) (length out.old)) }
 {
-    if let Err(r) = check(pool, at, 4, 5, s, a, residues, out.len()) {
+    if let Err(r) = check(pool, at, 4, 5, s, a, out.len()) {
         return Stepped::refused(r, s);
     }
-    let done = compute(pool, at, s, residues, out);
+    let done = compute(pool, at, s, a.residues, out);
     spend_at(End::Solver, s.terms, pool, at);
     done
 }

@@ -3,7 +3,7 @@
 //   check   the tests of the step that takes a message of one kind and sends one of another
 ghost use Rattle.std.specs.Prelude.{◌≡◌, true};
 ghost use Rattle.protocol.specs.Bounds.{sides_fit, system};
-ghost use Rattle.protocol.specs.Message.{message_with};
+ghost use Rattle.protocol.specs.Message.{message_in};
 ghost use Rattle.protocol.specs.System.{kept_s, kept_tests};
 ghost use Rattle.tape.specs.Placed.{slot_in};
 ghost use Rattle.judging.specs.InOrder.{checked, judged};
@@ -12,7 +12,7 @@ ghost use Rattle.solver.specs.Groups.{receiving};
 use judging::message::{has_room, last_fits, side_size};
 use judging::step::{check_later, check_room};
 use judging::{Check, need, worst};
-use protocol::{Head, Refusal, SolverSession};
+use protocol::{Incoming, Refusal, SolverSession};
 use tape::{End, Place};
 use vectors::all_below;
 
@@ -32,14 +32,13 @@ pub fn check(
     kind: u32,
     sends: u32,
     s: SolverSession,
-    a: Head,
-    residues: &[u32],
+    a: Incoming,
     room: usize,
 ) -> Check
-    ensures { checked result ≡ judged (receiving kind sends s (slot_in pool.now at) (message_with a residues.now) room) }
+    ensures { checked result ≡ judged (receiving kind sends s (slot_in pool.now at) (message_in a.entry) room) }
 {
     let t = s.terms;
-    let shared = check_later(End::Solver, kind, s.due, t, a, residues, pool, at);
+    let shared = check_later(End::Solver, kind, s.due, t, a, pool, at);
     let sent = check_room(s.due, has_room(sends, t, room));
     let sort = need(Refusal::Turn, last_fits(sends, t));
     worst(shared, worst(sent, sort))?;

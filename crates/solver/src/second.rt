@@ -6,6 +6,7 @@ ghost use Rattle.algebra.specs.System.{last_cols, send_f};
 ghost use Rattle.algebra.specs.Words.{over};
 ghost use Rattle.protocol.specs.Judge.{done};
 ghost use Rattle.protocol.specs.Bounds.{columns, sides_fit, system};
+ghost use Rattle.protocol.specs.Message.{message_in};
 ghost use Rattle.protocol.specs.System.{padded, solver_second_effect, solver_second_tests, solver_second};
 ghost use Rattle.tape.specs.Placed.{slot_in};
 ghost use Rattle.judging.specs.InOrder.{judged};
@@ -15,7 +16,7 @@ use crate::SolverAnswer;
 use crate::later::check;
 use judging::Stepped;
 use matrix::{sides_of, write_share_of};
-use protocol::{Head, SolverSession, Terms};
+use protocol::{Head, Incoming, SolverSession, Terms};
 use tape::half::matrix;
 use tape::{End, Place};
 use vectors::{times, write_cols, write_difference};
@@ -91,16 +92,15 @@ pub fn solver_second(
     pool: &[u32],
     at: Place,
     s: SolverSession,
-    a: Head,
-    residues: &[u32],
+    a: Incoming,
     out: &mut [u32],
 ) -> SolverAnswer
     ensures { leaving result.answer result.session result.head pool.now [] out.new []
         ≡ leaves s (slot_in pool.now at) [] out.old []
-        (solver_second s (slot_in pool.now at) (record { head = a; residues = residues.now }) (length out.old)) }
+        (solver_second s (slot_in pool.now at) (message_in a.entry) (length out.old)) }
 {
-    if let Err(r) = check(pool, at, 2, 3, s, a, residues, out.len()) {
+    if let Err(r) = check(pool, at, 2, 3, s, a, out.len()) {
         return Stepped::refused(r, s);
     }
-    compute(pool, at, s, residues, out)
+    compute(pool, at, s, a.residues, out)
 }

@@ -13,7 +13,7 @@ use Rattle.protocol.specs.declared.Refusal.{Refusal}
 use Rattle.protocol.specs.declared.Refusal.TheVariants.{Singular}
 use Rattle.protocol.specs.Judge.{refused, done}
 use Rattle.protocol.specs.Tape.{Slot, slot_at}
-use Rattle.protocol.specs.Message.{Message, message_with, message_size, message_parts}
+use Rattle.protocol.specs.Message.{Message, message_in, message_size, message_parts}
 use Rattle.protocol.specs.System.{blinder_determinant_effect, blinder_determinant_tests, blinder_determinant}
 use Rattle.judging.specs.InOrder.{judged}
 use Rattle.judging.proofs.KindLaws.{size-6}
@@ -56,7 +56,7 @@ unfolding blinder_determinant
 returns-in-Err c =
     let a = c.args in
     let s = slot_at a.pool.now a.at.size a.at.index in
-    let m = message_with a.a a.residues.now in
+    let m = message_in a.a in
     rw c.refused.ensures
     (sym (refused-leaves a.s s a.scratch.now [] a.out.now _ (blinder_determinant_effect a.s s a.scratch.now m)
     (failed a.s s a.scratch.now m (length a.out.now) (rw c.has_room-fits.ensures at c.in-Err.ensures))))
@@ -65,7 +65,7 @@ pub divisor-by-requires : goal.divisor-by-requires
 divisor-by-requires c =
     let a = c.args in
     let s = slot_at a.pool.now a.at.size a.at.index in
-    let m = message_with a.a a.residues.now in
+    let m = message_in a.a in
     let passed = sym (rw c.has_room-fits.ensures at c.in_default.ensures) in
     dividing-known a.s s a.scratch.now m _ passed
 
@@ -74,7 +74,7 @@ unfolding blinder_determinant
 returns-then-by-eq0 c =
     let a = c.args in
     let s = slot_at a.pool.now a.at.size a.at.index in
-    let m = message_with a.a a.residues.now in
+    let m = message_in a.a in
     let passed = sym (rw c.has_room-fits.ensures at c.in_default.ensures) in
     rw c.refused-then-by-eq0.ensures
     (sym (refused-leaves a.s s a.scratch.now [] a.out.now _ (blinder_determinant_effect a.s s a.scratch.now m)
@@ -85,7 +85,7 @@ unfolding divisor_of mul_mod
 compute-done-requires c =
     let a = c.args in
     let s = slot_at a.pool.now a.at.size a.at.index in
-    let m = message_with a.a a.residues.now in
+    let m = message_in a.a in
     let passed = sym (rw c.has_room-fits.ensures at c.in_default.ensures) in
     let some = c.if-by-eq0.false in
     let d = dividing a.s s a.scratch.now m (length a.out.now) passed in
@@ -105,7 +105,7 @@ pub spend_at-requires : goal.spend_at-requires
 spend_at-requires c =
     let a = c.args in
     let s = slot_at a.pool.now a.at.size a.at.index in
-    let m = message_with a.a a.residues.now in
+    let m = message_in a.a in
     let passed = sym (rw c.has_room-fits.ensures at c.in_default.ensures) in
     (dividing a.s s a.scratch.now m (length a.out.now) passed).placed
 
@@ -114,7 +114,7 @@ unfolding blinder_determinant blinder_determinant_effect message_parts
 returns c =
     let a = c.args in
     let s = slot_at a.pool.now a.at.size a.at.index in
-    let m = message_with a.a a.residues.now in
+    let m = message_in a.a in
     let passed = sym (rw c.has_room-fits.ensures at c.in_default.ensures) in
     step-leaves a.s s a.scratch.now [] a.out.now _ (blinder_determinant_effect a.s s a.scratch.now m)
     (accepted a.s s a.scratch.now m (length a.out.now) passed c.divisor-by.ensures c.if-by-eq0.false)

@@ -5,7 +5,7 @@ use Prim.Native.Nat.{ℕ}
 use Rattle.protocol.specs.declared.Terms.{Terms}
 use Rattle.protocol.specs.Judge.{Judged}
 use Rattle.protocol.specs.Tape.{Slot, blinder, slot_at}
-use Rattle.protocol.specs.Message.{Message, message_with, message_tests, due_tests}
+use Rattle.protocol.specs.Message.{Message, message_in, message_tests, due_tests}
 use Rattle.protocol.specs.Step.{first_tests}
 use Rattle.judging.specs.InOrder.{judged}
 use Rattle.judging.specs.Lowest.{lower}
@@ -26,7 +26,7 @@ pub returns-in_err-worst : goal.returns-in_err-worst
 returns-in_err-worst c =
     let a = c.args in
     let s = slot_at a.pool.now a.at.size a.at.index in
-    let m = message_with a.a a.residues.now in
+    let m = message_in a.a in
     let told = numbers a.t s a.scratch a.mm.now a.y.now m a.room c.in_err-worst.ensures c.check_first_received-session.ensures c.check_inputs-inputs.ensures in
     hands_on c.from_residual.result _ c.from_residual.ensures.1 told
     ∙ sym (first-phases a.t s a.scratch a.mm.now a.y.now a.words.now m a.room)
@@ -35,7 +35,7 @@ pub check_drawn-requires : goal.check_drawn-requires
 check_drawn-requires c =
     let a = c.args in
     let s = slot_at a.pool.now a.at.size a.at.index in
-    let m = message_with a.a a.residues.now in
+    let m = message_in a.a in
     let told = numbers a.t s a.scratch a.mm.now a.y.now m a.room c.in_ok-worst.ensures c.check_first_received-session.ensures c.check_inputs-inputs.ensures in
     eliminable a.t s a.scratch a.mm.now a.y.now m a.room (sym told)
 
@@ -43,7 +43,7 @@ pub returns : goal.returns
 returns c =
     let a = c.args in
     let s = slot_at a.pool.now a.at.size a.at.index in
-    let m = message_with a.a a.residues.now in
+    let m = message_in a.a in
     let told = numbers a.t s a.scratch a.mm.now a.y.now m a.room c.in_ok-worst.ensures c.check_first_received-session.ensures c.check_inputs-inputs.ensures in
     c.check_drawn.ensures
     ∙ sym (first-phases a.t s a.scratch a.mm.now a.y.now a.words.now m a.room ∙ goes-past told)

@@ -7,7 +7,7 @@ use lib.ListN.{length}
 use Rattle.protocol.specs.declared.BlinderSession.{BlinderSession}
 use Rattle.protocol.specs.Judge.{Judged}
 use Rattle.protocol.specs.Tape.{Slot, slot_at, blinder}
-use Rattle.protocol.specs.Message.{Message, message_with, message_parts}
+use Rattle.protocol.specs.Message.{Message, message_in, message_parts}
 use Rattle.protocol.specs.System.{side_size, blinder_last_effect, blinder_last_tests, blinder_last}
 use Rattle.judging.specs.InOrder.{judged}
 use Rattle.judging.proofs.Fits.{open-placed}
@@ -28,17 +28,17 @@ returns-in-Err c =
     let told = c in
     let a = told.args in
     let s = slot_at a.pool.now a.at.size a.at.index in
-    let m = message_with a.a a.residues.now in
+    let m = message_in a.a in
     rw c.refused.ensures
-    (sym (refused-leaves a.s s a.scratch.now [] a.out.now _ (blinder_last_effect a.s s a.scratch.now m) (sym (tests a.s s a.scratch.now (message_with a.a a.residues.now) (length a.out.now) (rw c.side_size.ensures at c.in-Err.ensures)))))
+    (sym (refused-leaves a.s s a.scratch.now [] a.out.now _ (blinder_last_effect a.s s a.scratch.now m) (sym (tests a.s s a.scratch.now (message_in a.a) (length a.out.now) (rw c.side_size.ensures at c.in-Err.ensures)))))
 
 pub compute-done-requires : goal.compute-done-requires
 compute-done-requires c =
     let told = c in
     let a = told.args in
     let s = slot_at a.pool.now a.at.size a.at.index in
-    let passed = sym (tests a.s s a.scratch.now (message_with a.a a.residues.now) (length a.out.now) (rw c.side_size.ensures at c.in_default.ensures)) in
-    let f = last-known a.s s (message_with a.a a.residues.now) a.scratch.now (length a.out.now) passed in
+    let passed = sym (tests a.s s a.scratch.now (message_in a.a) (length a.out.now) (rw c.side_size.ensures at c.in_default.ensures)) in
+    let f = last-known a.s s (message_in a.a) a.scratch.now (length a.out.now) passed in
     as-taken (λ (m : Message). blinder_last_tests a.s s a.scratch.now m (length a.out.now)) f.message passed
 
 pub spend_at-requires : goal.spend_at-requires
@@ -46,9 +46,9 @@ spend_at-requires c =
     let told = c in
     let a = told.args in
     let s = slot_at a.pool.now a.at.size a.at.index in
-    let passed = sym (tests a.s s a.scratch.now (message_with a.a a.residues.now) (length a.out.now) (rw c.side_size.ensures at c.in_default.ensures)) in
+    let passed = sym (tests a.s s a.scratch.now (message_in a.a) (length a.out.now) (rw c.side_size.ensures at c.in_default.ensures)) in
     open-placed blinder a.s.terms s
-    (last-known a.s s (message_with a.a a.residues.now) a.scratch.now (length a.out.now) passed).later.session-open
+    (last-known a.s s (message_in a.a) a.scratch.now (length a.out.now) passed).later.session-open
 
 pub returns : goal.returns
 unfolding blinder_last blinder_last_effect message_parts
@@ -56,7 +56,7 @@ returns c =
     let told = c in
     let a = told.args in
     let s = slot_at a.pool.now a.at.size a.at.index in
-    let m = message_with a.a a.residues.now in
+    let m = message_in a.a in
     step-leaves a.s s a.scratch.now [] a.out.now _ (blinder_last_effect a.s s a.scratch.now m)
-    (sym (tests a.s s a.scratch.now (message_with a.a a.residues.now) (length a.out.now) (rw c.side_size.ensures at c.in_default.ensures)))
+    (sym (tests a.s s a.scratch.now (message_in a.a) (length a.out.now) (rw c.side_size.ensures at c.in_default.ensures)))
     c.compute-done.ensures c.spend_at.ensures

@@ -10,7 +10,7 @@ use Rattle.protocol.specs.declared.Refusal.TheVariants.{Size}
 use Rattle.protocol.specs.Judge.{Judged, needs, given}
 use Rattle.protocol.specs.Bounds.{room_tests}
 use Rattle.protocol.specs.Tape.{Slot, blinder, slot_at}
-use Rattle.protocol.specs.Message.{Message, message_with, message_tests, due_tests}
+use Rattle.protocol.specs.Message.{Message, message_in, message_tests, due_tests}
 use Rattle.protocol.specs.Step.{is_open, later_tests}
 use Rattle.protocol.specs.System.{scratch_size}
 use Rattle.judging.specs.InOrder.{judged}
@@ -33,7 +33,7 @@ pub returns-in_err-worst : goal.returns-in_err-worst
 returns-in_err-worst c =
     let a = c.args in
     let s = slot_at a.pool.now a.at.size a.at.index in
-    let m = message_with a.a a.residues.now in
+    let m = message_in a.a in
     let told = numbers a.step a.fits a.s s (length a.scratch.now) m c.in_err-worst.ensures c.check_later-session.ensures c.worst.ensures c.scratch_fits.ensures
     c.check_room-lent.ensures c.check_room-written.ensures in
     hands_on c.from_residual.result _ c.from_residual.ensures.1 told ∙ sym (later-phases a.s s a.scratch.now m a.step a.fits)
@@ -42,7 +42,7 @@ pub check_kept-requires : goal.check_kept-requires
 check_kept-requires c =
     let a = c.args in
     let s = slot_at a.pool.now a.at.size a.at.index in
-    let m = message_with a.a a.residues.now in
+    let m = message_in a.a in
     let told = numbers a.step a.fits a.s s (length a.scratch.now) m c.in_ok-worst.ensures c.check_later-session.ensures c.worst.ensures c.scratch_fits.ensures
     c.check_room-lent.ensures c.check_room-written.ensures in
     let f = kept-known a.s s m a.step a.fits (length a.scratch.now) (sym told) in
@@ -52,7 +52,7 @@ pub returns : goal.returns
 returns c =
     let a = c.args in
     let s = slot_at a.pool.now a.at.size a.at.index in
-    let m = message_with a.a a.residues.now in
+    let m = message_in a.a in
     let told = numbers a.step a.fits a.s s (length a.scratch.now) m c.in_ok-worst.ensures c.check_later-session.ensures c.worst.ensures c.scratch_fits.ensures
     c.check_room-lent.ensures c.check_room-written.ensures in
     c.check_kept.ensures ∙ sym (later-phases a.s s a.scratch.now m a.step a.fits ∙ goes-past told)

@@ -7,7 +7,7 @@ use lib.ListN.{length}
 use Rattle.protocol.specs.declared.BlinderSession.{BlinderSession}
 use Rattle.protocol.specs.Judge.{Judged}
 use Rattle.protocol.specs.Tape.{Slot, slot_at}
-use Rattle.protocol.specs.Message.{Message, message_size, message_with, message_parts}
+use Rattle.protocol.specs.Message.{Message, message_size, message_in, message_parts}
 use Rattle.protocol.specs.System.{blinder_second_effect, blinder_second_tests, blinder_second}
 use Rattle.tape.proofs.Slots.{same-pool}
 use Rattle.judging.specs.InOrder.{judged}
@@ -28,17 +28,17 @@ returns-in-Err c =
     let told = c in
     let a = told.args in
     let s = slot_at a.pool.now a.at.size a.at.index in
-    let m = message_with a.a a.residues.now in
+    let m = message_in a.a in
     rw c.refused.ensures
-    (sym (refused-leaves a.s s a.scratch.now a.out.now [] _ (blinder_second_effect a.s s a.scratch.now m) (sym (tests a.s s a.scratch.now (message_with a.a a.residues.now) (length a.out.now) (rw c.has_room-fits.ensures at c.in-Err.ensures)))))
+    (sym (refused-leaves a.s s a.scratch.now a.out.now [] _ (blinder_second_effect a.s s a.scratch.now m) (sym (tests a.s s a.scratch.now (message_in a.a) (length a.out.now) (rw c.has_room-fits.ensures at c.in-Err.ensures)))))
 
 pub compute-requires : goal.compute-requires
 compute-requires c =
     let told = c in
     let a = told.args in
     let s = slot_at a.pool.now a.at.size a.at.index in
-    let passed = sym (tests a.s s a.scratch.now (message_with a.a a.residues.now) (length a.out.now) (rw c.has_room-fits.ensures at c.in_default.ensures)) in
-    let f = second-known a.s s (message_with a.a a.residues.now) a.scratch.now (length a.out.now) passed in
+    let passed = sym (tests a.s s a.scratch.now (message_in a.a) (length a.out.now) (rw c.has_room-fits.ensures at c.in_default.ensures)) in
+    let f = second-known a.s s (message_in a.a) a.scratch.now (length a.out.now) passed in
     as-taken (λ (m : Message). blinder_second_tests a.s s a.scratch.now m (length a.out.now)) f.message passed
 
 pub returns : goal.returns
@@ -47,8 +47,8 @@ returns c =
     let told = c in
     let a = told.args in
     let s = slot_at a.pool.now a.at.size a.at.index in
-    let m = message_with a.a a.residues.now in
-    let passed = sym (tests a.s s a.scratch.now (message_with a.a a.residues.now) (length a.out.now) (rw c.has_room-fits.ensures at c.in_default.ensures)) in
+    let m = message_in a.a in
+    let passed = sym (tests a.s s a.scratch.now (message_in a.a) (length a.out.now) (rw c.has_room-fits.ensures at c.in_default.ensures)) in
     let f = second-known a.s s m a.scratch.now (length a.out.now) passed in
     step-leaves a.s s a.scratch.now a.out.now [] _ (blinder_second_effect a.s s a.scratch.now m) passed c.compute.ensures
     (sym (same-pool s f.later.session-open.half.inside))

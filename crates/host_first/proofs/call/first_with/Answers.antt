@@ -16,7 +16,7 @@ returns-then-not-takes_message c =
       result = a.res.now;
     } in
     opened-alone l a.f.at.size a.f.at.index a.f.end a.f.terms a.input.now a.raw.now a.message.now
-    (sym c.takes_message.ensures ∙ c.if-not-takes_message.true) c.no_head-none.ensures c.first_on.ensures
+    (sym c.takes_message.ensures ∙ c.if-not-takes_message.true) c.no_head.ensures c.first_on.ensures
 
 pub returns-in_default : goal.returns-in_default
 returns-in_default c =

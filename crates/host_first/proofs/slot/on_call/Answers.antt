@@ -3,7 +3,7 @@ use mathlib.Core.Path.{refl, sym, ◌∙◌}
 use native.Mathlib.Omega.{arith}
 use lib.ListN.{length}
 use lib.Seq.{length-take-le}
-use Rattle.protocol.specs.Message.{message_with}
+use Rattle.protocol.specs.Message.{message_in}
 use Rattle.tape.specs.Ends.{role}
 use Rattle.judging.specs.InOrder.{checked}
 use Rattle.entry.specs.Steps.{first_step}
@@ -62,7 +62,7 @@ returns c =
       line = a.line.now;
       result = a.res.now;
     } in
-    let message = message_with a.q.head a.residues.now in
+    let message = message_in a.a in
     call-cut (end_role a.q.end) a.q.terms
     (λ s ls i. first_step a.q.end a.q.terms s ls a.input.now a.raw.now message (length a.out.now) i)
     (λ s ls i. first-proper a.q.end a.q.terms s ls a.input.now a.raw.now message (length a.out.now) i)

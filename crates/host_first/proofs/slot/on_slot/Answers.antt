@@ -6,7 +6,7 @@ use native.Mathlib.Omega.{arith}
 use lib.ListN.{length, take}
 use lib.Seq.{length-take-le}
 use Rattle.protocol.specs.Tape.{slot_at}
-use Rattle.protocol.specs.Message.{message_with}
+use Rattle.protocol.specs.Message.{message_in}
 use Rattle.entry.specs.Bytes.{words_of}
 use Rattle.local.specs.Settled.{unopened}
 use Rattle.entry.specs.Steps.{first_step}
@@ -32,7 +32,7 @@ returns c =
     let j = length a.share.now in
     let few : n ≤ length (words_of a.slot.now) = omega (arith, p.1, words-length a.slot.now) in
     let slot = slot_at (take n (words_of a.slot.now)) n 0 in
-    let message = message_with a.q.head a.residues.now in
+    let message = message_in a.a in
     let o = first_step a.q.end a.q.terms slot (take k (words_of a.scratch.now)) a.input.now a.raw.now message (length a.out.now) j in
     let behaves = first-behaves a.q.end a.q.terms slot (take k (words_of a.scratch.now)) a.input.now a.raw.now message
     (length a.out.now) j in

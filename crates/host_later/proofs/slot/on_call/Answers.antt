@@ -5,7 +5,7 @@ use native.Mathlib.Omega.{arith}
 use lib.ListN.{length, take}
 use lib.Seq.{length-take-le}
 use Rattle.protocol.specs.Tape.{slot_at}
-use Rattle.protocol.specs.Message.{message_with}
+use Rattle.protocol.specs.Message.{message_in}
 use Rattle.tape.specs.Ends.{role}
 use Rattle.judging.specs.InOrder.{checked}
 use Rattle.entry.specs.Bytes.{words_of}
@@ -64,7 +64,7 @@ returns c =
     } in
     let x = session_in a.session.now in
     let s = slot_at (words_of a.pool.now) a.at.size a.at.index in
-    let m = message_with a.q.head a.residues.now in
+    let m = message_in a.a in
     let room = length a.out.now in
     call-cut (session_role x) (session_terms x) (λ s ls j. later_step a.q.drops x s ls m room j)
     (λ s ls j. (later-behaves a.q.drops x s ls m room j).proper) 0 (checked a.q.own) l a.at.size a.at.index h.4

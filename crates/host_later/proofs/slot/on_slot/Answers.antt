@@ -6,7 +6,7 @@ use native.Mathlib.Omega.{arith}
 use lib.ListN.{length, take}
 use lib.Seq.{length-take-le}
 use Rattle.protocol.specs.Tape.{slot_at}
-use Rattle.protocol.specs.Message.{message_with}
+use Rattle.protocol.specs.Message.{message_in}
 use Rattle.protocol.specs.Step.{Outcome}
 use Rattle.judging.specs.InOrder.{checked}
 use Rattle.entry.specs.declared.Session.{Session}
@@ -46,7 +46,7 @@ returns c =
     let few : n ≤ length (words_of a.slot.now) = omega (arith, p.1, words-length a.slot.now) in
     let s = slot_at (take n (words_of a.slot.now)) n 0 in
     let lent = take k (words_of a.scratch.now) in
-    let m = message_with a.q.head a.residues.now in
+    let m = message_in a.a in
     let room = length a.out.now in
     let step : Session → Outcome Session = λ y. later_step a.q.drops y s lent m room j in
     c.settle.ensures

@@ -12,20 +12,20 @@ pub returns-in_err-check_first_numbers : goal.returns-in_err-check_first_numbers
 returns-in_err-check_first_numbers c =
     let a = c.args in
     hands_on c.from_residual.result _ c.from_residual.ensures.1 c.in_err-check_first_numbers.ensures ∙ sym
-    (received-phases (role a.end) a.t (slot_at a.pool.now a.at.size a.at.index) a.kind a.a a.residues.now)
+    (received-phases (role a.end) a.t (slot_at a.pool.now a.at.size a.at.index) a.kind a.a.head a.a.residues.now)
 
 pub slot-requires : goal.slot-requires
 unfolding first_received
 slot-requires c =
     let a = c.args in
-    (turn-placed (role a.end) a.t a.a _ a.pool.now a.at.size a.at.index _
+    (turn-placed (role a.end) a.t a.a.head _ a.pool.now a.at.size a.at.index _
     (sym c.in_ok-check_first_numbers.ensures)).inside
 
 pub check_arrived-requires : goal.check_arrived-requires
 unfolding first_received
 check_arrived-requires c =
     let a = c.args in
-    let p = turn-placed (role a.end) a.t a.a _ a.pool.now a.at.size a.at.index _
+    let p = turn-placed (role a.end) a.t a.a.head _ a.pool.now a.at.size a.at.index _
     (sym c.in_ok-check_first_numbers.ensures) in
     half-fits (role a.end) a.t (slot_at a.pool.now a.at.size a.at.index) p c.slot.ensures
 
@@ -33,5 +33,5 @@ pub returns : goal.returns
 returns c =
     let a = c.args in
     (rw c.slot.ensures at c.check_arrived.ensures) ∙ sym
-    (received-phases (role a.end) a.t (slot_at a.pool.now a.at.size a.at.index) a.kind a.a a.residues.now
+    (received-phases (role a.end) a.t (slot_at a.pool.now a.at.size a.at.index) a.kind a.a.head a.a.residues.now
     ∙ goes-past c.in_ok-check_first_numbers.ensures)

@@ -12,4 +12,4 @@ unfolding right_last_tests room_tests
 returns c =
     let a = c.args in
     let both = also _ _ c.worst.ensures c.check_later-later.ensures (rw c.times.ensures at c.check_room-own.ensures) in
-    both ∙ last-tests a.s (slot_at a.pool.now a.at.size a.at.index) a.a a.residues.now a.share
+    both ∙ last-tests a.s (slot_at a.pool.now a.at.size a.at.index) a.a.head a.a.residues.now a.share

@@ -3,7 +3,7 @@ use mathlib.Core.Path.{sym}
 use mathlib.Core.List.{[]}
 use lib.ListN.{length}
 use Rattle.protocol.specs.Tape.{right, slot_at}
-use Rattle.protocol.specs.Message.{Message, message_with, message_parts}
+use Rattle.protocol.specs.Message.{Message, message_in, message_parts}
 use Rattle.protocol.specs.Product.{right_last_effect, right_last_tests, right_last}
 use Rattle.judging.proofs.Leaving.{refused-leaves, step-leaves, as-taken}
 use Rattle.judging.proofs.Fits.{open-placed}
@@ -25,7 +25,7 @@ compute-done-requires c =
     let a = told.args in
     let s = slot_at a.pool.now a.at.size a.at.index in
     let passed = sym told.in_default.ensures in
-    let known = last-known a.s s (message_with a.a a.residues.now) (length a.share.now) passed in
+    let known = last-known a.s s (message_in a.a) (length a.share.now) passed in
     as-taken (λ (m : Message). right_last_tests a.s s m (length a.share.now)) known.message passed
 
 pub spend_at-requires : goal.spend_at-requires
@@ -42,6 +42,6 @@ returns c =
     let told = c in
     let a = told.args in
     let s = slot_at a.pool.now a.at.size a.at.index in
-    step-leaves a.s s [] [] a.share.now _ (right_last_effect a.s s (message_with a.a a.residues.now))
+    step-leaves a.s s [] [] a.share.now _ (right_last_effect a.s s (message_in a.a))
     (sym told.in_default.ensures)
     c.compute-done.ensures c.spend_at.ensures

@@ -12,7 +12,7 @@ returns-in_err-worst c =
     let own = c.check_own-own.ensures in
     let told = also _ _ c.in_err-worst.ensures shared own in
     hands_on c.from_residual.result _ c.from_residual.ensures.1 told ∙ sym
-    (left-phases a.t (slot_at a.pool.now a.at.size a.at.index) a.x.now a.words.now a.a a.residues.now a.room a.share)
+    (left-phases a.t (slot_at a.pool.now a.at.size a.at.index) a.x.now a.words.now a.a.head a.a.residues.now a.room a.share)
 
 pub check_coins-requires : goal.check_coins-requires
 check_coins-requires c =
@@ -20,7 +20,7 @@ check_coins-requires c =
     let shared = c.check_first_received-first.ensures in
     let own = c.check_own-own.ensures in
     let told = also _ _ c.in_ok-worst.ensures shared own in
-    left-modulus a.t (slot_at a.pool.now a.at.size a.at.index) a.a a.residues.now _ (sym told)
+    left-modulus a.t (slot_at a.pool.now a.at.size a.at.index) a.a.head a.a.residues.now _ (sym told)
 
 pub returns : goal.returns
 returns c =
@@ -29,5 +29,5 @@ returns c =
     let own = c.check_own-own.ensures in
     let told = also _ _ c.in_ok-worst.ensures shared own in
     (rw c.times.ensures at c.check_coins.ensures) ∙ sym
-    (left-phases a.t (slot_at a.pool.now a.at.size a.at.index) a.x.now a.words.now a.a a.residues.now a.room a.share
+    (left-phases a.t (slot_at a.pool.now a.at.size a.at.index) a.x.now a.words.now a.a.head a.a.residues.now a.room a.share
     ∙ goes-past told)

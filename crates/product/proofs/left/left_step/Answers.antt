@@ -3,7 +3,7 @@ use mathlib.Core.Path.{sym}
 use mathlib.Core.List.{[]}
 use lib.ListN.{length}
 use Rattle.protocol.specs.Tape.{left, slot_at}
-use Rattle.protocol.specs.Message.{Message, message_with, message_parts}
+use Rattle.protocol.specs.Message.{Message, message_in, message_parts}
 use Rattle.protocol.specs.Product.{left_effect, left_tests, left_step}
 use Rattle.judging.proofs.Leaving.{refused-leaves, step-leaves, as-taken}
 use Rattle.judging.proofs.Fits.{first-placed}
@@ -25,7 +25,7 @@ compute-done-requires c =
     let a = told.args in
     let s = slot_at a.pool.now a.at.size a.at.index in
     let passed = sym told.in_default.ensures in
-    let known = left-known a.t s a.x.now a.words.now (message_with a.a a.residues.now) (length a.out.now) (length a.share.now) passed in
+    let known = left-known a.t s a.x.now a.words.now (message_in a.a) (length a.out.now) (length a.share.now) passed in
     as-taken (λ (m : Message). left_tests a.t s a.x.now a.words.now m (length a.out.now) (length a.share.now)) known.message passed
 
 pub spend_at-requires : goal.spend_at-requires
@@ -41,6 +41,6 @@ returns c =
     let told = c in
     let a = told.args in
     let s = slot_at a.pool.now a.at.size a.at.index in
-    step-leaves tt s [] a.out.now a.share.now _ (left_effect a.t s a.x.now a.words.now (message_with a.a a.residues.now))
+    step-leaves tt s [] a.out.now a.share.now _ (left_effect a.t s a.x.now a.words.now (message_in a.a))
     (sym told.in_default.ensures)
     c.compute-done.ensures c.spend_at.ensures

@@ -5,7 +5,7 @@ use Prim.Native.Nat.{◌*◌}
 use lib.ListN.{length, take, drop}
 use lib.Seq.{length-take-le}
 use Rattle.protocol.specs.Tape.{slot_at}
-use Rattle.protocol.specs.Message.{message_with}
+use Rattle.protocol.specs.Message.{message_in}
 use Rattle.protocol.specs.System.{no_blinder, blinder_first}
 use Rattle.vectors.proofs.Written.{tail-part}
 use Rattle.entry.specs.Record.{of_blinder}
@@ -22,7 +22,7 @@ returns c =
     let at24 = c in
     let a = at24.args in
     let s = slot_at a.pool.now a.at.size a.at.index in
-    let m = message_with a.a a.residues.now in
+    let m = message_in a.a in
     let n = a.t.m * a.t.m in
     let l = a.input.now in
     let cut = at17.square_of-n.ensures in

@@ -4,7 +4,7 @@ use Prim.Native.Nat.{◌*◌}
 use lib.ListN.{length, take, drop}
 use Rattle.algebra.specs.Words.{over}
 use Rattle.protocol.specs.Tape.{slot_at}
-use Rattle.protocol.specs.Message.{message_with}
+use Rattle.protocol.specs.Message.{message_in}
 use Rattle.protocol.specs.Product.{no_right}
 use Rattle.protocol.specs.System.{no_blinder, no_solver}
 use Rattle.entry.specs.Record.{of_left, of_right, of_blinder, of_solver}
@@ -22,7 +22,7 @@ returns-in-1 c =
     let at18 = c in
     let a = at18.args in
     let s = slot_at a.pool.now a.at.size a.at.index in
-    let m = message_with a.a a.residues.now in
+    let m = message_in a.a in
     let l = a.input.now in
     let room = length a.out.now in
     let share = length a.res.now in
@@ -37,7 +37,7 @@ returns-in-2 c =
     let at15 = c in
     let a = at15.args in
     let s = slot_at a.pool.now a.at.size a.at.index in
-    let m = message_with a.a a.residues.now in
+    let m = message_in a.a in
     let l = a.input.now in
     let room = length a.out.now in
     let share = length a.res.now in
@@ -55,7 +55,7 @@ returns-in-3 c =
     let at18 = c in
     let a = at18.args in
     let s = slot_at a.pool.now a.at.size a.at.index in
-    let m = message_with a.a a.residues.now in
+    let m = message_in a.a in
     let l = a.input.now in
     let room = length a.out.now in
     let share = length a.res.now in
@@ -71,7 +71,7 @@ returns-in-4 c =
     let at15 = c in
     let a = at15.args in
     let s = slot_at a.pool.now a.at.size a.at.index in
-    let m = message_with a.a a.residues.now in
+    let m = message_in a.a in
     let l = a.input.now in
     let room = length a.out.now in
     let share = length a.res.now in
@@ -89,7 +89,7 @@ returns-in_default c =
     let at9 = c in
     let a = at9.args in
     let s = slot_at a.pool.now a.at.size a.at.index in
-    let m = message_with a.a a.residues.now in
+    let m = message_in a.a in
     let l = a.input.now in
     let room = length a.out.now in
     let share = length a.res.now in

@@ -3,7 +3,7 @@ use mathlib.Core.List.{[]}
 use lib.ListN.{length}
 use borrow.Author.Tests.{eq-eqb, ne_eqb}
 use Rattle.protocol.specs.Tape.{slot_at}
-use Rattle.protocol.specs.Message.{message_with}
+use Rattle.protocol.specs.Message.{message_in}
 use Rattle.entry.specs.Record.{blinder_of, of_blinder}
 use Rattle.local.proofs.Recorded.{recorded-leaves, any-sent, any-result}
 use Rattle.local.proofs.Ends.{blinder-second-told, blinder-second-no-result, blinder-ending-told, blinder-ending-no-sent}
@@ -16,7 +16,7 @@ returns-then-x-eq3 c =
     let at15 = c in
     let a = at15.args in
     let s = slot_at a.pool.now a.at.size a.at.index in
-    let m = message_with a.a a.residues.now in
+    let m = message_in a.a in
     let y = blinder_of a.x in
     let told = blinder-second-told y s a.scratch.now m (length a.out.now) in
     let none = blinder-second-no-result y s a.scratch.now m (length a.out.now) of_blinder in
@@ -33,7 +33,7 @@ returns c =
     let at19 = c in
     let a = at19.args in
     let s = slot_at a.pool.now a.at.size a.at.index in
-    let m = message_with a.a a.residues.now in
+    let m = message_in a.a in
     let y = blinder_of a.x in
     let told = blinder-ending-told y s a.scratch.now m (length a.res.now) in
     let none = blinder-ending-no-sent y s a.scratch.now m (length a.res.now) of_blinder in

@@ -3,7 +3,7 @@ use mathlib.Core.List.{[]}
 use lib.ListN.{length}
 use borrow.Author.Tests.{eq-eqb, ne_eqb}
 use Rattle.protocol.specs.Tape.{slot_at}
-use Rattle.protocol.specs.Message.{message_with}
+use Rattle.protocol.specs.Message.{message_in}
 use Rattle.entry.specs.Record.{solver_of, of_solver}
 use Rattle.local.proofs.Recorded.{recorded-leaves}
 use Rattle.local.proofs.Ends.{solver-second-told, solver-ending-told}
@@ -16,7 +16,7 @@ returns-then-x-eq2 c =
     let at12 = c in
     let a = at12.args in
     let s = slot_at a.pool.now a.at.size a.at.index in
-    let m = message_with a.a a.residues.now in
+    let m = message_in a.a in
     let told = solver-second-told (solver_of a.x) s m (length a.out.now) in
     let e = rw at5.held-s.ensures at c.solver_second-second.ensures in
     rw (c.over.ensures, c.is_settled.ensures, c.kept.ensures, eq-eqb a.x.due 2 at7.if-x-eq2.true)
@@ -30,7 +30,7 @@ returns c =
     let at14 = c in
     let a = at14.args in
     let s = slot_at a.pool.now a.at.size a.at.index in
-    let m = message_with a.a a.residues.now in
+    let m = message_in a.a in
     let told = solver-ending-told (solver_of a.x) s m (length a.out.now) in
     let e = rw at7.held-s.ensures at at5.solver_ending-last.ensures in
     rw (c.over-2.ensures, c.is_settled-2.ensures, c.kept-2.ensures, ne_eqb a.x.due 2 at9.if-x-eq2.false)

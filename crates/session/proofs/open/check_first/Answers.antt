@@ -4,7 +4,7 @@ use Prim.Native.Nat.{◌*◌}
 use lib.ListN.{length, take, drop}
 use lib.Seq.{length-take-le}
 use Rattle.protocol.specs.Tape.{slot_at}
-use Rattle.protocol.specs.Message.{message_with}
+use Rattle.protocol.specs.Message.{message_in}
 use Rattle.protocol.specs.Product.{left_tests, left_effect, left_step, right_first_tests, right_first_effect, right_first}
 use Rattle.protocol.specs.System.{blinder_first_tests, blinder_first_effect, blinder_first, solver_first_tests, solver_first_effect, solver_first}
 use Rattle.vectors.proofs.Written.{tail-part}
@@ -25,7 +25,7 @@ returns-in-1 c =
     let at8 = c in
     let a = at8.args in
     let s = slot_at a.pool.now a.at.size a.at.index in
-    let m = message_with a.a a.residues.now in
+    let m = message_in a.a in
     let x = a.input.now in
     rw (first-left a.t s a.scratch.now a.input.now a.words.now m a.room a.share c.in-1.is)
     (recorded_tells (λ _. of_left a.t) (left_tests a.t s x a.words.now m a.room a.share) (left_effect a.t s x a.words.now m)
@@ -37,7 +37,7 @@ returns-in-2 c =
     let at8 = c in
     let a = at8.args in
     let s = slot_at a.pool.now a.at.size a.at.index in
-    let m = message_with a.a a.residues.now in
+    let m = message_in a.a in
     let y = a.input.now in
     rw (first-right a.t s a.scratch.now a.input.now a.words.now m a.room a.share c.in-2.is)
     (recorded_tells of_right (right_first_tests a.t s y a.room) (right_first_effect a.t s y) c.check-in-2.ensures)
@@ -49,7 +49,7 @@ returns-in-3 c =
     let at10 = c in
     let a = at10.args in
     let s = slot_at a.pool.now a.at.size a.at.index in
-    let m = message_with a.a a.residues.now in
+    let m = message_in a.a in
     let n = a.t.m * a.t.m in
     let l = a.input.now in
     let cut = at4.square_of-n.ensures in
@@ -65,7 +65,7 @@ returns-in-4 c =
     let at10 = c in
     let a = at10.args in
     let s = slot_at a.pool.now a.at.size a.at.index in
-    let m = message_with a.a a.residues.now in
+    let m = message_in a.a in
     let n = a.t.m * a.t.m in
     let l = a.input.now in
     let cut = at4.square_of-n.ensures in
@@ -78,6 +78,6 @@ returns-in_default c =
     let at7 = c in
     let a = at7.args in
     let s = slot_at a.pool.now a.at.size a.at.index in
-    let m = message_with a.a a.residues.now in
+    let m = message_in a.a in
     let h = c.in_default.in_default-own.rest in
     rw (first-other a.t s a.scratch.now a.input.now a.words.now m a.room a.share h.0.0.0.1 h.0.0.1 h.0.1 h.1)

@@ -3,7 +3,7 @@ use mathlib.Core.Path.{refl, sym, ap₂, ◌∙◌}
 use lib.ListN.{length}
 use Rattle.protocol.specs.declared.Refusal.TheVariants.{Turn}
 use Rattle.protocol.specs.Tape.{slot_at}
-use Rattle.protocol.specs.Message.{message_with}
+use Rattle.protocol.specs.Message.{message_in}
 use Rattle.judging.specs.Lowest.{lower}
 use Rattle.judging.proofs.Join.{judged-false}
 use Rattle.entry.specs.Steps.{first_step}
@@ -20,7 +20,7 @@ returns-then-x-eq0 c =
     let at26 = c in
     let a = at26.args in
     let s = slot_at a.pool.now a.at.size a.at.index in
-    let m = message_with a.a a.residues.now in
+    let m = message_in a.a in
     let l = a.input.now in
     let room = length a.out.now in
     let share = length a.res.now in
@@ -40,7 +40,7 @@ returns c =
     let at16 = c in
     let a = at16.args in
     let s = slot_at a.pool.now a.at.size a.at.index in
-    let m = message_with a.a a.residues.now in
+    let m = message_in a.a in
     let l = a.input.now in
     let room = length a.out.now in
     let share = length a.res.now in

@@ -8,7 +8,7 @@ use Rattle.protocol.specs.declared.Refusal.TheVariants.{Size, Turn}
 use Rattle.protocol.specs.declared.SolverSession.{SolverSession}
 use Rattle.protocol.specs.Bounds.{room_tests}
 use Rattle.protocol.specs.Judge.{Judged, needs, given}
-use Rattle.protocol.specs.Message.{Message, last_fits, message_size, message_tests, due_tests, message_with}
+use Rattle.protocol.specs.Message.{Message, last_fits, message_size, message_tests, due_tests, message_in}
 use Rattle.protocol.specs.Step.{is_open, later_tests}
 use Rattle.protocol.specs.Tape.{Slot, solver, slot_at}
 use Rattle.judging.specs.InOrder.{judged}
@@ -32,7 +32,7 @@ pub returns-in_err-worst : goal.returns-in_err-worst
 returns-in_err-worst c =
     let a = c.args in
     let s = slot_at a.pool.now a.at.size a.at.index in
-    let m = message_with a.a a.residues.now in
+    let m = message_in a.a in
     let all = arrived a.kind a.sends a.s s m a.room c.check_later-shared.ensures c.has_room.ensures c.check_room-sent.ensures c.last_fits.ensures
     c.need-sort.ensures c.worst.ensures c.in_err-worst.ensures in
     hands_on c.from_residual.result _ c.from_residual.ensures.1 all ∙ sym (later-phases a.kind a.sends a.s s m a.room)
@@ -41,7 +41,7 @@ pub check_kept-requires : goal.check_kept-requires
 check_kept-requires c =
     let a = c.args in
     let s = slot_at a.pool.now a.at.size a.at.index in
-    let m = message_with a.a a.residues.now in
+    let m = message_in a.a in
     let all = arrived a.kind a.sends a.s s m a.room c.check_later-shared.ensures c.has_room.ensures c.check_room-sent.ensures c.last_fits.ensures
     c.need-sort.ensures c.worst.ensures c.in_ok-worst.ensures in
     arriving-known a.kind a.sends a.s s m a.room (sym all)
@@ -50,7 +50,7 @@ pub returns : goal.returns
 returns c =
     let a = c.args in
     let s = slot_at a.pool.now a.at.size a.at.index in
-    let m = message_with a.a a.residues.now in
+    let m = message_in a.a in
     let all = arrived a.kind a.sends a.s s m a.room c.check_later-shared.ensures c.has_room.ensures c.check_room-sent.ensures c.last_fits.ensures
     c.need-sort.ensures c.worst.ensures c.in_ok-worst.ensures in
     c.check_kept.ensures
