@@ -6,7 +6,7 @@
 #![tactic(auto, unfolding(crate::specs::Sizes::in_bounds, protocol::specs::System::scratch_size, protocol::specs::Deal::draw_size, protocol::specs::Bounds::sides_fit, protocol::specs::Bounds::within, algebra::specs::Count::both))]
 
 ghost use Rattle.std.specs.Prelude.{◌≡◌, [], ◌*◌};
-ghost use Rattle.protocol.specs.Bounds.{product, system, sides_fit};
+ghost use Rattle.protocol.specs.Bounds.{product, system};
 ghost use Rattle.protocol.specs.Tape.{tape_size};
 ghost use Rattle.protocol.specs.System.{scratch_size};
 ghost use Rattle.protocol.specs.Deal.{draw_size};
@@ -14,18 +14,18 @@ ghost use Rattle.tape.specs.Ends.{role, sort};
 ghost use Rattle.entry.specs.Entry.{request_of};
 ghost use Rattle.sizes.specs.Sizes.{in_bounds, sided};
 
+use judging::numbers::sides_fit;
 use protocol::{SessionId, TapeId, Terms};
 use sides::Matrix;
 use tape::End;
 use tape::half::half_size;
 use vectors::times;
 
-// Of the sides is told whether they fit.
-pub fn half_words(end: End, fits: bool, m: u32, k: u32, p: u32) -> usize
-    requires { fits ≡ sides_fit (sort end) m k p }
+// The header and the matrices.
+pub fn half_words(end: End, m: u32, k: u32, p: u32) -> usize
     ensures { result ≡ in_bounds (sort end) m k p (tape_size (role end) m k p) }
 {
-    if !fits {
+    if !sides_fit(end, m, k, p) {
         return 0;
     }
     let terms = Terms {

@@ -25,7 +25,6 @@ use counts::{coins, half_words, product_draws, scratch, system_draws};
 use entry::{BLINDER, LEFT, RIGHT, SOLVER};
 use inverse::check_matrix;
 use line::{kind_fits, line_length};
-use sides::Matrix;
 use tape::End;
 use text::{put_text, refusal_word};
 
@@ -51,10 +50,10 @@ pub fn host_tape_words(end: u32, m: u32, k: u32, p: u32) -> usize
     ensures { result ≡ tape_words end m k p }
 {
     match end {
-        LEFT => half_words(End::Left, Matrix::sides_fit(m, k, p), m, k, p),
-        RIGHT => half_words(End::Right, Matrix::sides_fit(m, k, p), m, k, p),
-        BLINDER => half_words(End::Blinder, Matrix::system_sides_fit(m, k, p), m, k, p),
-        SOLVER => half_words(End::Solver, Matrix::system_sides_fit(m, k, p), m, k, p),
+        LEFT => half_words(End::Left, m, k, p),
+        RIGHT => half_words(End::Right, m, k, p),
+        BLINDER => half_words(End::Blinder, m, k, p),
+        SOLVER => half_words(End::Solver, m, k, p),
         _ => 0,
     }
 }
