@@ -21,7 +21,7 @@ use judging::message::{has_room, side_size};
 use judging::received::check_coins;
 use judging::step::{check_first_received, check_input};
 use judging::{Check, Stepped, need, worst};
-use matrix::{sides_of, write_reply};
+use matrix::{Sides, write_reply};
 use protocol::{Head, Incoming, Refusal, Terms};
 use tape::change::take_up_at;
 use tape::half::matrix;
@@ -93,7 +93,7 @@ fn send(t: Terms, y1: &[u32], scratch: &[u32], x0: &[u32], a0: &[u32], out: &mut
     let pm = drawn_p(t, scratch);
     let u0 = drawn_u0(t, scratch);
     write_sum(t.q, square, pm, x0, out);
-    write_reply(sides_of(t), pm, y1, u0, a0, &mut out[square..]);
+    write_reply(Sides::from(t), pm, y1, u0, a0, &mut out[square..]);
 }
 
 // P and U0 are drawn into the scratch, and the message goes into `out`. The session waits for kind 3.

@@ -16,7 +16,7 @@ ghost use Rattle.dealer.specs.Dealt.{first_half_words, second_half_words};
 use crate::request::Request;
 use crate::sort::{Sort, first_end};
 use drawing::draw;
-use matrix::{Sides, sides_of, write_deal, write_masked};
+use matrix::{Sides, write_deal, write_masked};
 use protocol::Terms;
 use tape::half::matrix_at;
 use tape::header::write_header;
@@ -105,7 +105,7 @@ fn fill_masks(t: Terms, words: &[u32], first: &mut [u32], second: &mut [u32]) ->
     let mp = times(t.m, t.p);
     let start = header::SIZE;
     let read = draw_three(t.q, mk, kp, mp, words, first, start, second, start);
-    write_b(sides_of(t), first, second);
+    write_b(Sides::from(t), first, second);
     read
 }
 

@@ -1,4 +1,5 @@
 -- What a call looks at, as its code counts it.
+--   role_numbered                        whose half, by the end's number
 --   half-there, half-none                whose half, by a record's bytes
 --   half-whole, half-header              the words of a half, and of a header where the sides don't fit
 --   slot-out, slot_seen                  the words of a slot
@@ -9,6 +10,8 @@
 use mathlib.Core.Path.{◌≡◌, refl, sym, ap, ◌∙◌}
 use mathlib.Core.Bool.{Bool, true, false, cond}
 use mathlib.Core.List.{List, [], ◌∷◌}
+use Rattle.std.specs.Prelude.{Result, Ok, Err}
+use Rattle.std.specs.Result.{result_unwrap_or}
 use native.Mathlib.Decide.{dec_le}
 use Prim.Native.Nat.{ℕ, zero, suc, min, ◌*◌, ◌/◌, ◌≤◌, ◌<◌}
 use native.Mathlib.Nat.{mul-le-mul}
@@ -28,7 +31,9 @@ use Rattle.protocol.specs.Product.{no_right}
 use Rattle.protocol.specs.System.{scratch_size}
 use Rattle.protocol.specs.Drawing.{is_kept, words_read}
 use Rattle.tape.specs.declared.End.{End}
-use Rattle.tape.specs.Ends.{role, sort}
+use Rattle.tape.specs.declared.End.TheVariants.{Left, Right, Blinder, Solver}
+use Rattle.tape.specs.declared.NoEnd.{NoEnd}
+use Rattle.tape.specs.Ends.{role, sort, Numbered}
 use Rattle.tape.proofs.Sides.{unknowns, sides-of}
 use Rattle.drawing.specs.Sift.{kept_words, SiftedTo}
 use Rattle.drawing.specs.declared.Sifted.{Sifted}
@@ -42,6 +47,16 @@ use Rattle.local.proofs.Tests.{few-square}
 use Rattle.local.specs.Stored.{seen_in}
 
 -- ---- whose half
+
+-- left's, where no end has the number
+pub role_numbered : (n : ℕ) (r : Result End NoEnd) → Numbered n r → role (result_unwrap_or r Left) ≡ end_role n
+unfolding end_role
+role_numbered n (Ok Left) e = rw (sym e) refl
+role_numbered n (Ok Right) e = rw (sym e) refl
+role_numbered n (Ok Blinder) e = rw (sym e) refl
+role_numbered n (Ok Solver) e = rw (sym e) refl
+role_numbered n (Err err) e =
+    rw (ne_eqb n 2 (λ f. e.1 Right (sym f)), ne_eqb n 3 (λ f. e.1 Blinder (sym f)), ne_eqb n 4 (λ f. e.1 Solver (sym f))) refl
 
 terms-by : (x : Session)
     → session_terms x ≡ cond (eqb x.end 4) x.terms (cond (eqb x.end 3) x.terms (cond (eqb x.end 2) x.terms no_terms))

@@ -46,12 +46,7 @@ pub struct Half {
 pub fn end_of(end: u32) -> End
     ensures { role result ≡ end_role end }
 {
-    match end {
-        RIGHT => End::Right,
-        BLINDER => End::Blinder,
-        SOLVER => End::Solver,
-        _ => End::Left,
-    }
+    End::try_from(end).unwrap_or(End::Left)
 }
 
 // Of another end than these three a record holds no session, which is right's.

@@ -17,4 +17,4 @@ mod sum;
 pub use formula::{write_deal, write_masked, write_reply, write_share, write_share_of};
 pub use inner::inner_product;
 pub use product::write_product;
-pub use sides::{Sides, sides_of};
+pub use sides::Sides;

@@ -11,7 +11,7 @@ use crate::{RightAnswer, closed};
 use judging::message::no_head;
 use judging::step::{check_later, check_room};
 use judging::{Check, Stepped, worst};
-use matrix::{sides_of, write_share_of};
+use matrix::{Sides, write_share_of};
 use protocol::{Incoming, RightSession};
 use tape::change::spend_at;
 use tape::half::matrix;
@@ -42,7 +42,7 @@ fn compute(
     let t = s.terms;
     let y0 = matrix(End::Right, t, 0, pool, at);
     let b0 = matrix(End::Right, t, 1, pool, at);
-    write_share_of(sides_of(t), residues, y0, b0, share);
+    write_share_of(Sides::from(t), residues, y0, b0, share);
     Stepped::accepted(closed(t), no_head())
 }
 

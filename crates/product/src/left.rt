@@ -17,7 +17,7 @@ use judging::message::has_room;
 use judging::received::check_coins;
 use judging::step::check_first_received;
 use judging::{Check, Stepped, check_input, need, worst};
-use matrix::{sides_of, write_reply};
+use matrix::{Sides, write_reply};
 use protocol::{Head, Incoming, Refusal, Terms};
 use tape::change::spend_at;
 use tape::half::matrix;
@@ -68,7 +68,7 @@ fn write_message(
 {
     let mk = times(t.m, t.k);
     add_residues(t.q, mk, x, x0, out);
-    write_reply(sides_of(t), x, y1, u, a0, &mut out[mk..]);
+    write_reply(Sides::from(t), x, y1, u, a0, &mut out[mk..]);
 }
 
 // U is drawn into the share; X1 and R1 go into `out`.

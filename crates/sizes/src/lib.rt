@@ -22,7 +22,7 @@ ghost use Rattle.sizes.specs.Inverse.{inverse_number};
 ghost use Rattle.sizes.specs.Words.{Told, told, refusal_word};
 
 use counts::{coins, half_words, product_draws, scratch, system_draws};
-use entry::{BLINDER, LEFT, RIGHT, SOLVER};
+use entry::{BLINDER, LEFT};
 use inverse::check_matrix;
 use line::{kind_fits, line_length};
 use tape::End;
@@ -49,12 +49,9 @@ pub fn host_record_words() -> usize
 pub fn host_tape_words(end: u32, m: u32, k: u32, p: u32) -> usize
     ensures { result ≡ tape_words end m k p }
 {
-    match end {
-        LEFT => half_words(End::Left, m, k, p),
-        RIGHT => half_words(End::Right, m, k, p),
-        BLINDER => half_words(End::Blinder, m, k, p),
-        SOLVER => half_words(End::Solver, m, k, p),
-        _ => 0,
+    match End::try_from(end) {
+        Ok(end) => half_words(end, m, k, p),
+        Err(_) => 0,
     }
 }
 

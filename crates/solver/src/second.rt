@@ -15,7 +15,7 @@ ghost use Rattle.judging.specs.Leaves.{leaves, leaving, computed, computing, tak
 use crate::SolverAnswer;
 use crate::later::check;
 use judging::Stepped;
-use matrix::{sides_of, write_share_of};
+use matrix::{Sides, write_share_of};
 use protocol::{Head, Incoming, SolverSession, Terms};
 use tape::half::matrix;
 use tape::{End, Place};
@@ -83,7 +83,7 @@ fn compute(
     let b0 = matrix(End::Solver, t, 1, pool, at);
     let r = matrix(End::Solver, t, 2, pool, at);
     let mut share = [0u32; 272];
-    write_share_of(sides_of(t), residues, y0, b0, &mut share);
+    write_share_of(Sides::from(t), residues, y0, b0, &mut share);
     finish(t, r, &share[..n], out)
 }
 

@@ -37,9 +37,9 @@ pub fn put_words(n: usize, words: &[u32], out: &mut [u8])
     requires { (n ≤ length words.now) × (n * 4 ≤ length out.old) }
     ensures { out.new ≡ over (bytes_of (take n words.now)) out.old }
 {
-    for i in 0..n {
+    for (i, &word) in words[..n].iter().enumerate() {
         let at = i * 4;
-        put_word(words[i], &mut out[at..]);
+        put_word(word, &mut out[at..]);
     }
 }
 

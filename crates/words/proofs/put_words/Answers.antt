@@ -1,11 +1,11 @@
 -- `words::put_words` meets its contract: after i turns the bytes of i words stand over the start. Assumes nothing.
-use mathlib.Core.Path.{◌≡◌, refl, ◌∙◌}
+use mathlib.Core.Path.{◌≡◌, refl, sym, ◌∙◌}
 use mathlib.Core.List.{List, [], ◌∷◌, ◌++◌}
 use Prim.Native.Nat.{ℕ, ◌+◌, ◌*◌, ◌<◌}
 use native.Mathlib.Numerals.{add-one}
 use native.Mathlib.Omega.{arith}
 use lib.ListN.{length, get_or, take, length-take}
-use lib.Seq.{take-suc}
+use lib.Seq.{take-suc, get_or-take}
 use borrow.Author.Rules.{rules}
 use Rattle.algebra.specs.Words.{over}
 use Rattle.vectors.proofs.Written.{part_then}
@@ -24,9 +24,10 @@ loop-i-init c = (search rules, refl, refl)
 pub loop-i-preserved : goal.loop-i-preserved
 loop-i-preserved c =
     let a = c.args in
-    let l = c.loop-i in (
+    let l = c.loop-i in
+    let word = get_or-take a.n a.words.now l.i 0 (search rules) in (
       search rules,
-      rw (bytes_next l.i a.words.now (search rules)) (part_then (bytes_of (take l.i a.words.now)) _ a.out.now l.out _ (l.i * 4)
+      rw (bytes_next l.i a.words.now (search rules), sym word) (part_then (bytes_of (take l.i a.words.now)) _ a.out.now l.out _ (l.i * 4)
           (bytes-length (take l.i a.words.now) ∙ simp length-take (omega arith)) (search rules) l.invariant.1 c.put_word.ensures),
       search rules,
     )

@@ -27,7 +27,7 @@ write_reply-requires c =
     let u0 = u0-length t start.args.scratch.now start.requires.lent told.drawn_u0-u0.ensures in
     let u = unknowns t.m t.k t.p start.requires.sides in
     let wide = wide-bound t start.requires.sides in
-    rw (c.sides_of.ensures, u.square) (search rules)
+    rw (c.from.ensures, u.square) (search rules)
 
 pub returns : goal.returns
 unfolding first_sent send_x send_r
@@ -39,7 +39,7 @@ returns c =
     let size = (add-residues start.requires.some-q (a.t.m * a.t.m) _ _).size in
     let x = rw (told.drawn_p-pm.ensures, square) at told.write_sum.ensures in
     let u = unknowns a.t.m a.t.k a.t.p start.requires.sides in
-    let by_n = rw (c.sides_of.ensures, u.square) at c.write_reply.ensures in
+    let by_n = rw (c.from.ensures, u.square) at c.write_reply.ensures in
     let r = rw (told.drawn_p-pm.ensures, told.drawn_u0-u0.ensures) at by_n in
     part_then _ _ a.out.now _ _ told.times-square.result (size ∙ sym square)
     (omega (arith, after-over _ a.out.now x (omega (arith, size, start.requires.room)), square, start.requires.room)) x r

@@ -18,5 +18,5 @@ returns c =
       value = e.value;
       first_after = e.first_after;
       second_after = masks-filled a.t.q a.t.m a.t.k a.t.p a.words.now h.1 a.first.now a.second.now _ _ (omega (arith, h.2)) (omega (arith, h.3))
-          e.first_after e.second_after (rw c.sides_of.ensures at c.write_b.ensures);
+          e.first_after e.second_after (rw c.from.ensures at c.write_b.ensures);
     }

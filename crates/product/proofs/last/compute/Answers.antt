@@ -44,7 +44,7 @@ write_share_of-requires c =
     let k = last-known _ _ _ _ c.requires in
     let b = sides-of product t.m t.k t.p (place _ _ _ _ c.requires).sides in
     let n = full _ _ _ _ c.requires in
-    rw (c.sides_of.ensures, c.matrix-y0.ensures, c.matrix-b0.ensures) (
+    rw (c.from.ensures, c.matrix-y0.ensures, c.matrix-b0.ensures) (
       record {
         some-q = omega (arith, k.later.session-open.terms.big);
         small-q = omega (arith, k.later.session-open.terms.small);
@@ -64,5 +64,5 @@ returns c =
     let start = c in
     let a = start.args in
     let m = taken 2 a.s.terms a.residues.now in
-    let share = rw (c.sides_of.ensures, c.matrix-y0.ensures, c.matrix-b0.ensures) at c.write_share_of.ensures in
+    let share = rw (c.from.ensures, c.matrix-y0.ensures, c.matrix-b0.ensures) at c.write_share_of.ensures in
     rw (c.accepted.ensures, c.closed.ensures, c.no_head.ensures, share) (simp (first_part a.s.terms m, second-part a.s.terms m (full _ _ _ _ c.requires)))

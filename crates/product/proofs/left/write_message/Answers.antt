@@ -19,7 +19,7 @@ write_reply-requires c =
     let n = c.times-mk.ensures in
     let b = sides-of product a.t.m a.t.k a.t.p h.sides in
     let full = (sum-residues h.some-q (a.t.m * a.t.k) a.x.now a.x0.now).size in
-    rw c.sides_of.ensures (
+    rw c.from.ensures (
       record {
         some-q = h.some-q;
         small-q = h.small-q;
@@ -44,4 +44,4 @@ returns c =
     let first = rw n at c.add_residues.ensures in
     rw n
     (part_then _ _ a.out.now _ _ (a.t.m * a.t.k) full (omega (arith, ap length first ∙ over-length _ a.out.now (omega (arith, full, h.room)), h.room))
-    first (rw (n, c.sides_of.ensures) at c.write_reply.ensures))
+    first (rw (n, c.from.ensures) at c.write_reply.ensures))

@@ -68,7 +68,7 @@ write_share_of-requires c =
     let o = (known a.s s a.residues.now (length a.out.now) c.requires).later.session-open.terms in
     let f = small a.s s a.residues.now (length a.out.now) c.requires in
     let n = (counts a.s s a.residues.now (length a.out.now) c.requires).0 in
-    rw (c.sides_of.ensures, c.matrix-y0.ensures, c.matrix-b0.ensures) (
+    rw (c.from.ensures, c.matrix-y0.ensures, c.matrix-b0.ensures) (
       record {
         some-q = omega (arith, o.big);
         small-q = omega (arith, o.small);
@@ -86,14 +86,14 @@ pub slice_bounds-share-end : goal.slice_bounds-share-end
 slice_bounds-share-end c =
     let a = c.args in
     let s = slot_at a.pool.now a.at.size a.at.index in
-    let w = rw (c.sides_of.ensures, c.matrix-y0.ensures, c.matrix-b0.ensures) at c.write_share_of.ensures in
+    let w = rw (c.from.ensures, c.matrix-y0.ensures, c.matrix-b0.ensures) at c.write_share_of.ensures in
     (found a.s s a.residues.now (length a.out.now) c.requires c.times-n.result _ c.times-n.ensures refl w).0
 
 pub slice_bounds-finish-end : goal.slice_bounds-finish-end
 slice_bounds-finish-end c =
     let a = c.args in
     let s = slot_at a.pool.now a.at.size a.at.index in
-    let w = rw (c.sides_of.ensures, c.matrix-y0.ensures, c.matrix-b0.ensures) at c.write_share_of.ensures in
+    let w = rw (c.from.ensures, c.matrix-y0.ensures, c.matrix-b0.ensures) at c.write_share_of.ensures in
     let f = found a.s s a.residues.now (length a.out.now) c.requires c.times-n.result _ c.times-n.ensures refl w in
     sym (length-take-le _ _ f.0)
 
@@ -102,7 +102,7 @@ finish-requires c =
     let a = c.args in
     let s = slot_at a.pool.now a.at.size a.at.index in
     let t = a.s.terms in
-    let w = rw (c.sides_of.ensures, c.matrix-y0.ensures, c.matrix-b0.ensures) at c.write_share_of.ensures in
+    let w = rw (c.from.ensures, c.matrix-y0.ensures, c.matrix-b0.ensures) at c.write_share_of.ensures in
     let f = found a.s s a.residues.now (length a.out.now) c.requires c.times-n.result _ c.times-n.ensures refl w in
     let o = (known a.s s a.residues.now (length a.out.now) c.requires).later.session-open.terms in
     let r = ap length c.matrix-r.ensures ∙ r-size t s (place a.s s a.residues.now (length a.out.now) c.requires) in
@@ -115,7 +115,7 @@ unfolding solver_second_effect share_of join over
 returns c =
     let a = c.args in
     let s = slot_at a.pool.now a.at.size a.at.index in
-    let w = rw (c.sides_of.ensures, c.matrix-y0.ensures, c.matrix-b0.ensures) at c.write_share_of.ensures in
+    let w = rw (c.from.ensures, c.matrix-y0.ensures, c.matrix-b0.ensures) at c.write_share_of.ensures in
     let f = found a.s s a.residues.now (length a.out.now) c.requires c.times-n.result _ c.times-n.ensures refl w in
     let sent = rw (c.matrix-r.ensures, f.1) at c.finish.ensures.out_after in
     rw (c.finish.ensures.value, sent, f.1) (simp append-nil)
