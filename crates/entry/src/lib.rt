@@ -1,5 +1,10 @@
-// The types and numbers of the entries on bytes. Their meaning stands in specs/; there is no code here.
+// The types and numbers of the entries on bytes. Their meaning stands in specs/; the one function here makes a refusal's report.
 #![tactic(auto)]
+
+ghost use Rattle.std.specs.Prelude.{◌≡◌};
+ghost use Rattle.entry.specs.Entry.{refusal_report};
+
+use protocol::{Refusal, Terms};
 
 // The ends' numbers.
 pub const LEFT: u32 = 1;
@@ -28,4 +33,15 @@ pub struct Report {
     pub bytes: usize,
 }
 
-use protocol::Terms;
+// Of a refusal no raw word counts as read, and no line is written.
+impl From<Refusal> for Report {
+    ghost from_gives = { λ r report. report ≡ refusal_report r };
+
+    fn from(r: Refusal) -> Report {
+        Report {
+            number: u32::from(r),
+            read: 0,
+            bytes: 0,
+        }
+    }
+}

@@ -41,11 +41,7 @@ fn report_of(answer: Answer, read: usize) -> Report
             read,
             bytes: 0,
         },
-        Err(r) => Report {
-            number: u32::from(r),
-            read: 0,
-            bytes: 0,
-        },
+        Err(r) => Report::from(r),
     }
 }
 

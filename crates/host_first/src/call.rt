@@ -15,7 +15,7 @@ ghost use Rattle.local.specs.Entered.{entered_by, seen_first};
 
 use crate::slot::{Asked, with_room};
 use entry::{BLINDER, LEFT, Report};
-use host_parts::own::{check_first, check_session, refusal};
+use host_parts::own::{check_first, check_session};
 use host_parts::record::due_in;
 use host_parts::seen::{get_input, sift_coins};
 use host_parts::taken::{opening_of, residues_in, take_line};
@@ -118,7 +118,7 @@ fn first_with(
         );
     }
     let Some(taken) = take_line(message, numbers) else {
-        return refusal(Refusal::Form);
+        return Report::from(Refusal::Form);
     };
     let opened = opening_of(taken);
     let residues = residues_in(numbers, opened.count);

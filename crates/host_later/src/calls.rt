@@ -5,7 +5,7 @@ ghost use Rattle.entry.specs.Entry.{lent_of, left_of, next_on, drop_on};
 
 use crate::slot::{Asked, with_room};
 use entry::Report;
-use host_parts::own::{check_session, refusal};
+use host_parts::own::check_session;
 use host_parts::taken::{residues_in, seen_count, take_line};
 use judging::message::no_head;
 use protocol::{Incoming, Refusal};
@@ -30,7 +30,7 @@ fn next_with(
 {
     let own = check_session(session.len(), pool.len(), scratch.len(), res.len());
     let Some(taken) = take_line(message, numbers) else {
-        return refusal(Refusal::Form);
+        return Report::from(Refusal::Form);
     };
     let q = Asked { drops: false, own };
     let seen = seen_count(taken.count);

@@ -1,6 +1,6 @@
-// The tests that an entry makes by itself (RULES 11.4), and refusals as reports.
+// The tests that an entry makes by itself (RULES 11.4), and the report of a refusal.
 //   check_session, check_first   the lengths of what is lent; a first step's record is free
-//   refusal, refused             a refusal's report, and that of the lower of two
+//   refused                      the report of the lower of two refusals
 ghost use Rattle.std.specs.Prelude.{◌≡◌, [], ◌∷◌, ◌++◌, eqb};
 ghost use Rattle.protocol.specs.declared.Refusal.TheVariants.{Turn};
 ghost use Rattle.protocol.specs.Judge.{needs};
@@ -47,25 +47,19 @@ pub fn check_first(due: u32, input: usize, words: usize) -> Check
     worst(one, worst(two, free))
 }
 
-pub fn refusal(r: Refusal) -> Report
-    ensures { result ≡ refusal_report r }
-{
-    Report {
-        number: u32::from(r),
-        read: 0,
-        bytes: 0,
-    }
-}
-
 // The lower of an entry's own refusal and of its step's.
 pub fn refused(own: Check, answer: Answer) -> Report
     ensures { result ≡ refusal_report (lower_of own answer) }
 {
     let Err(r) = own else {
-        return refusal(Refusal::Form);
+        return Report::from(Refusal::Form);
     };
     let Err(step) = answer else {
-        return refusal(r);
+        return Report::from(r);
     };
-    if step < r { refusal(step) } else { refusal(r) }
+    if step < r {
+        Report::from(step)
+    } else {
+        Report::from(r)
+    }
 }

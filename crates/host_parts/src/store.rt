@@ -12,7 +12,6 @@ ghost use Rattle.local.specs.Settled.{is_singular};
 ghost use Rattle.local.specs.Seen.{sent_size};
 ghost use Rattle.local.specs.Stored.{sent_line, stored, stored_sent};
 
-use crate::own::refusal;
 use crate::record::put_session;
 use entry::{Report, Session};
 use judging::message::message_size;
@@ -105,7 +104,7 @@ fn store_sent(
 {
     let bytes = line_size(h, sent);
     if line.len() < bytes {
-        return refusal(Refusal::Size);
+        return Report::from(Refusal::Size);
     }
     put_line(h, sent, line);
     put_all(x, words, lent, share, session, slot, scratch, res);
@@ -152,7 +151,7 @@ pub fn store(
     };
     if is_sum(sums, r) {
         put_all(x, words, lent, share, session, slot, scratch, res);
-        return refusal(r);
+        return Report::from(r);
     }
-    refusal(r)
+    Report::from(r)
 }

@@ -29,7 +29,7 @@ returns-in_default c =
       result = a.res.now;
     } in
     opened-wrong l a.f.at.size a.f.at.index a.f.end a.f.terms a.input.now a.raw.now a.message.now
-    (sym c.takes_message.ensures ∙ c.if-not-takes_message.false) c.in_default.ensures c.refusal.ensures
+    (sym c.takes_message.ensures ∙ c.if-not-takes_message.false) c.in_default.ensures c.from.ensures
 
 pub residues_in-residues-requires : goal.residues_in-residues-requires
 residues_in-residues-requires c =

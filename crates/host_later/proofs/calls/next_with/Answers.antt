@@ -14,7 +14,7 @@ returns-in_default c =
       line = a.line.now;
       result = a.res.now;
     } in
-    next-none l a.at.size a.at.index a.message.now c.in_default.ensures c.refusal.ensures
+    next-none l a.at.size a.at.index a.message.now c.in_default.ensures c.from.ensures
 
 pub with_room-requires : goal.with_room-requires
 with_room-requires c =

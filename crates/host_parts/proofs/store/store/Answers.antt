@@ -17,7 +17,7 @@ returns-then-is_sum c =
     let sum = sym c.is_sum.ensures ∙ c.if-is_sum.true in
     stored-sum a.sums a.read a.answer a.x a.h a.words.now a.lent.now a.sent.now a.share.now
     (record { host = a.session.now; pool = a.slot.now; scratch = a.scratch.now; line = a.line.now; result = a.res.now })
-    c.in-Err.is c.refusal.ensures sum put.session_after put.slot_after put.scratch_after put.res_after
+    c.in-Err.is c.from.ensures sum put.session_after put.slot_after put.scratch_after put.res_after
 
 pub returns : goal.returns
 returns c =
@@ -25,4 +25,4 @@ returns c =
     let other = sym c.is_sum.ensures ∙ c.if-is_sum.false in
     stored_refused a.sums a.read a.answer a.x a.h a.words.now a.lent.now a.sent.now a.share.now
     (record { host = a.session.now; pool = a.slot.now; scratch = a.scratch.now; line = a.line.now; result = a.res.now })
-    c.in-Err.is c.refusal-2.ensures other
+    c.in-Err.is c.from-2.ensures other

@@ -7,7 +7,7 @@ returns-then-line-bytes c =
     let a = c.args in
     sent-full a.read a.x a.h a.words.now a.lent.now a.sent.now a.share.now
     (record { host = a.session.now; pool = a.slot.now; scratch = a.scratch.now; line = a.line.now; result = a.res.now })
-    c.line_size-bytes.ensures c.if-line-bytes.true c.refusal.ensures
+    c.line_size-bytes.ensures c.if-line-bytes.true c.from.ensures
 
 pub returns : goal.returns
 returns c =
