@@ -1,4 +1,5 @@
 -- One turn of a loop over raw words.
+-- Collects, collects-..  the loop that collects the words kept
 -- drawn-filled         their residues are what is drawn
 -- Passed, passed-..  the loop that counts the words to read
 -- kept_gives, kept_read, all_read  where none of the words is thrown away
@@ -8,13 +9,15 @@ use mathlib.Core.Bool.{Bool, true, false, cond}
 use mathlib.Core.List.{List, [], ◌∷◌}
 use Prim.Native.Nat.{ℕ, zero, suc, ◌+◌, ◌-◌, ◌*◌, ◌/◌, ◌≤◌, ◌<◌}
 use native.Mathlib.Nat.{le_of_suc-le-suc, not-suc-le-zero}
+use native.Mathlib.Decide.{ℕ_discrete}
 use native.Mathlib.Numerals.{add-one}
 use native.Mathlib.Omega.{arith}
 use lib.Dec.{ltb}
-use lib.ListN.{length, get_or, take, drop, drop_of_length-le}
-use lib.Seq.{drop-cons, drop_at, length-take-le}
+use lib.ListN.{length, get_or, set, take, drop, length-drop, length-set, drop_of_length-le}
+use lib.Seq.{drop-cons, drop_at, length-take-le, get_or-set_same, get_or-set_other, drop-set-lt}
 use borrow.Author.Tests.{lt-ltb, le-ltb, ne_eqb, le-leb, lt-leb}
 use Rattle.protocol.specs.Drawing.{is_kept, residue_of, residues_of, drawn, words_read}
+use Rattle.algebra.specs.Count.{bit}
 use Rattle.algebra.specs.Matrix.{tabulate}
 use Rattle.algebra.specs.Words.{over}
 use Rattle.algebra.proofs.Lists.{length-tabulate}
@@ -34,6 +37,10 @@ thrown-word q w below e h = le-ltb w _ (rw e at h)
 pub kept_by : (q w below : ℕ) → below ≡ q * (4294967296 / q) → is_kept q w ≡ ltb w below
 unfolding is_kept
 kept_by q w below e = rw e
+
+pub bit-few : {n : ℕ} (b : Bool) → n ≡ bit b → n ≤ 1
+bit-few true e = omega arith
+bit-few false e = omega arith
 
 pub residues-few : (q : ℕ) (ws : List ℕ) → length (residues_of q ws) ≤ length ws
 unfolding residues_of
@@ -61,10 +68,84 @@ module _ (q : ℕ) (words : List ℕ) (i : ℕ) (inside : i < length words) wher
   unfolding words_read
   read-thrown n h k = rw (add-one, drop-cons words i 0, k, ne_eqb n 0 (λ e. omega arith))
 
+-- ---- collecting: of n kept words j stand at the start of what was d, from the first i words
+
+pub record Collects (q n : ℕ) (words d : List ℕ) (i j : ℕ) (out : List ℕ) : Type 0 where
+  pub few : j ≤ n
+  pub rest : residues_of q (drop i words) ≡ drop j (residues_of q words)
+  pub read : i + words_read q (n - j) (drop i words) ≡ words_read q n words
+  pub gives : (t : ℕ) → t < j → residue_at q out t ≡ get_or (residues_of q words) t 0
+  pub past : drop n out ≡ drop n d
+  pub same : length out ≡ length d
+
+-- what a list holds where it goes on with x
+next-at : (r : List ℕ) (j x : ℕ) (l : List ℕ) → drop j r ≡ x ∷ l → (get_or r j 0 ≡ x) × (drop (suc j) r ≡ l) × (j < length r)
+next-at [] zero x l e = absurd (let z : ◌≡◌ {A = ℕ} 0 1 = cc in omega arith)
+next-at [] (suc j) x l e = absurd (let z : ◌≡◌ {A = ℕ} 0 1 = cc in omega arith)
+next-at (y ∷ r) zero x l e = (cc, cc, omega arith)
+next-at (y ∷ r) (suc j) x l e = let o = next-at r j x l e in (o.0, o.1, omega (arith, o.2))
+
+pub collects-start : (q n : ℕ) (words d : List ℕ) → Collects q n words d 0 0 d
+collects-start q n words d =
+    let all : n - 0 ≡ n = omega arith in
+    record { few = omega arith; rest = refl; read = rw all (omega arith); gives = λ t h. absurd (omega arith); past = refl; same = refl }
+
+module _ (q n : ℕ) (words d : List ℕ) (i j : ℕ) {out : List ℕ} (s : Collects q n words d i j out) (enough : n ≤ length (residues_of q words)) (more : j < n) where
+  -- a word is left
+  pub collects-inside : i < length words
+  collects-inside =
+      omega (arith, ap length s.rest, length-drop j (residues_of q words), residues-few q (drop i words), length-drop i words)
+
+  -- the words before the one that is written
+  before : (w t : ℕ) → t < j → residue_at q (set out j w) t ≡ get_or (residues_of q words) t 0
+  unfolding residue_at
+  before w t h = rw (get_or-set_other out j t w 0 (λ e. omega arith)) (s.gives t h)
+
+  collects-kept : n ≤ length d → is_kept q (get_or words i 0) ≡ true → Collects q n words d (i + 1) (j + 1) (set out j (get_or words i 0))
+  unfolding residue_at
+  collects-kept fits k =
+      let w : ℕ = get_or words i 0 in
+      let at = next-at (residues_of q words) j _ _ (sym s.rest ∙ residues-kept q words i collects-inside k) in
+      let less : n - j - 1 ≡ n - (j + 1) = omega arith in
+      let read = read_kept q words i collects-inside (n - j) (omega arith) k in
+      let here : residue_of q (get_or (set out j w) j 0) ≡ get_or (residues_of q words) j 0 =
+      rw (get_or-set_same out j w 0 (omega (arith, s.same))) (sym at.0) in
+      record {
+        few = omega arith;
+        rest = rw (add-one j) (sym at.1);
+        read = omega (arith, s.read, rw less at read);
+        gives = λ t h. elim (ℕ_discrete t j) [ yes e ↦ rw e here | no d ↦ before w t (omega arith) ];
+        past = drop-set-lt n out j w more ∙ s.past;
+        same = simp length-set s.same;
+      }
+
+  collects-thrown : is_kept q (get_or words i 0) ≡ false → Collects q n words d (i + 1) j (set out j (get_or words i 0))
+  collects-thrown k = record {
+    few = s.few;
+    rest = sym (residues-thrown q words i collects-inside k) ∙ s.rest;
+    read = omega (arith, s.read, read-thrown q words i collects-inside (n - j) (omega arith) k);
+    gives = before (get_or words i 0);
+    past = drop-set-lt n out j (get_or words i 0) more ∙ s.past;
+    same = simp length-set s.same;
+  }
+
+  pub collects-next : n ≤ length d → (b : Bool) → is_kept q (get_or words i 0) ≡ b → Collects q n words d (i + 1) (j + bit b) (set out j (get_or words i 0))
+  collects-next fits true k = collects-kept fits k
+  collects-next fits false k = let z : j + 0 ≡ j = omega arith in rw z (collects-thrown k)
+
 pub read_none : (q : ℕ) (ws : List ℕ) → words_read q 0 ws ≡ 0
 unfolding words_read
 read_none q [] = refl
 read_none q (w ∷ ws) = refl
+
+module _ (q n : ℕ) (words d : List ℕ) (i j : ℕ) {out : List ℕ} (s : Collects q n words d i j out) (end : n ≤ j) where
+  pub collects-read : i ≡ words_read q n words
+  collects-read =
+      let none : n - j ≡ 0 = omega (arith, s.few) in
+      omega (arith, rw none at s.read, read_none q (drop i words))
+
+  pub collected : Collected q n words d out
+  collected = record { gives = λ t h. s.gives t (omega arith); past = s.past; same = s.same }
 
 -- ---- residues written over the first n words
 

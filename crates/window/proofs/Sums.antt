@@ -1,21 +1,28 @@
 -- The sum of a list, and words copied from bytes.
+--   sum-next        one element more
 --   same-sum        std's sum is that of the rules
 --   words_long, words-loaded   so many words of the bytes, where they were copied
 --   rest-long, window-words    the bytes from a window's first day on
 -- Assumes nothing.
 use mathlib.Core.Path.{◌≡◌, refl, sym, ap, ◌∙◌}
 use mathlib.Core.List.{List}
-use Prim.Native.Nat.{ℕ, ◌-◌, ◌*◌, ◌≤◌}
+use Prim.Native.Nat.{ℕ, suc, ◌+◌, ◌-◌, ◌*◌, ◌≤◌}
 use native.Mathlib.Omega.{arith}
-use lib.ListN.{length, take, drop, length-drop}
+use lib.ListN.{length, get_or, take, drop, length-drop}
 use lib.Seq.{take_all, length-take-le}
 use Rattle.algebra.specs.Words.{over}
 use Rattle.protocol.specs.Window.{window_days, sum}
+use Rattle.protocol.proofs.Window.{sum-last}
 use Rattle.std.specs.List.{sum as plain_sum}
 use Rattle.std.proofs.lemmas.List.Recursion.{is_sum_by}
 use Rattle.vectors.proofs.Written.{over-part}
 use Rattle.entry.specs.Bytes.{words_of}
 use Rattle.entry.proofs.Bytes.{words-length, words-drop}
+
+pub sum-next : (i : ℕ) (l : List ℕ) → sum (take (i + 1) l) ≡ sum (take i l) + get_or l i 0
+sum-next i l =
+    ap (λ (n : ℕ). sum (take n l)) (let e : i + 1 ≡ suc i = omega arith in e)
+    ∙ (sum-last 0 i l ∙ ap (λ (n : ℕ). sum (take i l) + get_or l n 0) (let e : 0 + i ≡ i = omega arith in e))
 
 pub same-sum : (l : List ℕ) → plain_sum l ≡ sum l
 unfolding sum
