@@ -40,7 +40,9 @@ fn is_settled(a: Answer) -> bool
     }
 }
 
-// What an end's step answers, over the record of its session.
+// What an end's step answers, over the record of its session. Not inlined: its copies of a record would stand in the frame below which
+// the step itself runs.
+#[inline(never)]
 fn kept<S: Kept>(d: Stepped<S>) -> Done
     ensures { result ≡ record { answer = d.answer; session = S.record_of d.session; head = d.head } }
 {
@@ -55,6 +57,7 @@ fn kept<S: Kept>(d: Stepped<S>) -> Done
 }
 
 // What a call answers that leaves the record as it was where it is not done.
+#[inline(never)]
 fn over(done: bool, d: Done, before: Session) -> Done
     ensures { result ≡ record { answer = d.answer; session = cond done d.session before; head = d.head } }
 {
