@@ -32,6 +32,7 @@ pub fn square_of(t: Terms, input: &[u32]) -> usize
     times(t.m, t.m).min(input.len())
 }
 
+#[inline(never)]
 fn left(
     pool: &mut [u32],
     at: Place,
@@ -55,6 +56,7 @@ fn left(
     }
 }
 
+#[inline(never)]
 fn right(pool: &mut [u32], at: Place, t: Terms, input: &[u32], out: &mut [u32]) -> Done
     ensures { leaving result.answer result.session result.head pool.new [] out.new []
         ≡ leaves (of_right no_right) (slot_in pool.old at) [] out.old []
@@ -63,6 +65,7 @@ fn right(pool: &mut [u32], at: Place, t: Terms, input: &[u32], out: &mut [u32]) 
     kept(right_first(pool, at, t, input, out))
 }
 
+#[inline(never)]
 fn blinder(
     pool: &mut [u32],
     at: Place,
@@ -94,6 +97,7 @@ fn blinder(
     kept(d)
 }
 
+#[inline(never)]
 fn solver(pool: &mut [u32], at: Place, t: Terms, input: &[u32], out: &mut [u32]) -> Done
     ensures { leaving result.answer result.session result.head pool.new [] out.new []
         ≡ leaves (of_solver no_solver) (slot_in pool.old at) [] out.old []

@@ -57,7 +57,6 @@ fn kept<S: Kept>(d: Stepped<S>) -> Done
 }
 
 // What a call answers that leaves the record as it was where it is not done.
-#[inline(never)]
 fn over(done: bool, d: Done, before: Session) -> Done
     ensures { result ≡ record { answer = d.answer; session = cond done d.session before; head = d.head } }
 {
