@@ -43,22 +43,25 @@ fn all_kept(q: u32, n: usize, words: &[u32]) -> bool
     all_below(below as u32, &words[..n])
 }
 
-// Word by word.
+// Word by word. Coins are secret: behind a word one branch tells whether it was the last one needed, and past the words none does.
 fn read_each(q: u32, n: usize, words: &[u32]) -> Option<usize>
     requires { 0 < q }
     ensures { result ≡ read_for q n words.now }
 {
     let below = limit(q);
     let mut due = n;
+    if due == 0 {
+        return Some(0);
+    }
     for (i, word) in words.iter().enumerate() {
-        if due == 0 {
-            return Some(i);
-        }
         if (*word as u64) < below {
             due -= 1;
         }
+        if due == 0 {
+            return Some(i + 1);
+        }
     }
-    if due == 0 { Some(words.len()) } else { None }
+    None
 }
 
 // How many words are read up to and with the last one kept; none, where too few are kept. No word past the last one needed is looked at.

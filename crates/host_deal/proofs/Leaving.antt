@@ -49,7 +49,7 @@ use Rattle.host_deal.proofs.Fits.{few-drawn, fit-judged}
 -- ---- the tests
 
 module _ (s : Sort) (t : Terms) (first second words size index : ℕ) where
-  fit_refused : {r : Refusal} → judged (part_tests s t first second words size index) ≡ refused r → is_fit s t first second words size index ≡ false
+  pub fit_refused : {r : Refusal} → judged (part_tests s t first second words size index) ≡ refused r → is_fit s t first second words size index ≡ false
   unfolding is_fit
   fit_refused {r} e = go (clear Size (part_tests s t first second words size index)) refl
     where
@@ -58,7 +58,7 @@ module _ (s : Sort) (t : Terms) (first second words size index : ℕ) where
       go false h = rw h (both-no (ltb 0 t.q))
       go true h = absurd (refused≢done (sym e ∙ (fit-judged s t first second words size index ∙ rw h refl)))
 
-  fit_passed : 0 < t.q → judged (part_tests s t first second words size index) ≡ done tt → is_fit s t first second words size index ≡ true
+  pub fit_passed : 0 < t.q → judged (part_tests s t first second words size index) ≡ done tt → is_fit s t first second words size index ≡ true
   unfolding is_fit both
   fit_passed q e = go (clear Size (part_tests s t first second words size index)) refl
     where

@@ -46,6 +46,19 @@ was_done (done a) = true
 pub record Told {S : Type 0} (is : Answer → Bool) (o : Outcome S) : Type 0 where
   pub tells : is (answer_after o) ≡ was_done o
 
+-- 10 is the number of a singular sum alone
+pub singular-number : (r : Refusal) → eqb (refusal_number r) 10 ≡ is_singular r
+singular-number Form = refl
+singular-number Modulus = refl
+singular-number Composite = refl
+singular-number Size = refl
+singular-number Turn = refl
+singular-number Mark = refl
+singular-number Stranger = refl
+singular-number Residue = refl
+singular-number Dry = refl
+singular-number Singular = refl
+
 -- as code sees it
 pub singular-equal : (r : Refusal) → eq-value.it r Singular ≡ is_singular r
 singular-equal Form = refl

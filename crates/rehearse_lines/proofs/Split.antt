@@ -1,10 +1,11 @@
 -- The lines of a run of bytes, by positions, and the numbers that were read of them.
---   first-found, first-whole, first_fits   a line by where its byte 10 stands
+--   first-found, first-whole               a line by where its byte 10 stands
+--   first_ends, first_goes, first-none, first_fits   a line byte by byte
 --   line-next, line-part   from a line to the next, and a line as a part of the bytes
 --   holds        the words that a line was read into
 --   said         what the definition says of the five lines
 -- Assumes nothing.
-use Prim.Native.Nat.{ℕ, suc, ◌+◌, ◌-◌, ◌*◌, ◌≤◌}
+use Prim.Native.Nat.{ℕ, suc, ◌+◌, ◌-◌, ◌*◌, ◌≤◌, ◌<◌}
 use mathlib.Core.Path.{◌≡◌, refl, sym, ap, ◌∙◌}
 use mathlib.Core.Bool.{Bool, true, false, cond}
 use mathlib.Core.List.{List, [], ◌∷◌}
@@ -13,9 +14,10 @@ use Rattle.std.specs.Prelude.{Option, Some, None}
 use Rattle.std.specs.List.{position, position_from}
 use Rattle.std.proofs.lemmas.Iterator.Adapters.{position_from-zero}
 use native.Mathlib.Omega.{arith}
+use native.Mathlib.Numerals.{add-one}
 use lib.Dec.{eqb}
-use lib.ListN.{length, take, drop, length-append, length-drop}
-use lib.Seq.{drop-drop, sets-eq, take_at, length-sets, take_all}
+use lib.ListN.{length, get_or, take, drop, length-append, length-drop, drop_of_length-le}
+use lib.Seq.{drop-cons, drop-drop, sets-eq, take_at, length-sets, take_all}
 use borrow.Author.Tests.{eq-eqb, ne_eqb, eqb-true, eqb-false, leb-true}
 use Rattle.algebra.specs.Count.{both}
 use Rattle.algebra.proofs.Tests.{and_right}
@@ -63,6 +65,21 @@ first-found l i e = omega (arith, found-from l 0 i (sym (position_from-zero ends
 
 pub first-whole : (l : List ℕ) → position ends l ≡ None → length (first_line l) ≡ length l
 first-whole l e = whole-from l 0 (sym (position_from-zero ends l) ∙ e)
+
+-- ---- a line, byte by byte
+
+module _ (s : List ℕ) (i : ℕ) where
+  pub first_ends : i < length s → get_or s i 0 ≡ 10 → length (first_line (drop i s)) ≡ 1
+  unfolding first_line
+  first_ends h e = rw (drop-cons s i 0 h, eq-eqb (get_or s i 0) 10 e)
+
+  pub first_goes : i < length s → (get_or s i 0 ≡ 10 → ⊥) → length (first_line (drop i s)) ≡ suc (length (first_line (drop (i + 1) s)))
+  unfolding first_line
+  first_goes h e = rw (drop-cons s i 0 h, ne_eqb (get_or s i 0) 10 e, add-one)
+
+  pub first-none : length s ≤ i → length (first_line (drop i s)) ≡ 0
+  unfolding first_line
+  first-none h = rw (drop_of_length-le s h)
 
 first_short : (l : List ℕ) → length (first_line l) ≤ length l
 unfolding first_line

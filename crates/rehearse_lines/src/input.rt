@@ -1,5 +1,5 @@
 // The five lines that a rehearsal reads: q,m,k,p,session,tape; X; Y; the dealer's words; left's words.
-ghost use Rattle.std.specs.Prelude.{◌≡◌, ◌+◌, ◌≤◌, ◌==◌, length, drop, position};
+ghost use Rattle.std.specs.Prelude.{◌≡◌, ◌+◌, ◌≤◌, length, drop};
 ghost use Rattle.protocol.specs.Line.{numbers_of};
 ghost use Rattle.protocol.specs.Rehearsal.{first_line, line_at, terms_from};
 ghost use Rattle.decimal.specs.Reading.{Tallied};
@@ -8,22 +8,19 @@ ghost use Rattle.rehearse_lines.specs.Says.{counts_of, Loaded, Says};
 use crate::Counts;
 use protocol::{SessionId, TapeId, Terms};
 
-// Where the first byte 10 stands.
-fn first_end(s: &[u8]) -> Option<usize>
-    ensures { result ≡ position (λ b. b == 10) s.now }
-{
-    s.iter().position(|b| *b == 10)
-}
-
 // The position behind the line that begins at a position.
 fn line_end(s: &[u8], at: usize) -> usize
     requires { at ≤ length s.now }
     ensures { result ≡ at + length (first_line (drop at s.now)) }
 {
-    match first_end(&s[at..]) {
-        Some(i) => at + i + 1,
-        None => s.len(),
+    for i in at..s.len() {
+        // Taken before the test, so that the compiled loop has one counter.
+        let end = i + 1;
+        if s[i] == 10 {
+            return end;
+        }
     }
+    s.len()
 }
 
 // Where line number n begins, from 0.

@@ -2,6 +2,8 @@
 ghost use Rattle.std.specs.Prelude.{◌≡◌};
 ghost use Rattle.sizes.specs.Words.{Told, told, refusal_word};
 
+use vectors::set_each;
+
 // The word of the refusal with this number; no text where none has it.
 #[tactic(auto, unfolding(crate::specs::Words::refusal_word, crate::specs::Words::word_in))]
 pub fn refusal_word(number: u32) -> &'static [u8]
@@ -31,6 +33,7 @@ pub fn put_text(text: &[u8], out: &mut [u8]) -> usize
     if out.len() < n {
         return 0;
     }
-    out[..n].copy_from_slice(text);
+    // Byte by byte, and no `copy_from_slice`: an archive for C is to need no memmove.
+    set_each(n, out, |j, _| text[j]);
     n
 }

@@ -2,6 +2,8 @@
 // The file stdout has what the second implementation printed.
 #![tactic(auto)]
 
+ghost use Rattle.std.specs.Prelude.{◌≤◌, length};
+
 use std::io::Read;
 use std::rt::Files;
 use std::{fs, io};
@@ -42,16 +44,32 @@ const FILES: [&str; 33] = [
     "longest_line",
 ];
 
-// A failed read counts as the end of the input.
-fn run(rt: &(impl Files + Alloc + Print + Eprint), name: &str) -> io::Result<()> {
-    let file = match fs::open(rt, name) {
+// Reads until the bytes are full, the input ends or a read fails. The answer is how many bytes came.
+fn read_full(input: &mut impl Read, bytes: &mut [u8]) -> usize
+    ensures { result ≤ length bytes.new }
+{
+    let mut n = 0;
+    while n < bytes.len() {
+        let got = input.read(&mut bytes[n..]).unwrap_or(0);
+        if got == 0 {
+            return n;
+        }
+        n += got;
+    }
+    n
+}
+
+// Into an array: on the heap a file could be cut short unseen where memory runs out.
+fn run(rt: &(impl Files + Print + Eprint), name: &str) -> io::Result<()> {
+    let mut file = match fs::open(rt, name) {
         Ok(file) => file,
         Err(e) => return eprintln!(rt; "{name}: {e}"),
     };
-    let mut input = Vec::new(rt.alloc());
-    let _ = file.take(327680).read_to_end(&mut input);
+    let mut bytes = [0u8; 327680];
+    let n = read_full(&mut file, &mut bytes);
+    drop(file);
     let mut out = [0u8; 81920];
-    let printed = rehearse::rehearse(&input, &mut out);
+    let printed = rehearse::rehearse(&bytes[..n], &mut out);
     println!(rt; "{name}")?;
     rt.write_all(&out[..printed])
 }

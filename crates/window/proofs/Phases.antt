@@ -1,5 +1,6 @@
 -- The tests of a window's numbers are made first, and then those of the days that are used: what either comes to.
---   Early                                    why the numbers may be first
+--   Early, words-early, bytes-early          why the numbers may be first
+--   known, taken, handed                     past a check of the numbers, whatever tests an entry has of its own
 --   words-known, words-taken, words-handed   past a check of the numbers: what is known, what is left to judge; a refusal
 --   bytes-known, bytes-taken, bytes-handed   the same on bytes
 --   days-refused, days-taken                 of the days that are used;  three-below: of three words
@@ -40,7 +41,7 @@ use Rattle.window.specs.Entries.{flags_fit_on, flags_tests_on}
 -- own: the tests of an entry by itself, none for a call on words
 module _ (own : List Test) (q run first w : ℕ) where
   -- none of the numbers' tests comes after one of the days, so that they may be made first
-  abbrev Early : Type 0
+  abbrev pub Early : Type 0
   Early = (used : List ℕ) → sorted (own ++ (window_tests q run first w ++ share_tests q used))
       ≡ sorted_phases ((own ++ window_tests q run first w) ∷ share_tests q used ∷ [])
 
@@ -52,11 +53,11 @@ module _ (own : List Test) (q run first w : ℕ) where
       by-verdict (own ++ (window_tests q run first w ++ days)) v
       ∙ ap (on_done (λ (u : Unit). v)) (judged-phases _ (numbers ∷ days ∷ []) (early used) ∙ ap (after (judged numbers)) (sym (after_last (judged days))))
 
-words-early : (q run first w : ℕ) → Early [] q run first w
+pub words-early : (q run first w : ℕ) → Early [] q run first w
 unfolding sorted sorted_by only window_tests share_tests
 words-early q run first w used = refl
 
-bytes-early : (n q run first w : ℕ) → Early (whole_tests n) q run first w
+pub bytes-early : (n q run first w : ℕ) → Early (whole_tests n) q run first w
 unfolding sorted sorted_by only window_tests share_tests whole_tests
 bytes-early n q run first w used = refl
 
@@ -94,20 +95,20 @@ module _ (own : List Test) {fits : Bool} (q run first w : ℕ) (early : Early ow
   unfolding window_tests
   checks e = e ∙ ap (λ (b : Bool). judged (own ++ (needs Modulus (within 2 largest_modulus q) ∷ needs Size b ∷ []))) is
 
-  known : done tt ≡ judged (own ++ (needs Modulus (within 2 largest_modulus q) ∷ needs Size fits ∷ [])) → Known q run first w
+  pub known : done tt ≡ judged (own ++ (needs Modulus (within 2 largest_modulus q) ∷ needs Size fits ∷ [])) → Known q run first w
   unfolding window_tests
   known e =
       let a = (all_split own (window_tests q run first w) (passed (own ++ window_tests q run first w) (sym (checks e))).0).1 in
       record { positive-q = positive a.0; small-q = small a.0; fits = fits-known q run first w a.1.0 }
 
   -- what is left to judge
-  taken : (used : List ℕ) (v : ℕ) → done tt ≡ judged (own ++ (needs Modulus (within 2 largest_modulus q) ∷ needs Size fits ∷ []))
+  pub taken : (used : List ℕ) (v : ℕ) → done tt ≡ judged (own ++ (needs Modulus (within 2 largest_modulus q) ∷ needs Size fits ∷ []))
       → judge (own ++ (window_tests q run first w ++ share_tests q used)) v ≡ judge (share_tests q used) v
   taken used v e =
       phases own q run first w early used v
       ∙ (ap (λ (j : Judged Unit). on_done (λ (u : Unit). v) (after j (judged (share_tests q used)))) (sym (checks e)) ∙ sym (by-verdict (share_tests q used) v))
 
-  handed : (used : List ℕ) (v : ℕ) {r : Refusal} → refused r ≡ judged (own ++ (needs Modulus (within 2 largest_modulus q) ∷ needs Size fits ∷ []))
+  pub handed : (used : List ℕ) (v : ℕ) {r : Refusal} → refused r ≡ judged (own ++ (needs Modulus (within 2 largest_modulus q) ∷ needs Size fits ∷ []))
       → judge (own ++ (window_tests q run first w ++ share_tests q used)) v ≡ refused r
   handed used v e =
       phases own q run first w early used v
@@ -132,7 +133,7 @@ module _ {fits : Bool} (q run first w : ℕ) (is : fits ≡ window_fits q run fi
   words-handed used v x gives e = tells x gives (handed [] q run first w (words-early q run first w) is used v e)
 
 -- a call on bytes, whose words the code counts by their length
-by-words : (q first w : ℕ) (bytes : List ℕ) → window_fits q (length bytes / 4) first w ≡ window_fits q (length (words_of bytes)) first w
+pub by-words : (q first w : ℕ) (bytes : List ℕ) → window_fits q (length bytes / 4) first w ≡ window_fits q (length (words_of bytes)) first w
 by-words q first w bytes = ap (λ (run : ℕ). window_fits q run first w) (sym (words-length bytes))
 
 module _ {fits : Bool} (q first w : ℕ) (bytes : List ℕ) (is : fits ≡ window_fits q (length bytes / 4) first w) where

@@ -1,23 +1,23 @@
 -- `rehearse_lines::input::line_end` meets its contract. Assumes nothing.
-use mathlib.Core.Path.{◌≡◌, sym, ap, ◌∙◌}
-use Prim.Native.Nat.{◌-◌}
+use mathlib.Core.Path.{refl}
 use native.Mathlib.Omega.{arith}
-use lib.ListN.{length, take, drop, length-drop}
-use lib.Seq.{take_all}
-use Rattle.std.specs.List.{position}
-use Rattle.rehearse_lines.proofs.Split.{ends, first-found, first-whole}
+use Rattle.rehearse_lines.proofs.Split.{first_ends, first_goes, first-none}
 use Rattle.rehearse_lines.proofs.input.line_end.Goals as goal
 
-pub returns-in-Some : goal.returns-in-Some
-returns-in-Some c =
-    let s = c.args.s.now in
-    let rest = drop c.args.at s in
-    let all : take (length s - c.args.at) rest ≡ rest = take_all _ rest (omega (arith, length-drop c.args.at s)) in
-    omega (arith, first-found rest c.in-Some.i (ap (position ends) (sym all) ∙ sym c.in-Some.ensures))
+pub loop-i-init : goal.loop-i-init
+loop-i-init c = refl
 
-pub returns-in-None : goal.returns-in-None
-returns-in-None c =
-    let s = c.args.s.now in
-    let rest = drop c.args.at s in
-    let all : take (length s - c.args.at) rest ≡ rest = take_all _ rest (omega (arith, length-drop c.args.at s)) in
-    omega (arith, first-whole rest (ap (position ends) (sym all) ∙ sym c.in-None.ensures), length-drop c.args.at s)
+pub returns-then-s-i-eq10 : goal.returns-then-s-i-eq10
+returns-then-s-i-eq10 c =
+    let i = c.loop-i.i in
+    omega (arith, first_ends c.args.s.now i c.loop-i-test.true c.if-s-i-eq10.true, c.loop-i.invariant)
+
+pub loop-i-preserved : goal.loop-i-preserved
+loop-i-preserved c =
+    let i = c.loop-i.i in
+    omega (arith, first_goes c.args.s.now i c.loop-i-test.true c.if-s-i-eq10.false, c.loop-i.invariant)
+
+pub returns : goal.returns
+returns c =
+    let i = c.loop-i.i in
+    omega (arith, first-none c.args.s.now i c.loop-i-test.false, c.loop-i.invariant)

@@ -1,0 +1,8 @@
+use Rattle.std.proofs.Common.{length, ◌≡◌, ◌-◌, ◌≤◌}
+use Rattle.test_rehearse.proofs.read_full.Given as goal
+
+abbrev pub invariant-loop-n : goal.invariant-loop-n
+invariant-loop-n g l = (l.n ≤ length l.bytes) × (length l.bytes ≡ length l.fn.bytes)
+
+abbrev pub decreases-loop-n : goal.decreases-loop-n
+decreases-loop-n g l = length l.bytes - l.n
