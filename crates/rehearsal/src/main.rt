@@ -11,7 +11,13 @@ use std::io::Read;
 fn ends(bytes: &[u8]) -> usize
     ensures { result ≤ length bytes.now }
 {
-    bytes.iter().filter(|b| **b == b'\n').count()
+    let mut n = 0;
+    for i in 0..bytes.len() {
+        if bytes[i] == b'\n' {
+            n += 1;
+        }
+    }
+    n
 }
 
 // Reads until the fifth line has ended, the input ends, or the bytes are full. The answer is how many bytes came; a failed read is the input's end.
