@@ -4,8 +4,10 @@ ghost use Rattle.algebra.specs.Words.{over};
 ghost use Rattle.algebra.specs.Product.{send_x, send_r};
 ghost use Rattle.protocol.specs.Judge.{done};
 ghost use Rattle.protocol.specs.Bounds.{input_tests, room_tests};
-ghost use Rattle.protocol.specs.Message.{message_in, message_size};
+ghost use Rattle.protocol.specs.Message.{due_tests, message_in, message_size, message_tests};
 ghost use Rattle.protocol.specs.Product.{left_effect, left_tests, left_step};
+ghost use Rattle.protocol.specs.Step.{first_tests};
+ghost use Rattle.protocol.specs.Tape.{left};
 ghost use Rattle.tape.specs.Placed.{slot_in};
 ghost use Rattle.judging.specs.InOrder.{checked, judged};
 ghost use Rattle.judging.specs.Leaves.{leaves, leaving, computed, computing, taken};
@@ -34,6 +36,26 @@ fn check_own(t: Terms, x: &[u32], room: usize, share: usize) -> Check
     worst(input, worst(sent, result))
 }
 
+// All tests but that of the coins. Not inlined, so that the step branches once on whether they passed: inlined, it made two branches, one of them
+// on X alone.
+#[inline(never)]
+fn check_before_coins(
+    pool: &[u32],
+    at: Place,
+    t: Terms,
+    x: &[u32],
+    a: Incoming,
+    room: usize,
+    share: usize,
+) -> Check
+    ensures { checked result ≡ judged ((message_tests (message_in a.entry) ++ (first_tests left t (slot_in pool.now at) ++ due_tests 1 t (message_in a.entry)))
+        ++ (input_tests t.q (t.m * t.k) x.now ++ (room_tests (message_size 2 t) room ++ room_tests (t.m * t.p) share))) }
+{
+    let first = check_first_received(End::Left, 1, t, a, pool, at);
+    let own = check_own(t, x, room, share);
+    worst(first, own)
+}
+
 pub fn check(
     pool: &[u32],
     at: Place,
@@ -46,9 +68,7 @@ pub fn check(
 ) -> Check
     ensures { checked result ≡ judged (left_tests t (slot_in pool.now at) x.now words.now (message_in a.entry) room share) }
 {
-    let first = check_first_received(End::Left, 1, t, a, pool, at);
-    let own = check_own(t, x, room, share);
-    worst(first, own)?;
+    check_before_coins(pool, at, t, x, a, room, share)?;
     check_coins(t.q, times(t.m, t.p), words)
 }
 
