@@ -11,22 +11,25 @@ ghost use Rattle.judging.specs.Leaves.{leaves, leaving, computed, computing};
 use crate::{RightAnswer, no_session};
 use judging::message::has_room;
 use judging::step::check_first;
-use judging::{Check, Stepped, check_input, need, worst};
+use judging::{Check, Stepped, need, worst};
 use protocol::{Head, Refusal, RightSession, Terms};
 use tape::change::take_up_at;
 use tape::half::matrix;
 use tape::{End, Place};
-use vectors::{subtract_residues, times};
+use vectors::{all_below, subtract_residues, times};
 
-// Y, and room for the message.
+// Y, whose words are looked at where their number fits, and room for the message.
 fn check_own(t: Terms, y: &[u32], room: usize) -> Check
     ensures { checked result ≡ judged (input_tests t.q (t.k * t.p) y.now ++ room_tests (message_size 1 t) room) }
 {
-    let input = check_input(t.q, times(t.k, t.p), y);
+    need(Refusal::Size, y.len() == times(t.k, t.p))?;
+    let below = need(Refusal::Residue, all_below(t.q, y));
     let sent = need(Refusal::Size, has_room(1, t, room));
-    worst(input, sent)
+    worst(below, sent)
 }
 
+// Not inlined, so that the step branches once on whether all tests passed, and not once on the half's and once on Y's.
+#[inline(never)]
 pub fn check(pool: &[u32], at: Place, t: Terms, y: &[u32], room: usize) -> Check
     ensures { checked result ≡ judged (right_first_tests t (slot_in pool.now at) y.now room) }
 {

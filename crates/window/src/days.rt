@@ -29,7 +29,7 @@ pub fn add_days(q: u32, days: &[u32]) -> Result<u32, Refusal>
     Ok((total(days) % u64::from(q)) as u32)
 }
 
-// Whether all three words are residues: the largest is compared alone. Of a flag gathered of three, the compiler made a branch for each.
+// Whether all three words are residues: the largest is compared alone. Where a flag was gathered of all three, the compiler made a branch for each.
 fn three_below(q: u32, share: u32, new: u32, oldest: u32) -> bool
     ensures { result ≡ all_below q (share ∷ new ∷ oldest ∷ []) }
 {

@@ -1,4 +1,4 @@
--- `window::days::three_below` meets its contract: the largest is below q where each is. Assumes nothing.
+-- `window::days::three_below` meets its contract: the largest is below q exactly where each is. Assumes nothing.
 use mathlib.Core.Path.{◌≡◌, refl, ap, ◌∙◌}
 use mathlib.Core.Bool.{Bool, true, false}
 use Prim.Native.Nat.{ℕ, max}
