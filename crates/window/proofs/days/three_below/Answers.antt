@@ -1,6 +1,6 @@
 -- `window::days::three_below` meets its contract: the largest is below q exactly where each is. Assumes nothing.
 use mathlib.Core.Path.{◌≡◌, refl, ap, ◌∙◌}
-use mathlib.Core.Bool.{Bool, true, false}
+use mathlib.Core.Bool.{Bool}
 use Prim.Native.Nat.{ℕ, max}
 use native.Mathlib.Omega.{arith}
 use native.Mathlib.Decide.{dec_lt}
@@ -8,6 +8,7 @@ use borrow.Author.Tests.{lt-ltb, le-ltb}
 use lib.Dec.{ltb}
 use Rattle.algebra.specs.Count.{both}
 use Rattle.protocol.specs.Bounds.{all_below}
+use Rattle.protocol.proofs.CompletionLaws.{both_true, both-assoc}
 use Rattle.window.proofs.days.three_below.Goals as goal
 
 larger : (a b q : ℕ) → ltb (max a b) q ≡ both (ltb a q) (ltb b q)
@@ -21,13 +22,6 @@ larger a b q =
       ]
     ]
 
-regrouped : (x y z : Bool) → both (both x y) z ≡ both x (both y (both z true))
-unfolding both
-regrouped true true true = refl
-regrouped true true false = refl
-regrouped true false z = refl
-regrouped false y z = refl
-
 pub returns : goal.returns
 unfolding all_below
 returns c =
@@ -35,4 +29,4 @@ returns c =
     ap (λ (l : ℕ). ltb l a.q) (c.max-2.ensures ∙ ap (λ (l : ℕ). max l a.oldest) c.max.ensures)
     ∙ larger (max a.share a.new) a.oldest a.q
     ∙ ap (λ (b : Bool). both b (ltb a.oldest a.q)) (larger a.share a.new a.q)
-    ∙ regrouped (ltb a.share a.q) (ltb a.new a.q) (ltb a.oldest a.q)
+    ∙ simp (both_true, both-assoc)
